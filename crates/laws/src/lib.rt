@@ -1,0 +1,1 @@
+// Mathematics alone: the laws stand in specs/, and there is no code.
