@@ -1,7 +1,7 @@
 -- A statement on ℤ as one on ℕ, for omega. An expression E x of x has two parts in ℕ that compute by its form, and their difference is x.
 use mathlib.Core.Path.{_≡_, refl, sym, ap, _∙_}
 use mathlib.Core.Bool.{Bool, true, false, not}
-use Prim.Native.Nat.{ℕ, zero, suc, _+_, _*_, _≤_, _<_}
+use Prim.Native.Nat.{ℕ, zero, suc, pred, _+_, _*_, _≤_, _<_}
 use native.Mathlib.Omega.{arith}
 use lib.IntN.{ℤ, pos, negsuc, negℤ, natAbs, _+ℤ_, _-ℤ_, _*ℤ_}
 use lib.Signed.{_≤ℤ_, _<ℤ_}
@@ -72,3 +72,12 @@ module _ (x : ℤ) {k : ℕ} (a : E x) where
 
   pub of-abs : natAbs x ≤ k → (part true a ≤ part false a + k) × (part false a ≤ part true a + k)
   of-abs h = omega (arith, parts a, abs-parts x)
+
+  pub by-abs-lt : (part true a < part false a + k) × (part false a < part true a + k) → natAbs x < k
+  by-abs-lt h = below (abs-bounds x (pred k) (omega (arith, parts a)) (omega (arith, parts a)))
+    where
+      below : natAbs x ≤ pred k → natAbs x < k
+      below g = omega (arith, parts a)
+
+  pub of-abs-lt : natAbs x < k → (part true a < part false a + k) × (part false a < part true a + k)
+  of-abs-lt h = omega (arith, parts a, abs-parts x)

@@ -1,0 +1,3 @@
+pub mod Cut
+pub mod BitLength
+pub mod ScaleCount

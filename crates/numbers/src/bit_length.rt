@@ -1,0 +1,27 @@
+ghost use mathlib.Core.Path.{_≡_};
+ghost use lib.IntN.{natAbs};
+ghost use Rattle.numbers.specs.BitLength.{bitLength};
+
+// The bit length of a whole number without a sign.
+pub fn bit_length(n: u64) -> u32
+    ensures { λ r. ⌜ r ≡ bitLength n ⌝ }
+{
+    64 - u64::leading_zeros(n)
+}
+
+// |z|, also of −2^63.
+pub fn magnitude(z: i64) -> u64
+    ensures { λ r. ⌜ r ≡ natAbs z ⌝ }
+{
+    if z >= 0 {
+        z as u64
+    } else {
+        ((0 - (z + 1)) as u64) + 1
+    }
+}
+
+pub fn signed_bit_length(z: i64) -> u32
+    ensures { λ r. ⌜ r ≡ bitLength (natAbs z) ⌝ }
+{
+    bit_length(magnitude(z))
+}

@@ -1,0 +1,43 @@
+ghost use mathlib.Core.Path.{_≡_};
+ghost use Prim.Native.Nat.{_*_, _-_, _^_, _<_, _≤_};
+ghost use lib.IntN.{pos, natAbs};
+ghost use Rattle.numbers.specs.Cut.{cut, raise, rescale};
+
+// 2^k − 1.
+fn ones(k: u32) -> i64
+    requires { ⌜ k < 64 ⌝ }
+    ensures { λ r. ⌜ r ≡ pos (2 ^ k - 1) ⌝ }
+{
+    ((1u64 << k) - 1) as i64
+}
+
+// T(z / 2^k) for a k that a shift takes.
+fn cut_near(z: i64, k: u32, low: i64) -> i64
+    requires { ⌜ (k < 64) × (low ≡ pos (2 ^ k - 1)) ⌝ }
+    ensures { λ r. ⌜ r ≡ cut z k ⌝ }
+{
+    if z >= 0 {
+        z >> k
+    } else {
+        (z + low) >> k
+    }
+}
+
+// T(z / 2^k). Every number of 64 bits is below 2^64, so from there on nothing is left.
+pub fn cut(z: i64, k: u32) -> i64
+    ensures { λ r. ⌜ r ≡ cut z k ⌝ }
+{
+    if k < 64 {
+        cut_near(z, k, ones(k))
+    } else {
+        0
+    }
+}
+
+// z·2^k.
+pub fn raise(z: i64, k: u32) -> i64
+    requires { ⌜ (k < 63) × (natAbs z * 2 ^ k < 2 ^ 63) ⌝ }
+    ensures { λ r. ⌜ r ≡ raise z k ⌝ }
+{
+    z * (1i64 << k)
+}
