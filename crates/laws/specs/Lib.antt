@@ -1,6 +1,10 @@
 pub mod Parts
 pub mod Integers
 pub mod Linear
+pub mod Polynomials
+pub mod Ring
 pub mod Powers
 pub mod Lists
+pub mod Tables
 pub mod Sums
+pub mod Machine

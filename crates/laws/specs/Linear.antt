@@ -31,13 +31,13 @@ pub parts : {x : ℤ} (e : E x) → up x + part false e ≡ down x + part true e
 parts (sum {x = x} {y = y} a b) = omega (arith, parts a, parts b, add-parts x y)
 parts (diff {x = x} {y = y} a b) = omega (arith, parts a, parts b, sub-parts-of x y)
 parts (prod {x = x} {y = y} a b) = omega (
-      arith,
-      mul-parts x y,
-      ap (λ (n : ℕ). n * up y) (parts a),
-      ap (λ (n : ℕ). n * down y) (parts a),
-      ap (λ (n : ℕ). part true a * n) (parts b),
-      ap (λ (n : ℕ). part false a * n) (parts b),
-    )
+  arith,
+  mul-parts x y,
+  ap (λ (n : ℕ). n * up y) (parts a),
+  ap (λ (n : ℕ). n * down y) (parts a),
+  ap (λ (n : ℕ). part true a * n) (parts b),
+  ap (λ (n : ℕ). part false a * n) (parts b),
+)
 parts (neg {x = x} a) = omega (arith, parts a, up-neg x, down-neg x)
 parts (nat n) = omega (arith, up-pos n, down-pos n)
 parts (atom z) = omega arith

@@ -48,7 +48,7 @@ one-part (negsuc n) = omega arith
 
 -- ---- sums and products
 
-choose : (c : Bool) (x y : ℤ) (P : ℤ → Type 0) → (T c → P x) → (T (not c) → P y) → P (cond c x y)
+pub choose : (c : Bool) (x y : ℤ) (P : ℤ → Type 0) → (T c → P x) → (T (not c) → P y) → P (cond c x y)
 choose true x y P f g = f tt
 choose false x y P f g = g tt
 
@@ -60,6 +60,7 @@ sub-parts a b =
   where
     below : a < b → 0 + b ≡ suc (b - suc a) + a
     below h = omega arith
+
     above : b ≤ a → (a - b) + b ≡ 0 + a
     above h = omega arith
 

@@ -16,7 +16,7 @@ pub fn magnitude(z: i64) -> u64
     if z >= 0 {
         z as u64
     } else {
-        ((0 - (z + 1)) as u64) + 1
+        ((-1 - z) as u64) + 1
     }
 }
 

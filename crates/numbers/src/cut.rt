@@ -16,22 +16,14 @@ fn cut_near(z: i64, k: u32, low: i64) -> i64
     requires { ⌜ (k < 64) × (low ≡ pos (2 ^ k - 1)) ⌝ }
     ensures { λ r. ⌜ r ≡ cut z k ⌝ }
 {
-    if z >= 0 {
-        z >> k
-    } else {
-        (z + low) >> k
-    }
+    if z >= 0 { z >> k } else { (z + low) >> k }
 }
 
 // T(z / 2^k). Every number of 64 bits is below 2^64, so from there on nothing is left.
 pub fn cut(z: i64, k: u32) -> i64
     ensures { λ r. ⌜ r ≡ cut z k ⌝ }
 {
-    if k < 64 {
-        cut_near(z, k, ones(k))
-    } else {
-        0
-    }
+    if k < 64 { cut_near(z, k, ones(k)) } else { 0 }
 }
 
 // z·2^k.

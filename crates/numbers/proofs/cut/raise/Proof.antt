@@ -1,24 +1,31 @@
+-- The product with a shifted one.
+use mathlib.Core.Path.{_≡_, ap, sym, _∙_}
+use Prim.Native.Nat.{ℕ, _*_, _^_, _<_}
+use lib.IntN.{ℤ, pos, natAbs, _*ℤ_}
+use mir.Syntax.{w64}
+use mir.Val.{SFits}
+use mir.Facts.{toZ-ofZ}
+use native.Mathlib.Omega.{arith}
 use borrow.Author.Needs.{needs}
+use Rattle.laws.specs.Integers.{abs-mul}
+use Rattle.laws.specs.Machine.{fits-abs, signed-one-shifted}
 use Rattle.numbers.proofs.cut.raise.Statement.{statement}
 use Rattle.numbers.proofs.cut.raise.Tie as tie
-use Rattle.numbers.proofs.cut.raise.Reads as reads
-use Rattle.numbers.proofs.cut.raise.Lts as lts
 
--- src/cut.rt:42:18
 cast-result : tie.Need-cast-result
 cast-result c = search needs
 
--- src/cut.rt:42:10
 shl-result : tie.Need-shl-result
 shl-result c = search needs
 
--- src/cut.rt:42:5
-mul-result : tie.Need-mul-result
-mul-result c = ?
+product : (c : tie.Start) → SFits w64 (c .args .z *ℤ pos (2 ^ c .args .k))
+product c = fits-abs (c .args .z *ℤ pos (2 ^ c .args .k)) (rw abs-mul (c .pre .1))
 
--- src/cut.rt:38:1
+mul-result : tie.Need-mul-result
+mul-result c = simp (toZ-ofZ (c .fits .z), signed-one-shifted w64 (c .args .k) (c .pre .0)) (product c)
+
 returns : tie.Need-returns
-returns c = ?
+returns c = simp (toZ-ofZ (c .fits .z), signed-one-shifted w64 (c .args .k) (c .pre .0), toZ-ofZ (product c))
 
 pub raise-spec : {M : Type 1} → statement M
 raise-spec = tie.close (tie.spec cast-result shl-result mul-result returns)

@@ -1,0 +1,86 @@
+-- Whole numbers in machine registers: ranges as bounds on magnitudes, tests as orders, a one that is shifted.
+use mathlib.Core.Path.{_≡_, refl, sym, ap, _∙_, subst}
+use mathlib.Core.Bool.{Bool, true, false, not}
+use Prim.Native.Nat.{ℕ, zero, suc, _+_, _*_, _-_, _%_, _^_, _≤_, _<_}
+use native.Mathlib.Omega.{arith}
+use native.Mathlib.Nat.{one-mul, mod-eq-of-lt, lt-of-le-of-lt, lt-trans}
+use lib.Dec.{T, ltb, ltb→lt, lt→ltb, nleb→lt, lit<}
+use borrow.Author.Tests.{le-ltb}
+use lib.Pow.{pow-lt}
+use lib.IntN.{ℤ, pos, negsuc, natAbs, _+ℤ_, _-ℤ_, subℕ}
+use lib.Signed.{mag, shrZ, mag-shr, leZ, ltZ, _≤ℤ_, _<ℤ_, leZ-yes, ltZ-yes, ltZ-no, natAbs-le}
+use mir.Syntax.{Width, w8, w16, w32, w64, w128}
+use mir.Val.{SFits, Fits, bits, hbits, toZ, ofZ}
+use mir.Facts.{toZ-pos}
+use Rattle.laws.specs.Parts.{choose}
+
+-- ---- ranges
+
+mag-le : (z : ℤ) → mag z ≤ natAbs z
+mag-le (pos n) = omega arith
+mag-le (negsuc n) = omega arith
+
+pub fits-abs : {w : Width} (z : ℤ) → natAbs z < 2 ^ hbits w → SFits w z
+fits-abs z h = record { sfits = lt-of-le-of-lt (mag-le z) h }
+
+pub abs-fits : {w : Width} {z : ℤ} → SFits w z → natAbs z ≤ 2 ^ hbits w
+abs-fits {z = z} h = natAbs-le z (h .sfits)
+
+-- a shift that rounds down stays within the range
+pub fits-shr : {w : Width} (z : ℤ) (m : ℕ) → SFits w z → SFits w (shrZ z m)
+fits-shr z m h = record { sfits = lt-of-le-of-lt (mag-shr z m) (h .sfits) }
+
+opposite : (m n h : ℕ) → m < h → n < h → mag (subℕ n (suc m)) < h
+opposite m n h f g =
+    choose (ltb n (suc m)) (negsuc (suc m - suc n)) (pos (n - suc m)) (λ z. mag z < h) (λ t. below) (λ t. above)
+  where
+    below : suc m - suc n < h
+    below = omega arith
+
+    above : n - suc m < h
+    above = omega arith
+
+-- a negative number and a whole one have a sum within the range of both
+pub fits-opposite : {w : Width} (z : ℤ) (n : ℕ) → z <ℤ pos 0 → SFits w z → n < 2 ^ hbits w → SFits w (z +ℤ pos n)
+fits-opposite (pos m) n h f g = absurd (omega (arith, ltb→lt m 0 (h .lt)))
+fits-opposite (negsuc m) n h f g = record { sfits = opposite m n _ (f .sfits) g }
+
+-- −1 − z of a negative z, which no range excludes, and its distance to |z|
+pub complement : (z : ℤ) → z <ℤ pos 0 → (negsuc 0 -ℤ z ≡ pos (mag z)) × (mag z + 1 ≡ natAbs z)
+complement (pos n) h = absurd (omega (arith, ltb→lt n 0 (h .lt)))
+complement (negsuc n) h = (simp (le-ltb (suc n) 1 (omega arith)) (ap pos (omega arith)), omega arith)
+
+-- ---- a one that is shifted
+
+pub one-shifted : (w : Width) (k : ℕ) → k < bits w → 1 * 2 ^ k % 2 ^ bits w ≡ 2 ^ k
+one-shifted w k h = ap (λ (n : ℕ). n % 2 ^ bits w) (one-mul (2 ^ k)) ∙ mod-eq-of-lt (pow-lt h)
+
+below-width : (w : Width) → hbits w < bits w
+below-width w8 = lit< tt
+below-width w16 = lit< tt
+below-width w32 = lit< tt
+below-width w64 = lit< tt
+below-width w128 = lit< tt
+
+pub signed-one-shifted : (w : Width) (k : ℕ) → k < hbits w → toZ w (1 * 2 ^ k % 2 ^ bits w) ≡ pos (2 ^ k)
+signed-one-shifted w k h = ap (toZ w) (one-shifted w k (lt-trans h (below-width w))) ∙ toZ-pos w (pow-lt h)
+
+-- ---- tests
+
+pub le-tested : {a b : ℤ} → leZ a b ≡ true → a ≤ℤ b
+le-tested e = leZ-yes (subst T (sym e) tt)
+
+pub lt-tested : {a b : ℤ} → ltZ a b ≡ true → a <ℤ b
+lt-tested e = ltZ-yes (subst T (sym e) tt)
+
+pub lt-refuted : {a b : ℤ} → ltZ a b ≡ false → b ≤ℤ a
+lt-refuted e = ltZ-no (subst (λ t. T (not t)) (sym e) tt)
+
+pub le-refuted : {a b : ℤ} → leZ a b ≡ false → b <ℤ a
+le-refuted {a} {b} e = ltZ-yes (below a b (subst (λ t. T (not t)) (sym e) tt))
+  where
+    below : (a b : ℤ) → T (not (leZ a b)) → T (ltZ b a)
+    below (pos a) (pos b) t = lt→ltb b a (nleb→lt a b t)
+    below (pos a) (negsuc b) t = tt
+    below (negsuc a) (pos b) t = t
+    below (negsuc a) (negsuc b) t = lt→ltb a b (nleb→lt b a t)

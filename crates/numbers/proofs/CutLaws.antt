@@ -1,0 +1,117 @@
+-- Laws of the cut T(z / 2^k), for every z and k.
+use mathlib.Core.Path.{_≡_, refl, sym, ap, _∙_, subst}
+use Prim.Native.Nat.{ℕ, zero, suc, _+_, _*_, _-_, _/_, _%_, _^_, _≤_, _<_}
+use native.Mathlib.Omega.{arith}
+use native.Mathlib.Nat.{zero-div, div-one, div-le-self, div-add-mod', mod-lt, mul-div-mul-right, div-eq-of-lt, div-eq-sub-div, div-lt-iff-lt-mul, mul-div-cancel}
+use lib.Pow.{pow-pos, pow-add, shr-shr}
+use lib.Dec.{ltb→lt}
+use borrow.Author.Tests.{lt-ltb, le-ltb}
+use native.Mathlib.Decide.{decLe}
+use native.Mathlib.Numerals.{add-one}
+use lib.Signed.{shrZ, _≤ℤ_, _<ℤ_}
+use lib.IntN.{ℤ, pos, negsuc, negℤ, natAbs, subℕ, _+ℤ_, _-ℤ_, _*ℤ_, negℤ-negℤ, negℤ-+ℤ}
+use Rattle.laws.specs.Integers.{neg-*ℤ, abs-neg}
+use Rattle.laws.specs.Linear.{by-abs-lt, diff, nat}
+use Rattle.laws.specs.Powers.{split}
+use Rattle.numbers.specs.Cut.{cut, raise, rescale}
+
+-- what holds of a natural number, and with a number of its negative, holds of every number
+by-sign : (P : ℤ → Type 0) → ((n : ℕ) → P (pos n)) → ((z : ℤ) → P z → P (negℤ z)) → (z : ℤ) → P z
+by-sign P f g (pos n) = f n
+by-sign P f g (negsuc n) = g (pos (suc n)) (f (suc n))
+
+pub cut-zero : (k : ℕ) → cut (pos 0) k ≡ pos 0
+unfolding cut
+cut-zero k = ap pos (zero-div (2 ^ k))
+
+pub cut-neg : (z : ℤ) (k : ℕ) → cut (negℤ z) k ≡ negℤ (cut z k)
+unfolding cut
+cut-neg (pos zero) k = rw zero-div
+cut-neg (pos (suc n)) k = refl
+cut-neg (negsuc n) k = sym (negℤ-negℤ (pos (suc n / 2 ^ k)))
+
+pub cut-abs : (z : ℤ) (k : ℕ) → natAbs (cut z k) ≡ natAbs z / 2 ^ k
+unfolding cut
+cut-abs (pos n) k = refl
+cut-abs (negsuc n) k = abs-neg (pos (suc n / 2 ^ k))
+
+pub cut-none : (z : ℤ) → cut z 0 ≡ z
+unfolding cut
+cut-none (pos n) = ap pos (div-one n)
+cut-none (negsuc n) = ap (λ (m : ℕ). negℤ (pos m)) (div-one (suc n))
+
+-- a cut never grows a magnitude
+pub cut-le : (z : ℤ) (k : ℕ) → natAbs (cut z k) ≤ natAbs z
+cut-le z k = omega (arith, cut-abs z k, div-le-self (natAbs z) (2 ^ k))
+
+pub cut-lt : (z : ℤ) (c j k : ℕ) → c ≡ j + k → natAbs z < 2 ^ c → natAbs (cut z k) < 2 ^ j
+cut-lt z c j k e h = rw (cut-abs) (div-lt-iff-lt-mul (pow-pos k) .1 (omega (arith, split c j k e)))
+
+pub cut-all : (z : ℤ) (k : ℕ) → natAbs z < 2 ^ k → cut z k ≡ pos 0
+unfolding cut
+cut-all (pos n) k h = ap pos (div-eq-of-lt h)
+cut-all (negsuc n) k h = ap (λ (m : ℕ). negℤ (pos m)) (div-eq-of-lt h)
+
+-- what is cut off is less than one unit
+pub cut-error : (z : ℤ) (k : ℕ) → natAbs (z -ℤ raise (cut z k) k) < 2 ^ k
+unfolding cut
+cut-error z k = by-sign (λ z. natAbs (z -ℤ raise (cut z k) k) < 2 ^ k) whole negative z
+  where
+    whole : (n : ℕ) → natAbs (pos n -ℤ pos (n / 2 ^ k * 2 ^ k)) < 2 ^ k
+    whole n = by-abs-lt (pos n -ℤ pos (n / 2 ^ k * 2 ^ k)) (diff (nat n) (nat (n / 2 ^ k * 2 ^ k))) (omega (arith, div-add-mod' n (2 ^ k), mod-lt n (pow-pos k)))
+
+    turned : (z : ℤ) → negℤ z -ℤ raise (cut (negℤ z) k) k ≡ negℤ (z -ℤ raise (cut z k) k)
+    turned z =
+        ap (λ (c : ℤ). negℤ z -ℤ raise c k) (cut-neg z k) ∙ ap (λ (c : ℤ). negℤ z -ℤ c) (neg-*ℤ (cut z k) (pos (2 ^ k)))
+        ∙ sym (negℤ-+ℤ z (negℤ (raise (cut z k) k)))
+
+    negative : (z : ℤ) → natAbs (z -ℤ raise (cut z k) k) < 2 ^ k → natAbs (negℤ z -ℤ raise (cut (negℤ z) k) k) < 2 ^ k
+    negative z h = subst (λ (m : ℕ). m < 2 ^ k) (sym (ap natAbs (turned z) ∙ abs-neg (z -ℤ raise (cut z k) k))) h
+
+pub cut-cut : (z : ℤ) (i j : ℕ) → cut (cut z i) j ≡ cut z (i + j)
+unfolding cut
+cut-cut z i j = by-sign (λ z. cut (cut z i) j ≡ cut z (i + j)) (λ n. ap pos (shr-shr n i j)) negative z
+  where
+    negative : (z : ℤ) → cut (cut z i) j ≡ cut z (i + j) → cut (cut (negℤ z) i) j ≡ cut (negℤ z) (i + j)
+    negative z h = ap (λ (c : ℤ). cut c j) (cut-neg z i) ∙ cut-neg (cut z i) j ∙ ap negℤ h ∙ sym (cut-neg z (i + j))
+
+-- ---- a number raised and then cut
+
+raise-neg : (z : ℤ) (j k : ℕ) → cut (raise (negℤ z) j) k ≡ negℤ (cut (raise z j) k)
+raise-neg z j k = ap (λ (c : ℤ). cut c k) (neg-*ℤ z (pos (2 ^ j))) ∙ cut-neg (raise z j) k
+
+pub rescale-down : (z : ℤ) (i j k : ℕ) → j ≡ i + k → rescale z i j ≡ cut z k
+unfolding cut
+rescale-down z i j k e = by-sign (λ z. rescale z i j ≡ cut z k) whole (λ z h. raise-neg z i j ∙ ap negℤ h ∙ sym (cut-neg z k)) z
+  where
+    whole : (n : ℕ) → pos (n * 2 ^ i / 2 ^ j) ≡ pos (n / 2 ^ k)
+    whole n = ap pos (ap (λ (m : ℕ). n * 2 ^ i / m) (omega (arith, split j i k e)) ∙ mul-div-mul-right n (2 ^ k) (pow-pos i))
+
+pub rescale-up : (z : ℤ) (i j k : ℕ) → i ≡ j + k → rescale z i j ≡ raise z k
+unfolding cut
+rescale-up z i j k e = by-sign (λ z. rescale z i j ≡ raise z k) whole (λ z h. raise-neg z i j ∙ ap negℤ h ∙ sym (neg-*ℤ z (pos (2 ^ k)))) z
+  where
+    whole : (n : ℕ) → pos (n * 2 ^ i / 2 ^ j) ≡ pos (n * 2 ^ k)
+    whole n = ap pos (ap (λ (m : ℕ). m / 2 ^ j) (omega (arith, ap (λ (m : ℕ). n * m) (split i j k e))) ∙ mul-div-cancel (n * 2 ^ k) (pow-pos j))
+
+-- ---- by shifts that round down
+
+pub shift-whole : (z : ℤ) (k : ℕ) → pos 0 ≤ℤ z → shrZ z (2 ^ k) ≡ cut z k
+unfolding cut
+shift-whole (pos n) k h = refl
+shift-whole (negsuc n) k h = absurd (h .le)
+
+-- a negative number is first raised by one less than a unit
+pub shift-negative : (z : ℤ) (k : ℕ) → z <ℤ pos 0 → shrZ (z +ℤ pos (2 ^ k - 1)) (2 ^ k) ≡ cut z k
+unfolding cut
+shift-negative (pos n) k h = absurd (omega (arith, ltb→lt n 0 (h .lt)))
+shift-negative (negsuc n) k h = go (2 ^ k) (pow-pos k) (decLe (2 ^ k) (suc n))
+  where
+    go : (u : ℕ) → 1 ≤ u → Dec (u ≤ suc n) → shrZ (subℕ (u - 1) (suc n)) u ≡ negℤ (pos (suc n / u))
+    go u p (yes f) =
+        simp (lt-ltb (u - 1) (suc n) (omega arith)) (
+        ap (λ (m : ℕ). negsuc (m / u)) (omega arith)
+        ∙ ap (λ (m : ℕ). negℤ (pos m)) (sym (add-one ((suc n - u) / u)) ∙ sym (div-eq-sub-div p f)))
+    go u p (no f) =
+        simp (le-ltb (u - 1) (suc n) (omega arith)) (
+        ap pos (div-eq-of-lt {n = u - 1 - suc n} {m = u} (omega arith)) ∙ ap (λ (m : ℕ). negℤ (pos m)) (sym (div-eq-of-lt {n = suc n} {m = u} (omega arith))))

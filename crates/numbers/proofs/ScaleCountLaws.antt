@@ -1,0 +1,86 @@
+-- Laws of the scale count: the rule, and what it says of 2^S.
+use mathlib.Core.Path.{_≡_, refl, sym, ap, _∙_, subst}
+use mathlib.Core.Bool.{Bool, true, false, cond, _&&_}
+use mathlib.Core.List.{List}
+use Prim.Native.Nat.{ℕ, zero, suc, _+_, _*_, _-_, _^_, _≤_, _<_}
+use native.Mathlib.Omega.{arith}
+use native.Mathlib.Nat.{le-antisymm, le-of-lt, lt-of-not-le, not-suc-le-self}
+use native.Mathlib.Decide.{decLe}
+use lib.Dec.{T, leb, ltb}
+use lib.ListN.{length, getD}
+use lib.Arith.{lt-of-le-ne}
+use borrow.Author.Tests.{le-leb, leb-true, ltb-true}
+use Rattle.laws.specs.Lists.{and-left, and-right}
+use Rattle.laws.specs.Tables.{tested, tested-at}
+use Rattle.laws.specs.Powers.{above, double, rises, exponent-lt}
+use Rattle.numbers.specs.ScaleCount.{first, scaleCount}
+
+-- ---- the first that passes a test
+
+true-ne-false : true ≡ false → ⊥
+true-ne-false e = subst T e tt
+
+first-within : (test : ℕ → Bool) (d s : ℕ) → first test d s ≤ s + d
+unfolding first
+first-within test zero s = omega arith
+first-within test (suc d) s = go (test s) (first-within test d (suc s))
+  where
+    go : (b : Bool) → first test d (suc s) ≤ suc s + d → cond b s (first test d (suc s)) ≤ s + suc d
+    go true h = omega arith
+    go false h = omega arith
+
+first-passes : (test : ℕ → Bool) (d s t : ℕ) → s ≤ t → t ≤ s + d → test t ≡ true → (test (first test d s) ≡ true) × (first test d s ≤ t)
+unfolding first
+first-passes test zero s t h k e = (ap test (le-antisymm h (omega arith)) ∙ e, h)
+first-passes test (suc d) s t h k e = go (test s) refl (λ l. first-passes test d (suc s) t l (omega arith) e)
+  where
+    later : test s ≡ false → s < t
+    later f = lt-of-le-ne h (λ q. true-ne-false (sym e ∙ ap test (sym q) ∙ f))
+
+    go : (b : Bool) → test s ≡ b → (s < t → (test (first test d (suc s)) ≡ true) × (first test d (suc s) ≤ t)) →
+        (test (cond b s (first test d (suc s))) ≡ true) × (cond b s (first test d (suc s)) ≤ t)
+    go true f rest = (f, h)
+    go false f rest = rest (later f)
+
+-- ---- the rule
+
+-- 2^S ≥ 2k
+pub scale-enough : (k : ℕ) → 2 * k ≤ 2 ^ scaleCount k
+unfolding scaleCount
+scale-enough k =
+    leb-true _ _ (first-passes (λ s. leb (2 * k) (2 ^ s)) (2 * k) 0 (2 * k) (omega arith) (omega arith) (le-leb _ _ (le-of-lt (above (2 * k)))) .0)
+
+-- and no smaller number has it
+pub scale-least : (k s : ℕ) → 2 * k ≤ 2 ^ s → scaleCount k ≤ s
+unfolding scaleCount
+scale-least k s h = go (decLe s (2 * k))
+  where
+    go : Dec (s ≤ 2 * k) → first (λ s. leb (2 * k) (2 ^ s)) (2 * k) 0 ≤ s
+    go (yes l) = first-passes (λ s. leb (2 * k) (2 ^ s)) (2 * k) 0 s (omega arith) (omega arith) (le-leb _ _ h) .1
+    go (no l) = omega (arith, first-within (λ s. leb (2 * k) (2 ^ s)) (2 * k) 0)
+
+-- so 2^S is below 4k
+pub scale-below : (k : ℕ) → 1 ≤ k → 2 ^ scaleCount k < 4 * k
+scale-below k p = go (scaleCount k) (scale-least k)
+  where
+    go : (s : ℕ) → ((t : ℕ) → 2 * k ≤ 2 ^ t → s ≤ t) → 2 ^ s < 4 * k
+    go zero least = omega arith
+    go (suc s) least = omega (arith, double s, lt-of-not-le {n = 2 * k} {m = 2 ^ s} (λ q. not-suc-le-self s (least s q)))
+
+-- the two bounds give the number
+pub scale-is : (k s : ℕ) → 2 * k ≤ 2 ^ s → 2 ^ s < 4 * k → s ≡ scaleCount k
+scale-is k s h l =
+    le-antisymm (omega (arith, exponent-lt s (suc (scaleCount k)) (omega (arith, scale-enough k, double (scaleCount k))))) (scale-least k s h)
+
+-- ---- a table
+
+-- 2k ≤ 2^S < 4k, where S stands at the place k − 1
+abbrev pub within : ℕ → ℕ → Bool
+within i s = leb (2 * suc i) (2 ^ s) && ltb (2 ^ s) (4 * suc i)
+
+-- a table of which each entry passes that test has the scale counts from k = 1 on
+pub table-entry : (xs : List ℕ) → tested within 0 xs ≡ true → (k : ℕ) → 1 ≤ k → k ≤ length xs → getD xs (k - 1) 0 ≡ scaleCount k
+table-entry xs t k p h =
+    let s = tested-at within xs t (k - 1) (omega arith) in
+    scale-is (suc (k - 1)) (getD xs (k - 1) 0) (leb-true _ _ (and-left _ _ s)) (ltb-true _ _ (and-right (leb (2 * suc (k - 1)) (2 ^ getD xs (k - 1) 0)) _ s))
+    ∙ ap scaleCount (omega arith)
