@@ -11,7 +11,7 @@ use lib.IntN.{ℤ, pos, negsuc, natAbs, _+ℤ_, _-ℤ_, subℕ}
 use lib.Signed.{mag, shrZ, mag-shr, leZ, ltZ, _≤ℤ_, _<ℤ_, leZ-yes, ltZ-yes, ltZ-no, natAbs-le}
 use mir.Syntax.{Width, w8, w16, w32, w64, w128}
 use mir.Val.{SFits, Fits, bits, hbits, toZ, ofZ}
-use mir.Facts.{toZ-pos}
+use mir.Facts.{toZ-pos, toZ-ofZ}
 use Rattle.laws.specs.Parts.{choose}
 
 -- ---- ranges
@@ -19,6 +19,10 @@ use Rattle.laws.specs.Parts.{choose}
 mag-le : (z : ℤ) → mag z ≤ natAbs z
 mag-le (pos n) = omega arith
 mag-le (negsuc n) = omega arith
+
+-- a register keeps a number within its range
+pub kept : (w : Width) (z : ℤ) → mag z < 2 ^ hbits w → toZ w (ofZ w z) ≡ z
+kept w z h = toZ-ofZ (record { sfits = h })
 
 pub fits-abs : {w : Width} (z : ℤ) → natAbs z < 2 ^ hbits w → SFits w z
 fits-abs z h = record { sfits = lt-of-le-of-lt (mag-le z) h }

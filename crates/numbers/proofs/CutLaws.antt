@@ -20,6 +20,11 @@ by-sign : (P : ℤ → Type 0) → ((n : ℕ) → P (pos n)) → ((z : ℤ) → 
 by-sign P f g (pos n) = f n
 by-sign P f g (negsuc n) = g (pos (suc n)) (f (suc n))
 
+pub cut-abs : (z : ℤ) (k : ℕ) → natAbs (cut z k) ≡ natAbs z / 2 ^ k
+unfolding cut
+cut-abs (pos n) k = refl
+cut-abs (negsuc n) k = abs-neg (pos (suc n / 2 ^ k))
+
 pub cut-zero : (k : ℕ) → cut (pos 0) k ≡ pos 0
 unfolding cut
 cut-zero k = ap pos (zero-div (2 ^ k))
@@ -29,11 +34,6 @@ unfolding cut
 cut-neg (pos zero) k = rw zero-div
 cut-neg (pos (suc n)) k = refl
 cut-neg (negsuc n) k = sym (negℤ-negℤ (pos (suc n / 2 ^ k)))
-
-pub cut-abs : (z : ℤ) (k : ℕ) → natAbs (cut z k) ≡ natAbs z / 2 ^ k
-unfolding cut
-cut-abs (pos n) k = refl
-cut-abs (negsuc n) k = abs-neg (pos (suc n / 2 ^ k))
 
 pub cut-none : (z : ℤ) → cut z 0 ≡ z
 unfolding cut

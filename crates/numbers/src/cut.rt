@@ -33,3 +33,11 @@ pub fn raise(z: i64, k: u32) -> i64
 {
     z * (1i64 << k)
 }
+
+// T(z·2^(i−j)).
+pub fn rescale(z: i64, i: u32, j: u32) -> i64
+    requires { ⌜ (i < 63) × (natAbs z * 2 ^ i < 2 ^ 63) ⌝ }
+    ensures { λ r. ⌜ r ≡ rescale z i j ⌝ }
+{
+    cut(raise(z, i), j)
+}
