@@ -1,0 +1,5 @@
+pub mod Settings
+pub mod Side
+pub mod Decision
+pub mod Sample
+pub mod Block

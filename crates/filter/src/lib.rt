@@ -1,0 +1,1 @@
+// One side, one sample, one block of the equaliser.
