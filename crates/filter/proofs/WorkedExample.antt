@@ -9,8 +9,12 @@ use Rattle.numbers.specs.BitLength.{bitLength}
 use Rattle.numbers.specs.Cut.{cut}
 use Rattle.laws.specs.Sums.{dot}
 use Rattle.filter.specs.Settings.{Settings}
-use Rattle.filter.specs.Sample.{Y, ξ, decision}
-use Rattle.filter.specs.Block.{Block, Memory, g, at, left, newb, stored}
+use Rattle.filter.specs.Side.{largest, adapt}
+use Rattle.filter.specs.Output.{output, outputExponent}
+use Rattle.filter.specs.Decision.{decide}
+use Rattle.filter.specs.Error.{error, errorExponent}
+use Rattle.filter.specs.Sample.{longest, ν, F, H, Y, ξ, decision, v, κ, Z, θ, J, newForward, newBack, small, next}
+use Rattle.filter.specs.Block.{Block, Memory, receivedAll, newb, newB, g, stored, old, start, after, at, left}
 
 settings : Settings
 settings = record { p = 1; q = 1; N = 1; r = 0; L = 0; M = 67108864 }
@@ -29,13 +33,18 @@ second = record { samples = pos 16384 ∷ []; gains = 0 ∷ []; entries = pos 0 
 lowest : Block
 lowest = record { samples = negsuc 32767 ∷ []; gains = 0 ∷ []; entries = pos 0 ∷ [] }
 
+-- all definitions, opened
+steps : Unit {0}
+unfolding scaleCount bitLength cut dot largest adapt longest output outputExponent decide error errorExponent ν F H Y ξ decision v κ Z θ J newForward newBack small next receivedAll newb newB g stored old start after at left settings
+steps = tt
+
 then : Memory
-unfolding left settings fresh first
+unfolding steps fresh first
 then = left settings fresh first
 
 -- Y, ξ and the decision of the only sample of a block
 handed : Memory → Block → ℤ × ℕ × ℤ
-unfolding settings decision g at
+unfolding steps
 handed o i =
     let t = at settings o i 0 in
     let e = getD (i .entries) 0 (pos 0) in
@@ -43,30 +52,30 @@ handed o i =
 
 -- both weights after a block
 weights : Memory → Block → List ℤ
-unfolding settings left
+unfolding steps
 weights o i = left settings o i .forward ++ left settings o i .back
 
 first-handed : handed fresh first ≡ (pos 0, 1, pos 1)
-unfolding handed fresh first scaleCount bitLength dot cut
+unfolding handed fresh first
 first-handed = refl
 
 first-weights : weights fresh first ≡ pos 1024 ∷ pos 0 ∷ []
-unfolding weights fresh first scaleCount bitLength dot cut
+unfolding weights fresh first
 first-weights = refl
 
 second-handed : handed then second ≡ (pos 4194304, 2, pos 1)
-unfolding handed then second scaleCount bitLength dot cut
+unfolding handed then second
 second-handed = refl
 
 second-weights : weights then second ≡ pos 2032 ∷ pos 2016 ∷ []
-unfolding weights then second scaleCount bitLength dot cut
+unfolding weights then second
 second-weights = refl
 
 -- b = 31, stored −8192, and γ = 2
 lowest-stored : stored settings fresh lowest ≡ negsuc 8191 ∷ []
-unfolding stored settings fresh lowest scaleCount bitLength cut
+unfolding steps fresh lowest
 lowest-stored = refl
 
 lowest-exponents : (newb settings fresh lowest ≡ 31) × (g settings fresh lowest ≡ 30 + 2)
-unfolding g settings fresh lowest scaleCount bitLength cut
+unfolding steps fresh lowest
 lowest-exponents = (refl, refl)

@@ -8,8 +8,8 @@ use lib.IntN.{ℤ, pos}
 use Rattle.numbers.specs.BitLength.{bitLength}
 use Rattle.numbers.specs.Cut.{raise, rescale}
 use Rattle.filter.specs.Settings.{Settings, scaleForward, exponentLimit}
-use Rattle.filter.specs.Side.{largest, magnitudes}
-use Rattle.filter.specs.Sample.{Taps, push, next}
+use Rattle.filter.specs.Side.{largest, magnitudes, push}
+use Rattle.filter.specs.Sample.{Taps, next}
 
 -- what a block is given: m, the gains and the training entries
 pub record Block : Type 0 where
@@ -44,29 +44,23 @@ values f (suc n) = values f n ++ (f n ∷ [])
 module _ (k : Settings) (o : Memory) (i : Block) where
   -- 1: b, B and γ + 30
   unfoldable pub newb : ℕ
-  unfolding receivedAll largest
   newb = bitLength (largest (magnitudes (receivedAll (i .samples) (i .gains))))
 
   unfoldable pub newB : ℕ
-  unfolding newb
   newB = max newb (o .b)
 
   unfoldable pub g : ℕ
-  unfolding newB
   g = k .r + newB + scaleForward k
 
   -- 2: the stored samples, and the old ones at the new exponent
   unfoldable pub stored : List ℤ
-  unfolding newB
   stored = map (λ (x : ℤ). rescale x 15 (newB + scaleForward k)) (receivedAll (i .samples) (i .gains))
 
   unfoldable pub old : List ℤ
-  unfolding newB
   old = map (λ (a : ℤ). rescale a (o .B) newB) (o .samples)
 
   -- the window before the first sample, with a place for it
   unfoldable pub start : Taps
-  unfolding old
   start = record { forward = o .forward; back = o .back; samples = old ++ (pos 0 ∷ []); symbols = o .symbols; ψ = o .ψ }
 
   -- the new stored sample enters the window
@@ -75,23 +69,19 @@ module _ (k : Settings) (o : Memory) (i : Block) where
 
   -- the taps when n samples are done, and with the next sample entered
   unfoldable pub after : ℕ → Taps
-  unfolding start stored g next
   after zero = start
   after (suc n) = next k g (entered n (after n)) (getD (i .entries) n (pos 0))
 
   unfoldable pub at : ℕ → Taps
-  unfolding after
   at n = entered n (after n)
 
   -- ψ stayed within its limit through the first n samples
   unfoldable pub goes : ℕ → Bool
-  unfolding after
   goes zero = true
   goes (suc n) = goes n && leb (after (suc n) .ψ) exponentLimit
 
   -- what an accepted block leaves
   unfoldable pub left : Memory
-  unfolding after
   left =
       let t = after (k .N) in
       record { forward = t .forward; back = t .back; samples = take (k .p - 1) (t .samples); symbols = t .symbols; ψ = t .ψ; b = newb; B = newB }

@@ -1,5 +1,9 @@
 pub mod Settings
 pub mod Side
+pub mod Output
 pub mod Decision
+pub mod Error
 pub mod Sample
 pub mod Block
+pub mod Sound
+pub mod Exact

@@ -1,15 +1,16 @@
 -- One sample. γ + 30 is g, a natural number.
 use mathlib.Core.Bool.{Bool, _&&_, cond}
-use mathlib.Core.List.{List, [], _∷_, map}
-use Prim.Native.Nat.{ℕ, suc, _+_, _-_, _^_}
-use lib.Dec.{ltb, eqb}
-use lib.ListN.{length, take}
-use lib.IntN.{ℤ, pos, natAbs, _+ℤ_, _-ℤ_, _*ℤ_}
+use mathlib.Core.List.{List, map}
+use Prim.Native.Nat.{ℕ, suc, _+_, _-_}
+use lib.Dec.{eqb}
+use lib.IntN.{ℤ, natAbs}
 use Rattle.numbers.specs.BitLength.{bitLength}
-use Rattle.numbers.specs.Cut.{cut, raise}
+use Rattle.numbers.specs.Cut.{raise}
 use Rattle.filter.specs.Settings.{Settings, scaleForward, scaleBack}
-use Rattle.filter.specs.Side.{Side, sum, factor, adapt, allSmall, halved, largest, magnitudes}
+use Rattle.filter.specs.Side.{Side, sum, factor, learnt, allSmall, halved, push, largest, magnitudes}
+use Rattle.filter.specs.Output.{output, outputExponent}
 use Rattle.filter.specs.Decision.{decide}
+use Rattle.filter.specs.Error.{error, errorExponent}
 
 -- the weights of both filters, the p stored samples A and the last q symbols, newest first, and ψ
 pub record Taps : Type 0 where
@@ -19,22 +20,24 @@ pub record Taps : Type 0 where
   pub symbols : List ℤ
   pub ψ : ℕ
 
--- a new element in front, and the oldest falls off
-abbrev pub push : ℤ → List ℤ → List ℤ
-push x xs = take (length xs) (x ∷ xs)
+-- 1: c, the largest bit length
+unfoldable pub longest : List ℤ → ℕ
+longest l = largest (map bitLength (magnitudes l))
+
+-- 7: what becomes of new weights, and of ψ
+abbrev pub settled : Bool → List ℤ → List ℤ
+settled small w = cond small w (halved w)
+
+abbrev pub settledExponent : Bool → ℕ → ℕ
+settledExponent small ψ = cond small ψ (suc ψ)
 
 module _ (k : Settings) (g : ℕ) (t : Taps) (entry : ℤ) where
-  -- 1: c and ν
-  unfoldable pub c : ℕ
-  c = largest (map bitLength (magnitudes (t .symbols)))
-
+  -- 1
   unfoldable pub ν : ℕ
-  unfolding c
-  ν = scaleBack k + c
+  ν = scaleBack k + longest (t .symbols)
 
   -- 1: a past symbol as it is held
-  unfoldable pub held : ℤ → ℤ
-  unfolding ν
+  abbrev pub held : ℤ → ℤ
   held v = raise v (15 - ν)
 
   abbrev pub forwardSide : Side
@@ -48,65 +51,52 @@ module _ (k : Settings) (g : ℕ) (t : Taps) (entry : ℤ) where
   F = sum forwardSide
 
   unfoldable pub H : ℤ
-  unfolding held
   H = sum backSide
 
-  -- 3: γ > ν or not
+  -- 3
   unfoldable pub Y : ℤ
-  unfolding F H
-  Y = cond (ltb (ν + 30) g) (F +ℤ cut H (g - (ν + 30))) (H +ℤ cut F (ν + 30 - g))
+  Y = output F H g ν
 
   unfoldable pub ξ : ℕ
-  unfolding ν
-  ξ = cond (ltb (ν + 30) g) (t .ψ + g - 30) (t .ψ + ν)
+  ξ = outputExponent (t .ψ) g ν
 
   -- 4
   unfoldable pub decision : ℤ
-  unfolding Y ξ decide
   decision = decide (k .r) Y ξ
 
-  -- 5: v, k and the error
+  -- 5
   unfoldable pub v : ℤ
-  unfolding decision
   v = cond (eqb (natAbs entry) 0) decision entry
 
   unfoldable pub κ : ℕ
-  unfolding v
   κ = scaleBack k + bitLength (natAbs v)
 
   unfoldable pub Z : ℤ
-  unfolding κ ξ Y
-  Z = cond (ltb ξ κ) (raise v (30 - κ) -ℤ cut Y (κ - ξ)) (raise v (30 - ξ) -ℤ Y)
+  Z = error v Y ξ κ
 
   unfoldable pub θ : ℕ
-  unfolding κ ξ
-  θ = cond (ltb ξ κ) κ ξ
+  θ = errorExponent ξ κ
 
-  -- 6: the new weights before step 7
+  -- 6
   unfoldable pub J : Side → ℤ
-  unfolding Z θ
   J f = factor (k .M) Z (t .ψ) θ f
 
   unfoldable pub newForward : List ℤ
-  unfolding J adapt
-  newForward = adapt (J forwardSide) (scaleForward k) (t .forward) (t .samples)
+  newForward = learnt (J forwardSide) forwardSide
 
   unfoldable pub newBack : List ℤ
-  unfolding J adapt held
-  newBack = adapt (J backSide) (scaleBack k) (t .back) (map held (t .symbols))
+  newBack = learnt (J backSide) backSide
 
-  -- 7: what becomes of the new weights and of ψ
+  -- 7
   unfoldable pub small : Bool
-  unfolding newForward newBack
   small = allSmall newForward && allSmall newBack
 
   -- 7 and 8
   unfoldable pub next : Taps
-  unfolding small v
   next = record {
-    forward = cond small newForward (halved newForward);
-    back = cond small newBack (halved newBack);
+    forward = settled small newForward;
+    back = settled small newBack;
     samples = t .samples;
     symbols = push v (t .symbols);
-    ψ = cond small (t .ψ) (suc (t .ψ));
+    ψ = settledExponent small (t .ψ)
   }

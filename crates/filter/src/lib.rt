@@ -1,1 +1,3 @@
 // One side, one sample, one block of the equaliser.
+pub mod side;
+pub mod stored;

@@ -1,0 +1,74 @@
+-- What is sound at a sample, and at the end of a block.
+use mathlib.Core.Path.{_≡_}
+use mathlib.Core.Bool.{true}
+use Prim.Native.Nat.{ℕ, _+_, _*_, _-_, _^_, _≤_, _<_}
+use mathlib.Core.List.{List}
+use lib.ListN.{length}
+use lib.IntN.{ℤ, natAbs}
+use Rattle.laws.specs.Sums.{Each}
+use Rattle.numbers.specs.Cut.{rescale}
+use Rattle.filter.specs.Settings.{Settings, Within, Admitted, isEntry, scaleForward, exponentLimit, halvingLimit}
+use Rattle.filter.specs.Side.{largest, magnitudes}
+use Rattle.filter.specs.Sample.{Taps}
+use Rattle.filter.specs.Block.{Memory}
+
+-- weights: |W| ≤ 16383
+abbrev pub Small : ℤ → Type 0
+Small w = natAbs w < halvingLimit
+
+-- the soundness facts at a sample, with the exponent g = γ + 30 of the stored samples
+pub record Fit (k : Settings) (g : ℕ) (t : Taps) : Type 0 where
+  pub within : Within k
+  pub admitted : Admitted k
+  pub forward-long : length (t .forward) ≡ k .p
+  pub back-long : length (t .back) ≡ k .q
+  pub samples-long : length (t .samples) ≡ k .p
+  pub symbols-long : length (t .symbols) ≡ k .q
+  pub forward-small : Each Small (t .forward)
+  pub back-small : Each Small (t .back)
+  pub samples-small : Each (λ (a : ℤ). natAbs a * 2 ^ scaleForward k < 2 ^ 15) (t .samples)
+  pub symbols-are : Each (λ (v : ℤ). isEntry (k .r) v ≡ true) (t .symbols)
+  pub ψ-most : t .ψ ≤ exponentLimit
+  pub g-least : scaleForward k ≤ g
+  pub g-most : g + k .L ≤ k .r + 31 + scaleForward k
+
+-- the soundness facts between blocks
+pub record Sound (k : Settings) (o : Memory) : Type 0 where
+  pub within : Within k
+  pub admitted : Admitted k
+  pub forward-long : length (o .forward) ≡ k .p
+  pub back-long : length (o .back) ≡ k .q
+  pub samples-long : length (o .samples) ≡ k .p - 1
+  pub symbols-long : length (o .symbols) ≡ k .q
+  pub forward-small : Each Small (o .forward)
+  pub back-small : Each Small (o .back)
+  pub samples-small : Each (λ (a : ℤ). natAbs a * 2 ^ (o .B + scaleForward k) < 2 ^ (15 + o .b)) (o .samples)
+  pub symbols-are : Each (λ (v : ℤ). isEntry (k .r) v ≡ true) (o .symbols)
+  pub ψ-most : o .ψ ≤ exponentLimit
+  pub b-most : o .b ≤ o .B
+  pub B-most : o .B + k .L ≤ 31
+
+-- ---- what the loops over a side ask, as plain bounds
+
+-- a sum of products whose partial sums fit 32 bits
+pub record Summable (w a : List ℤ) : Type 0 where
+  pub same-length : length w ≡ length a
+  pub small : Each Small w
+  pub bound : length w * (2 ^ 14 * largest (magnitudes a)) < 2 ^ 31
+
+-- new weights that fit 16 bits
+pub record Adaptable (K : ℤ) (w a : List ℤ) : Type 0 where
+  pub same-length : length w ≡ length a
+  pub small : Each Small w
+  pub bound : natAbs K * largest (magnitudes a) < 2 ^ 44
+
+-- samples with their gains
+pub record Receivable (m : List ℤ) (gains : List ℕ) : Type 0 where
+  pub same-length : length m ≡ length gains
+  pub gains-most : Each (λ (g : ℕ). g ≤ 15) gains
+
+-- a number whose T(z·2^(i−j)) fits 16 bits
+pub record Storable (i j : ℕ) (z : ℤ) : Type 0 where
+  pub shift : i < 63
+  pub room : natAbs z * 2 ^ i < 2 ^ 63
+  pub bound : natAbs (rescale z i j) < 2 ^ 15
