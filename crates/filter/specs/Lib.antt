@@ -7,3 +7,5 @@ pub mod Sample
 pub mod Block
 pub mod Sound
 pub mod Exact
+pub mod Stored
+pub mod Calls

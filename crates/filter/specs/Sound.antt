@@ -9,8 +9,9 @@ use Rattle.laws.specs.Sums.{Each}
 use Rattle.numbers.specs.Cut.{rescale}
 use Rattle.filter.specs.Settings.{Settings, Within, Admitted, isEntry, scaleForward, exponentLimit, halvingLimit}
 use Rattle.filter.specs.Side.{largest, magnitudes}
+use Rattle.filter.specs.Error.{errorExponent}
 use Rattle.filter.specs.Sample.{Taps}
-use Rattle.filter.specs.Block.{Memory}
+use Rattle.filter.specs.Block.{Block, Memory}
 
 -- weights: |W| ≤ 16383
 abbrev pub Small : ℤ → Type 0
@@ -48,6 +49,16 @@ pub record Sound (k : Settings) (o : Memory) : Type 0 where
   pub b-most : o .b ≤ o .B
   pub B-most : o .B + k .L ≤ 31
 
+-- a block whose lists are N long, whose samples have 16 bits, and whose gains and entries are within limits
+pub record Acceptable (k : Settings) (i : Block) : Type 0 where
+  pub samples-long : length (i .samples) ≡ k .N
+  pub gains-long : length (i .gains) ≡ k .N
+  pub entries-long : length (i .entries) ≡ k .N
+  pub samples-are : Each (λ (m : ℤ). natAbs m ≤ 2 ^ 15) (i .samples)
+  pub gains-least : Each (λ (g : ℕ). k .L ≤ g) (i .gains)
+  pub gains-most : Each (λ (g : ℕ). g ≤ 15) (i .gains)
+  pub entries-are : Each (λ (e : ℤ). isEntry (k .r) e ≡ true) (i .entries)
+
 -- ---- what the loops over a side ask, as plain bounds
 
 -- a sum of products whose partial sums fit 32 bits
@@ -72,3 +83,19 @@ pub record Storable (i j : ℕ) (z : ℤ) : Type 0 where
   pub shift : i < 63
   pub room : natAbs z * 2 ^ i < 2 ^ 63
   pub bound : natAbs (rescale z i j) < 2 ^ 15
+
+-- the two sums of a sample and their exponents
+pub record Joinable (f h : ℤ) (g ν ψ : ℕ) : Type 0 where
+  pub f-small : natAbs f < 2 ^ 28
+  pub h-small : natAbs h < 2 ^ 28
+  pub ψ-most : ψ ≤ 15
+  pub ν-most : ν ≤ 9
+  pub g-most : g ≤ 100
+
+-- a symbol beside an output
+pub record Missable (v y : ℤ) (ξ κ : ℕ) : Type 0 where
+  pub y-small : natAbs y < 2 ^ 29
+  pub ξ-least : 1 ≤ ξ
+  pub ξ-most : ξ ≤ 30
+  pub κ-most : κ ≤ 30
+  pub room : natAbs v * 2 ^ (30 - errorExponent ξ κ) ≤ 2 ^ 29

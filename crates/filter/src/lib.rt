@@ -1,3 +1,8 @@
 // One side, one sample, one block of the equaliser.
+pub mod decision;
+pub mod error;
+pub mod factor;
+pub mod output;
 pub mod side;
 pub mod stored;
+pub mod sample;

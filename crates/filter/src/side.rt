@@ -4,6 +4,7 @@ ghost use Prim.Native.Nat.{_*_, _^_, _<_};
 ghost use lib.IntN.{_+ℤ_, _*ℤ_, natAbs};
 ghost use Rattle.laws.specs.Sums.{dot};
 ghost use Rattle.filter.specs.Side.{adapted, adapt, allSmall, halved, push};
+ghost use Rattle.numbers.specs.Cut.{raise};
 ghost use Rattle.filter.specs.Sample.{longest};
 ghost use Rattle.filter.specs.Sound.{Summable, Adaptable};
 
@@ -103,4 +104,12 @@ pub fn longest(xs: &[i16]) -> u32
         i += 1;
     }
     numbers::bit_length::bit_length(most)
+}
+
+// A sum of products with symbols as they are held.
+pub fn raised(z: i32, k: u32) -> i32
+    requires { ⌜ (k < 63) × (natAbs z * 2 ^ k < 2 ^ 28) ⌝ }
+    ensures { λ r. ⌜ r ≡ raise z k ⌝ }
+{
+    numbers::cut::raise(z as i64, k) as i32
 }

@@ -1,9 +1,9 @@
 // The samples of a block: as received, and as stored.
 ghost use mathlib.Core.Path.{_≡_};
 ghost use mathlib.Core.List.{map};
-ghost use Prim.Native.Nat.{_*_, _^_, _<_, _≤_};
-ghost use lib.ListN.{length, take};
-ghost use lib.IntN.{ℤ, natAbs};
+ghost use Prim.Native.Nat.{_<_, _≤_};
+ghost use lib.ListN.{length, getD, take};
+ghost use lib.IntN.{ℤ, pos};
 ghost use Rattle.laws.specs.Sums.{Each};
 ghost use Rattle.numbers.specs.Cut.{rescale};
 ghost use Rattle.filter.specs.Side.{largest, magnitudes};
@@ -18,6 +18,14 @@ pub fn received(m: i16, g: u8) -> i64
     numbers::cut::raise(m as i64, 15 - (g as u32))
 }
 
+// X of the sample at a place.
+fn received_at(m: &[i16], gains: &[u8], i: usize) -> i64
+    requires { ⌜ (Receivable (now m) (now gains)) × (i < length (now m)) ⌝ }
+    ensures { λ r. ⌜ r ≡ getD (receivedAll (now (m .entry)) (now (gains .entry))) i (pos 0) ⌝ }
+{
+    received(m[i], gains[i])
+}
+
 // The largest |X| of a block.
 pub fn loudest(m: &[i16], gains: &[u8]) -> u64
     requires { ⌜ Receivable (now m) (now gains) ⌝ }
@@ -26,7 +34,7 @@ pub fn loudest(m: &[i16], gains: &[u8]) -> u64
     let mut most: u64 = 0;
     let mut i: usize = 0;
     while i < m.len() {
-        let size = numbers::bit_length::magnitude(received(m[i], gains[i]));
+        let size = numbers::bit_length::magnitude(received_at(m, gains, i));
         if most < size {
             most = size;
         }
@@ -51,7 +59,7 @@ pub fn store(m: &[i16], gains: &[u8], places: u32) -> [i16; 128]
     let mut out = [0i16; 128];
     let mut i: usize = 0;
     while i < m.len() {
-        out[i] = restored(received(m[i], gains[i]), 15, places);
+        out[i] = restored(received_at(m, gains, i), 15, places);
         i += 1;
     }
     out

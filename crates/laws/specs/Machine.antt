@@ -6,7 +6,7 @@ use native.Mathlib.Omega.{arith}
 use native.Mathlib.Nat.{one-mul, mod-eq-of-lt, lt-of-le-of-lt, lt-trans}
 use lib.Dec.{T, ltb, ltb→lt, lt→ltb, nleb→lt, lit<}
 use borrow.Author.Tests.{le-ltb}
-use lib.Pow.{pow-lt}
+use lib.Pow.{pow-lt, pow-pos}
 use lib.IntN.{ℤ, pos, negsuc, natAbs, _+ℤ_, _-ℤ_, subℕ}
 use lib.Signed.{mag, shrZ, mag-shr, leZ, ltZ, _≤ℤ_, _<ℤ_, leZ-yes, ltZ-yes, ltZ-no, natAbs-le}
 use mir.Syntax.{Width, w8, w16, w32, w64, w128}
@@ -88,3 +88,12 @@ le-refuted {a} {b} e = ltZ-yes (below a b (subst (λ t. T (not t)) (sym e) tt))
     below (pos a) (negsuc b) t = tt
     below (negsuc a) (pos b) t = t
     below (negsuc a) (negsuc b) t = lt→ltb a b (nleb→lt b a t)
+
+-- ---- a number and its bits at 0
+
+pub zero-bits : (w : Width) (z : ℤ) → natAbs z ≡ 0 → ofZ w z ≡ 0
+zero-bits w (pos n) e = e
+zero-bits w (negsuc n) e = absurd (omega arith)
+
+pub zero-of-bits : {w : Width} {z : ℤ} → SFits w z → ofZ w z ≡ 0 → z ≡ pos 0
+zero-of-bits {w} {z} f e = sym (toZ-ofZ f) ∙ ap (toZ w) e ∙ toZ-pos w (pow-pos (hbits w))

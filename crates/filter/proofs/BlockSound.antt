@@ -1,0 +1,141 @@
+-- A block on a sound state: every sample of it is fit, and what it leaves is sound. The facts of one sample are taken as given.
+use mathlib.Core.Path.{_≡_, _∙_}
+use mathlib.Core.Bool.{true}
+use mathlib.Core.List.{[], _∷_}
+use Prim.Native.Nat.{ℕ, zero, suc, _-_, _≤_, _<_}
+use native.Mathlib.Omega.{arith}
+use native.Mathlib.Nat.{le-refl}
+use lib.ListN.{length, getD}
+use lib.IntN.{ℤ, pos}
+use borrow.Author.Tests.{leb-true}
+use Rattle.laws.specs.Lists.{and-left, and-right}
+use Rattle.laws.specs.Sums.{Each, each-at, each-of, each-append}
+use Rattle.filter.specs.Settings.{Settings, exponentLimit, isEntry}
+use Rattle.filter.specs.Sample.{Taps, v, small, newForward, newBack, next}
+use Rattle.filter.specs.Block.{Block, Memory, newb, newB, g, stored, old, start, entered, after, at, goes, left}
+use Rattle.filter.specs.Sound.{Small, Fit, Sound, Acceptable}
+use Rattle.filter.proofs.BlockLists.{push-length, push-each, adapt-length, settled-length}
+use Rattle.filter.proofs.BlockExponents.{newb-newB, newB-most, g-least, g-most}
+use Rattle.filter.proofs.BlockStored.{StateBound, SampleBound, stored-sound, stored-small, old-small, stored-length}
+use Rattle.filter.proofs.BlockWindow.{after-length, left-length, left-at}
+
+-- ---- a sample keeps the lengths
+
+next-forward-length : (k : Settings) (x : ℕ) (t : Taps) (e : ℤ) → length (next k x t e .forward) ≡ length (t .forward)
+unfolding next newForward
+next-forward-length k x t e = settled-length (small k x t e) (newForward k x t e) ∙ adapt-length _ (t .forward) _
+
+next-back-length : (k : Settings) (x : ℕ) (t : Taps) (e : ℤ) → length (next k x t e .back) ≡ length (t .back)
+unfolding next newBack
+next-back-length k x t e = settled-length (small k x t e) (newBack k x t e) ∙ adapt-length _ (t .back) _
+
+-- ---- before the first sample, and with a sample entered
+
+fit-start : (k : Settings) (o : Memory) (i : Block) → Sound k o → Acceptable k i → Fit k (g k o i) (start k o i)
+unfolding start after
+fit-start k o i s a = record {
+  within = s .within;
+  admitted = s .admitted;
+  forward-long = s .forward-long;
+  back-long = s .back-long;
+  samples-long = after-length k o i (s .within .p-least) (s .samples-long) 0;
+  symbols-long = s .symbols-long;
+  forward-small = s .forward-small;
+  back-small = s .back-small;
+  samples-small = each-append (SampleBound k) (old k o i) (pos 0 ∷ []) (old-small k o i s) (omega arith, tt);
+  symbols-are = s .symbols-are;
+  ψ-most = s .ψ-most;
+  g-least = g-least k o i;
+  g-most = g-most k o i s a;
+}
+
+fit-entered : (k : Settings) (o : Memory) (i : Block) (n : ℕ) (t : Taps) → Acceptable k i → n < k .N → Fit k (g k o i) t → Fit k (g k o i) (entered k o i n t)
+fit-entered k o i n t a h f = record {
+  within = f .within;
+  admitted = f .admitted;
+  forward-long = f .forward-long;
+  back-long = f .back-long;
+  samples-long = push-length (getD (stored k o i) n (pos 0)) (t .samples) ∙ f .samples-long;
+  symbols-long = f .symbols-long;
+  forward-small = f .forward-small;
+  back-small = f .back-small;
+  samples-small = push-each (SampleBound k) (getD (stored k o i) n (pos 0)) (t .samples)
+      (each-at (SampleBound k) (stored k o i) n (pos 0) (stored-small k o i) (omega (arith, stored-length k o i a))) (f .samples-small);
+  symbols-are = f .symbols-are;
+  ψ-most = f .ψ-most;
+  g-least = f .g-least;
+  g-most = f .g-most;
+}
+
+-- the p − 1 samples that are left are all of this block
+left-samples : (k : Settings) (o : Memory) (i : Block) → Sound k o → Acceptable k i →
+    Each (StateBound k (newb k o i) (newB k o i)) (left k o i .samples)
+left-samples k o i s a = each-of (StateBound k (newb k o i) (newB k o i)) (pos 0) (left k o i .samples) each
+  where
+    each : (j : ℕ) → j < length (left k o i .samples) → StateBound k (newb k o i) (newB k o i) (getD (left k o i .samples) j (pos 0))
+    each j h =
+        let l = left-length k o i (s .within .p-least) (s .samples-long) in
+        rw (left-at k o i (s .within .p-least) (s .samples-long) j (k .N - 1 - j) (omega arith) (omega arith))
+        (each-at (StateBound k (newb k o i) (newB k o i)) (stored k o i) (k .N - 1 - j) (pos 0) (stored-sound k o i)
+        (omega (arith, stored-length k o i a)))
+
+module _
+    (k : Settings)
+    (sample : (x : ℕ) (t : Taps) (e : ℤ) → Fit k x t → isEntry (k .r) e ≡ true → Each Small (next k x t e .forward) × Each Small (next k x t e .back))
+    (symbol : (x : ℕ) (t : Taps) (e : ℤ) → Fit k x t → isEntry (k .r) e ≡ true → isEntry (k .r) (v k x t e) ≡ true)
+  where
+    -- one sample done
+    pub fit-next : (x : ℕ) (t : Taps) (e : ℤ) → Fit k x t → isEntry (k .r) e ≡ true → next k x t e .ψ ≤ exponentLimit → Fit k x (next k x t e)
+    unfolding next
+    fit-next x t e f h l = record {
+      within = f .within;
+      admitted = f .admitted;
+      forward-long = next-forward-length k x t e ∙ f .forward-long;
+      back-long = next-back-length k x t e ∙ f .back-long;
+      samples-long = f .samples-long;
+      symbols-long = push-length (v k x t e) (t .symbols) ∙ f .symbols-long;
+      forward-small = sample x t e f h .0;
+      back-small = sample x t e f h .1;
+      samples-small = f .samples-small;
+      symbols-are = push-each (λ (z : ℤ). isEntry (k .r) z ≡ true) (v k x t e) (t .symbols) (symbol x t e f h) (f .symbols-are);
+      ψ-most = l;
+      g-least = f .g-least;
+      g-most = f .g-most;
+    }
+
+    module _ (o : Memory) (i : Block) (s : Sound k o) (a : Acceptable k i) where
+      -- when n samples are done
+      pub fit-after : (n : ℕ) → n ≤ k .N → goes k o i n ≡ true → Fit k (g k o i) (after k o i n)
+      unfolding after goes
+      fit-after zero h e = fit-start k o i s a
+      fit-after (suc n) h e =
+          fit-next (g k o i) (entered k o i n (after k o i n)) (getD (i .entries) n (pos 0))
+          (fit-entered k o i n (after k o i n) a h (fit-after n (omega arith) (and-left (goes k o i n) _ e)))
+          (each-at (λ (z : ℤ). isEntry (k .r) z ≡ true) (i .entries) n (pos 0) (a .entries-are) (omega (arith, a .entries-long)))
+          (leb-true _ _ (and-right (goes k o i n) _ e))
+
+      -- at every sample that is reached
+      pub fit-at : (n : ℕ) → n < k .N → goes k o i n ≡ true → Fit k (g k o i) (at k o i n)
+      unfolding at
+      fit-at n h e = fit-entered k o i n (after k o i n) a h (fit-after n (omega arith) e)
+
+      -- what an accepted block leaves
+      pub left-sound : goes k o i (k .N) ≡ true → Sound k (left k o i)
+      unfolding left
+      left-sound e =
+          let f = fit-after (k .N) (le-refl (k .N)) e in
+          record {
+            within = s .within;
+            admitted = s .admitted;
+            forward-long = f .forward-long;
+            back-long = f .back-long;
+            samples-long = left-length k o i (s .within .p-least) (s .samples-long);
+            symbols-long = f .symbols-long;
+            forward-small = f .forward-small;
+            back-small = f .back-small;
+            samples-small = left-samples k o i s a;
+            symbols-are = f .symbols-are;
+            ψ-most = f .ψ-most;
+            b-most = newb-newB k o i;
+            B-most = newB-most k o i s a;
+          }

@@ -1,0 +1,21 @@
+-- Laws of the decision: sizes, and which end is met.
+use Prim.Native.Nat.{ℕ, _+_, _*_, _^_, _≤_}
+use native.Mathlib.Omega.{arith}
+use lib.IntN.{ℤ, pos, negℤ, natAbs, _+ℤ_, _*ℤ_}
+use lib.Signed.{_≤ℤ_}
+use Rattle.laws.specs.Parts.{abs-parts}
+use Rattle.laws.specs.Integers.{abs-add, abs-mul}
+use Rattle.laws.specs.Linear.{by-abs, of-le, atom, neg}
+use Rattle.laws.specs.Powers.{rises}
+
+pub symbol-most : (r : ℕ) → r ≤ 3 → 2 ^ (r + 1) ≤ 16
+symbol-most r h = omega (arith, rises {a = r + 1} {b = 4} (omega arith))
+
+-- twice a number, and one more
+pub odd-most : (f : ℤ) (b : ℕ) → natAbs f ≤ b → natAbs (pos 2 *ℤ f +ℤ pos 1) ≤ 2 * b + 1
+odd-most f b h = omega (arith, abs-add (pos 2 *ℤ f) (pos 1), abs-mul (pos 2) f)
+
+-- what lies between the ends is no larger than they are
+pub between-ends : (top d : ℤ) → d ≤ℤ top → negℤ top ≤ℤ d → natAbs d ≤ natAbs top
+between-ends top d h k =
+    by-abs d (atom d) (omega (arith, of-le (atom d) (atom top) h, of-le (neg (atom top)) (atom d) k, abs-parts top))

@@ -1,0 +1,103 @@
+-- The output and the error, each less than one of its units off the exact one.
+use mathlib.Core.Path.{_≡_, sym, ap, ap₂, _∙_, subst}
+use mathlib.Core.List.{[], _∷_}
+use Prim.Native.Nat.{ℕ, _+_, _*_, _-_, _^_, _≤_, _<_, max}
+use native.Mathlib.Omega.{arith}
+use native.Mathlib.Nat.{mul-le-mul-right, max-eq-left, max-eq-right, le-of-lt, lt-of-not-le}
+use native.Mathlib.Decide.{decLe}
+use lib.IntN.{ℤ, pos, negℤ, natAbs, _+ℤ_, _-ℤ_, _*ℤ_}
+use Rattle.laws.specs.Integers.{abs-add, abs-sub, abs-mul, abs-neg}
+use Rattle.laws.specs.Powers.{split, same, positive}
+use Rattle.laws.specs.Ring.{ring, terms}
+use Rattle.numbers.specs.Cut.{cut, raise}
+use Rattle.numbers.proofs.CutLaws.{cut-error}
+use Rattle.filter.specs.Output.{output, outputExponent}
+use Rattle.filter.specs.Error.{error, errorExponent}
+use Rattle.filter.proofs.ListBounds.{raise-raise}
+use Rattle.filter.proofs.OutputLaws.{output-form, output-exponent-form, error-form, error-exponent-form}
+
+-- ---- over plain letters
+
+-- f and h are F / i and H / j, less than 1 off; of the units a·p and b·p of F and H the greater is m·p
+output-core : (F H f h : ℤ) (a b i j p m : ℕ) → natAbs (F -ℤ f *ℤ pos i) < i → natAbs (H -ℤ h *ℤ pos j) < j →
+    m ≡ i * a → m ≡ j * b → m < a + b → 1 ≤ p →
+    natAbs ((f +ℤ h) *ℤ pos (p * m) -ℤ (F *ℤ pos a +ℤ H *ℤ pos b) *ℤ pos p) < p * m
+output-core F H f h a b i j p m x y d e l q = bound
+  where
+    off : ℤ
+    off = (F -ℤ f *ℤ pos i) *ℤ pos a +ℤ (H -ℤ h *ℤ pos j) *ℤ pos b
+
+    spread : (f +ℤ h) *ℤ pos (p * m) ≡ f *ℤ pos (p * (i * a)) +ℤ h *ℤ pos (p * (j * b))
+    spread =
+        ring (f ∷ h ∷ pos (p * m) ∷ []) (search terms depth 40) tt
+        ∙ ap₂ (λ (m n : ℕ). f *ℤ pos (p * m) +ℤ h *ℤ pos (p * n)) d e
+
+    same : (f +ℤ h) *ℤ pos (p * m) -ℤ (F *ℤ pos a +ℤ H *ℤ pos b) *ℤ pos p ≡ negℤ (off *ℤ pos p)
+    same =
+        ap (λ (z : ℤ). z -ℤ (F *ℤ pos a +ℤ H *ℤ pos b) *ℤ pos p) spread
+        ∙ ring (F ∷ H ∷ f ∷ h ∷ pos a ∷ pos b ∷ pos i ∷ pos j ∷ pos p ∷ []) (search terms depth 40) tt
+
+    off-small : natAbs off < m
+    off-small = omega (
+      arith,
+      abs-add ((F -ℤ f *ℤ pos i) *ℤ pos a) ((H -ℤ h *ℤ pos j) *ℤ pos b),
+      abs-mul (F -ℤ f *ℤ pos i) (pos a),
+      abs-mul (H -ℤ h *ℤ pos j) (pos b),
+      mul-le-mul-right a x,
+      mul-le-mul-right b y,
+    )
+
+    bound : natAbs ((f +ℤ h) *ℤ pos (p * m) -ℤ (F *ℤ pos a +ℤ H *ℤ pos b) *ℤ pos p) < p * m
+    bound = omega (arith, ap natAbs same, abs-neg (off *ℤ pos p), abs-mul off (pos p), mul-le-mul-right p off-small)
+
+-- c is Y / d, less than 1 off, and Y in units of x is less than one unit off y; n is v in the units d·x of Z
+error-core : (n c Y y : ℤ) (d x : ℕ) → natAbs (Y -ℤ c *ℤ pos d) < d → natAbs (Y *ℤ pos x -ℤ y) < x →
+    natAbs ((n -ℤ c) *ℤ pos (d * x) -ℤ (n *ℤ pos (d * x) -ℤ y)) < d * x
+error-core n c Y y d x h l = omega (
+  arith,
+  ap natAbs same,
+  abs-sub ((Y -ℤ c *ℤ pos d) *ℤ pos x) (Y *ℤ pos x -ℤ y),
+  abs-mul (Y -ℤ c *ℤ pos d) (pos x),
+  mul-le-mul-right x h,
+)
+  where
+    same : (n -ℤ c) *ℤ pos (d * x) -ℤ (n *ℤ pos (d * x) -ℤ y) ≡ (Y -ℤ c *ℤ pos d) *ℤ pos x -ℤ (Y *ℤ pos x -ℤ y)
+    same = ring (n ∷ c ∷ Y ∷ y ∷ pos d ∷ pos x ∷ []) (search terms depth 40) tt
+
+-- ---- at the exponents
+
+-- z·2^(c−n)·2^(n+d)
+pub raised : (z : ℤ) (c n d : ℕ) → n ≤ c → raise (raise z (c - n)) (n + d) ≡ raise z (c + d)
+raised z c n d h = raise-raise z (c - n) (n + d) ∙ ap (λ (m : ℕ). z *ℤ pos m) (same (c - n + (n + d)) (c + d) (omega arith))
+
+max-below : (a b : ℕ) → 2 ^ max a b < 2 ^ a + 2 ^ b
+max-below a b = go (decLe a b)
+  where
+    go : Dec (a ≤ b) → 2 ^ max a b < 2 ^ a + 2 ^ b
+    go (yes l) = omega (arith, same (max a b) b (max-eq-right l), positive a)
+    go (no l) = omega (arith, same (max a b) a (max-eq-left (le-of-lt (lt-of-not-le l))), positive b)
+
+-- |y − y*| < 2^(ξ−30)
+pub output-distance : (F H : ℤ) (ψ g ν : ℕ) →
+    natAbs (raise (output F H g ν) (outputExponent ψ g ν + 30) -ℤ raise (raise F g +ℤ raise H (ν + 30)) ψ) < 2 ^ (outputExponent ψ g ν + 30)
+output-distance F H ψ g ν =
+    rw (output-form F H g ν)
+    (subst (λ (u : ℕ). natAbs ((cut F (ν + 30 - g) +ℤ cut H (g - (ν + 30))) *ℤ pos u -ℤ raise (raise F g +ℤ raise H (ν + 30)) ψ) < u)
+    (sym (split (outputExponent ψ g ν + 30) ψ (max g (ν + 30)) (output-exponent-form ψ g ν)))
+    (output-core F H (cut F (ν + 30 - g)) (cut H (g - (ν + 30))) (2 ^ g) (2 ^ (ν + 30)) (2 ^ (ν + 30 - g)) (2 ^ (g - (ν + 30))) (2 ^ ψ) (2 ^ max g (ν + 30))
+    (cut-error F (ν + 30 - g)) (cut-error H (g - (ν + 30)))
+    (split (max g (ν + 30)) (ν + 30 - g) g (omega arith))
+    (split (max g (ν + 30)) (g - (ν + 30)) (ν + 30) (omega arith))
+    (max-below g (ν + 30)) (positive ψ)))
+
+-- Z and v − y*, where Y is less than one of its units off y
+pub error-distance : (v Y y : ℤ) (ξ κ : ℕ) → errorExponent ξ κ ≤ 30 → natAbs (raise Y (ξ + 30) -ℤ y) < 2 ^ (ξ + 30) →
+    natAbs (raise (error v Y ξ κ) (errorExponent ξ κ + 30) -ℤ (raise v 60 -ℤ y)) < 2 ^ (errorExponent ξ κ + 30)
+error-distance v Y y ξ κ l h = rw (error-form v Y ξ κ) (go (errorExponent ξ κ) l (omega (arith, error-exponent-form ξ κ)))
+  where
+    go : (θ : ℕ) → θ ≤ 30 → ξ ≤ θ → natAbs (raise (raise v (30 - θ) -ℤ cut Y (θ - ξ)) (θ + 30) -ℤ (raise v 60 -ℤ y)) < 2 ^ (θ + 30)
+    go θ top low =
+        subst (λ (z : ℤ). natAbs (raise (raise v (30 - θ) -ℤ cut Y (θ - ξ)) (θ + 30) -ℤ (z -ℤ y)) < 2 ^ (θ + 30)) (raised v 30 θ 30 top)
+        (subst (λ (u : ℕ). natAbs ((raise v (30 - θ) -ℤ cut Y (θ - ξ)) *ℤ pos u -ℤ (raise v (30 - θ) *ℤ pos u -ℤ y)) < u)
+        (sym (split (θ + 30) (θ - ξ) (ξ + 30) (omega arith)))
+        (error-core (raise v (30 - θ)) (cut Y (θ - ξ)) Y y (2 ^ (θ - ξ)) (2 ^ (ξ + 30)) (cut-error Y (θ - ξ)) h))

@@ -1,0 +1,70 @@
+-- Bounds of the output and of the error, each in its own unit and at a common scale.
+use mathlib.Core.Path.{_≡_, refl, sym, ap, _∙_}
+use Prim.Native.Nat.{ℕ, _+_, _*_, _-_, _^_, _≤_, _<_, max}
+use native.Mathlib.Omega.{arith}
+use native.Mathlib.Nat.{mul-le-mul-left, mul-le-mul-right, sub-add-eq-max, max-comm, le-max-left, le-max-right}
+use lib.IntN.{ℤ, natAbs}
+use Rattle.laws.specs.Integers.{abs-add, abs-sub}
+use Rattle.laws.specs.Powers.{split, scale-lt, rises, below}
+use Rattle.numbers.specs.BitLength.{bitLength}
+use Rattle.numbers.specs.Cut.{cut, raise}
+use Rattle.numbers.proofs.BitLengthLaws.{bit-length-above}
+use Rattle.numbers.proofs.CutLaws.{cut-le}
+use Rattle.filter.specs.Output.{output, outputExponent}
+use Rattle.filter.specs.Error.{error, errorExponent}
+use Rattle.filter.proofs.OutputLaws.{output-form, output-exponent-form, error-form, error-exponent-form}
+use Rattle.filter.proofs.SideBounds.{raise-abs, cut-scaled}
+
+-- a number cut by d places, at the scale that is d higher
+cut-up : (z : ℤ) (d a c : ℕ) → c ≡ d + a → natAbs (cut z d) * 2 ^ c ≤ natAbs z * 2 ^ a
+cut-up z d a c e = omega (arith, mul-le-mul-right (2 ^ a) (cut-scaled z d), ap (λ (n : ℕ). natAbs (cut z d) * n) (split c d a e))
+
+-- ---- the output
+
+output-parts : (F H : ℤ) (g ν : ℕ) → natAbs (output F H g ν) ≤ natAbs (cut F (ν + 30 - g)) + natAbs (cut H (g - (ν + 30)))
+output-parts F H g ν = rw (output-form F H g ν) (abs-add (cut F (ν + 30 - g)) (cut H (g - (ν + 30))))
+
+-- a cut never grows a magnitude
+pub output-small : (F H : ℤ) (g ν : ℕ) → natAbs (output F H g ν) ≤ natAbs F + natAbs H
+output-small F H g ν = omega (arith, output-parts F H g ν, cut-le F (ν + 30 - g), cut-le H (g - (ν + 30)))
+
+-- |Y|·2^(ξ+30) ≤ 2^ψ·(|F|·2^g + |H|·2^(ν+30))
+pub output-scaled : (F H : ℤ) (ψ g ν : ℕ) →
+    natAbs (output F H g ν) * 2 ^ (outputExponent ψ g ν + 30) ≤ 2 ^ ψ * (natAbs F * 2 ^ g + natAbs H * 2 ^ (ν + 30))
+output-scaled F H ψ g ν = joined (natAbs (cut F (ν + 30 - g))) (natAbs (cut H (g - (ν + 30)))) (2 ^ ψ) (2 ^ max g (ν + 30))
+    (output-parts F H g ν)
+    (cut-up F (ν + 30 - g) g (max g (ν + 30)) (sym (sub-add-eq-max (ν + 30) g ∙ max-comm (ν + 30) g)))
+    (cut-up H (g - (ν + 30)) (ν + 30) (max g (ν + 30)) (sym (sub-add-eq-max g (ν + 30))))
+    (split (outputExponent ψ g ν + 30) ψ (max g (ν + 30)) (output-exponent-form ψ g ν))
+  where
+    joined : {y f h e : ℕ} (a b p c : ℕ) → y ≤ a + b → a * c ≤ f → b * c ≤ h → e ≡ p * c → y * e ≤ p * (f + h)
+    joined {y = y} a b p c l m n e = omega (arith, mul-le-mul-right (p * c) l, mul-le-mul-left p m, mul-le-mul-left p n, ap (λ (x : ℕ). y * x) e)
+
+-- ---- the error
+
+error-parts : (v Y : ℤ) (ξ κ : ℕ) → natAbs (error v Y ξ κ) ≤ natAbs v * 2 ^ (30 - errorExponent ξ κ) + natAbs (cut Y (errorExponent ξ κ - ξ))
+error-parts v Y ξ κ =
+    rw (error-form v Y ξ κ)
+    (omega (arith, abs-sub (raise v (30 - errorExponent ξ κ)) (cut Y (errorExponent ξ κ - ξ)), raise-abs v (30 - errorExponent ξ κ)))
+
+-- |v|·2^(30−θ) < 2^(30−S′), and the rest is at most |Y|
+pub error-small : (v Y : ℤ) (ξ s : ℕ) → 1 ≤ s → errorExponent ξ (s + bitLength (natAbs v)) ≤ 30 → natAbs Y < 2 ^ 29 →
+    natAbs (error v Y ξ (s + bitLength (natAbs v))) < 2 ^ 30
+error-small v Y ξ s h m l = go (errorExponent ξ (s + bitLength (natAbs v))) (error-parts v Y ξ (s + bitLength (natAbs v))) m
+    (omega (arith, error-exponent-form ξ (s + bitLength (natAbs v)), le-max-left (s + bitLength (natAbs v)) ξ))
+  where
+    part : (θ : ℕ) → θ ≤ 30 → s + bitLength (natAbs v) ≤ θ → natAbs v * 2 ^ (30 - θ) < 2 ^ 29
+    part θ m k = omega (arith, scale-lt (30 - θ) (bit-length-above (natAbs v)), split (bitLength (natAbs v) + (30 - θ)) (bitLength (natAbs v)) (30 - θ) refl, rises {a = bitLength (natAbs v) + (30 - θ)} {b = 29} (omega arith))
+
+    go : (θ : ℕ) → natAbs (error v Y ξ (s + bitLength (natAbs v))) ≤ natAbs v * 2 ^ (30 - θ) + natAbs (cut Y (θ - ξ)) → θ ≤ 30 →
+        s + bitLength (natAbs v) ≤ θ → natAbs (error v Y ξ (s + bitLength (natAbs v))) < 2 ^ 30
+    go θ b m k = omega (arith, part θ m k, cut-le Y (θ - ξ))
+
+-- |Z|·2^θ ≤ |v|·2^30 + |Y|·2^ξ
+pub error-scaled : (v Y : ℤ) (ξ κ : ℕ) → errorExponent ξ κ ≤ 30 →
+    natAbs (error v Y ξ κ) * 2 ^ errorExponent ξ κ ≤ natAbs v * 2 ^ 30 + natAbs Y * 2 ^ ξ
+error-scaled v Y ξ κ m = go (errorExponent ξ κ) (error-parts v Y ξ κ) m (omega (arith, error-exponent-form ξ κ, le-max-right κ ξ))
+  where
+    go : (θ : ℕ) → natAbs (error v Y ξ κ) ≤ natAbs v * 2 ^ (30 - θ) + natAbs (cut Y (θ - ξ)) → θ ≤ 30 → ξ ≤ θ →
+        natAbs (error v Y ξ κ) * 2 ^ θ ≤ natAbs v * 2 ^ 30 + natAbs Y * 2 ^ ξ
+    go θ b m k = omega (arith, mul-le-mul-right (2 ^ θ) b, cut-up Y (θ - ξ) ξ θ (omega arith), ap (λ (n : ℕ). natAbs v * n) (below m))

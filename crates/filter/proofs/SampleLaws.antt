@@ -1,0 +1,65 @@
+-- Laws for the functions of a sample.
+use mathlib.Core.Path.{_≡_, refl, sym, ap, _∙_, subst₂}
+use mathlib.Core.Bool.{Bool, true, false, _&&_, cond}
+use mathlib.Core.List.{List}
+use Prim.Native.Nat.{ℕ, suc, _+_, _*_, _-_, _^_, _≤_, _<_}
+use native.Mathlib.Numerals.{add-one}
+use native.Mathlib.Nat.{le-max-left, mul-le-mul-left}
+use native.Mathlib.Omega.{arith}
+use lib.Dec.{eqb}
+use lib.IntN.{ℤ, natAbs}
+use Rattle.laws.specs.Powers.{rises, raise}
+use Rattle.numbers.specs.BitLength.{bitLength}
+use Rattle.numbers.proofs.BitLengthLaws.{bit-length-le, bit-length-above}
+use Rattle.filter.specs.Settings.{isEntry}
+use Rattle.filter.specs.Decision.{decide}
+use Rattle.filter.specs.Error.{errorExponent}
+use Rattle.filter.specs.Sound.{Missable}
+use Rattle.filter.proofs.SymbolLaws.{symbol-below, entry-below, decide-symbol}
+use Rattle.filter.proofs.OutputLaws.{error-exponent-form}
+use Rattle.filter.specs.Side.{allSmall, halved}
+use Rattle.filter.specs.Sample.{settled, settledExponent}
+use Rattle.filter.specs.Calls.{Settled-is, chosen}
+
+-- ---- step 7
+
+pub settled-kept : (ψ : ℕ) (f b : List ℤ) → (allSmall f && allSmall b) ≡ true → Settled-is ψ f b ψ f b
+settled-kept ψ f b e = record { exponent = simp e; ahead = simp e; behind = simp e }
+
+pub settled-halved : (ψ : ℕ) (f b f′ b′ : List ℤ) → (allSmall f && allSmall b) ≡ false → f′ ≡ halved f → b′ ≡ halved b → Settled-is ψ f b (ψ + 1) f′ b′
+settled-halved ψ f b f′ b′ e g h = record { exponent = simp e (add-one ψ); ahead = simp e g; behind = simp e h }
+
+-- ---- steps 4 and 5
+
+pub chosen-below : (r : ℕ) (y : ℤ) (ξ : ℕ) (entry : ℤ) → r ≤ 3 → isEntry r entry ≡ true → natAbs (chosen entry (decide r y ξ)) < 2 ^ 4
+chosen-below r y ξ entry h e = go (eqb (natAbs entry) 0)
+  where
+    top : 2 ^ (r + 1) ≤ 2 ^ 4
+    top = rises {a = r + 1} {b = 4} (omega arith)
+    go : (b : Bool) → natAbs (cond b (decide r y ξ) entry) < 2 ^ 4
+    go true = omega (arith, top, symbol-below r (decide r y ξ) (decide-symbol r y ξ))
+    go false = omega (arith, top, entry-below r entry e)
+
+-- v·2^(30−θ) has room, since θ is at least the bit length and one
+pub missable : (v y : ℤ) (ξ s : ℕ) → natAbs y < 2 ^ 29 → 1 ≤ ξ → ξ ≤ 24 → 1 ≤ s → s ≤ 5 → natAbs v < 2 ^ 4 → Missable v y ξ (s + bitLength (natAbs v))
+missable v y ξ s h l m a b u = record {
+  y-small = h;
+  ξ-least = l;
+  ξ-most = omega arith;
+  κ-most = omega (arith, bit-length-le (natAbs v) 4 u);
+  room = room
+}
+  where
+    room : natAbs v * 2 ^ (30 - errorExponent ξ (s + bitLength (natAbs v))) ≤ 2 ^ 29
+    room =
+        let n = bitLength (natAbs v) in
+        let x = errorExponent ξ (s + n) in
+        let lower : 2 ^ (30 - x) ≤ 2 ^ (30 - (s + n)) = rises (omega (arith, error-exponent-form ξ (s + n), le-max-left (s + n) ξ)) in
+        let top : 2 ^ (30 - s) ≤ 2 ^ 29 = rises {a = 30 - s} {b = 29} (omega arith) in
+        omega (arith, mul-le-mul-left (natAbs v) lower, raise (natAbs v) (30 - s) n (30 - (s + n)) (omega (arith, bit-length-le (natAbs v) 4 u)) (bit-length-above (natAbs v)), top)
+
+-- ---- steps 6 to 8
+
+-- what holds of the weights that were settled holds of weights equal to them
+pub settled-of : {ψ ψ′ : ℕ} {f b f₀ b₀ f′ b′ : List ℤ} → f ≡ f₀ → b ≡ b₀ → Settled-is ψ f b ψ′ f′ b′ → Settled-is ψ f₀ b₀ ψ′ f′ b′
+settled-of {ψ = ψ} {ψ′ = ψ′} {f′ = f′} {b′ = b′} e h s = subst₂ (λ (x y : List ℤ). Settled-is ψ x y ψ′ f′ b′) e h s

@@ -1,0 +1,165 @@
+-- A sound state at a sample: the two sides of it, and its exponents.
+use mathlib.Core.Path.{_≡_, refl, sym, ap, _∙_, subst}
+use mathlib.Core.Bool.{Bool, true, false, cond, _||_}
+use mathlib.Core.List.{map}
+use Prim.Native.Nat.{ℕ, _+_, _*_, _-_, _^_, _≤_, _<_}
+use native.Mathlib.Omega.{arith}
+use native.Mathlib.Nat.{le-refl, le-max-right, max-le}
+use lib.Dec.{eqb}
+use lib.ListN.{length-map}
+use lib.IntN.{ℤ, natAbs}
+use Rattle.laws.specs.Powers as Powers
+use Rattle.laws.specs.Powers.{split, rises, exponent-le, exponent-lt}
+use Rattle.laws.specs.Sums.{Each, each-map, dot}
+use Rattle.numbers.specs.BitLength.{bitLength}
+use Rattle.numbers.specs.Cut.{raise}
+use Rattle.numbers.specs.ScaleCount.{scaleCount}
+use Rattle.numbers.proofs.BitLengthLaws.{bit-length-le, bit-length-above}
+use Rattle.numbers.proofs.ScaleCountLaws.{scale-enough, scale-least}
+use Rattle.filter.specs.Settings.{Settings, scaleForward, scaleBack, isSymbol, isEntry}
+use Rattle.filter.specs.Side.{Side, adapt}
+use Rattle.filter.specs.Sample.{Taps, longest, ν, held, forwardSide, backSide, H, Y, ξ, decision, v, κ, θ, J, newBack}
+use Rattle.filter.specs.Sound.{Fit}
+use Rattle.filter.proofs.ListBounds.{each-weaken, longest-is, longest-above, raise-raise, dot-raise, adapt-raise}
+use Rattle.filter.proofs.OutputLaws.{ξ-form, θ-form}
+use Rattle.filter.proofs.SideBounds.{SideFit, raise-abs}
+use Rattle.filter.proofs.SymbolLaws.{entry-below, symbol-below, symbol-least, decide-symbol}
+
+-- the scale count of 1 to 16 taps
+pub scale-positive : (n : ℕ) → 1 ≤ n → 1 ≤ scaleCount n
+scale-positive n h = exponent-le 1 (scaleCount n) (omega (arith, scale-enough n))
+
+pub scale-most : (n : ℕ) → n ≤ 16 → scaleCount n ≤ 5
+scale-most n h = scale-least n 5 (omega arith)
+
+-- the past symbols as they are make a side too: a symbol v means v·2^(45−45)
+abbrev pub symbolSide : Settings → ℕ → Taps → ℤ → Side
+symbolSide k g t entry = record { weights = t .back; mantissas = t .symbols; scale = scaleBack k + (15 - ν k g t entry); exponent = 45 }
+
+module _ (k : Settings) (g : ℕ) (t : Taps) (entry : ℤ) (h : Fit k g t) where
+  pub scaleForward-least : 1 ≤ scaleForward k
+  scaleForward-least = scale-positive (k .p) (h .within .p-least)
+
+  pub scaleForward-most : scaleForward k ≤ 5
+  scaleForward-most = scale-most (k .p) (h .within .p-most)
+
+  pub scaleBack-least : 1 ≤ scaleBack k
+  scaleBack-least = scale-positive (k .q) (h .within .q-least)
+
+  pub scaleBack-most : scaleBack k ≤ 5
+  scaleBack-most = scale-most (k .q) (h .within .q-most)
+
+  pub longest-most : longest (t .symbols) ≤ k .r + 1
+  longest-most = longest-is (λ (n : ℕ). n ≤ k .r + 1) (omega arith) (t .symbols)
+      (each-weaken (λ (u : ℤ). isEntry (k .r) u ≡ true) (λ (u : ℤ). bitLength (natAbs u) ≤ k .r + 1)
+      (λ u e. bit-length-le (natAbs u) (k .r + 1) (entry-below (k .r) u e)) (t .symbols) (h .symbols-are))
+
+  pub ν-is : ν k g t entry ≡ scaleBack k + longest (t .symbols)
+  unfolding ν
+  ν-is = refl
+
+  pub ν-most : ν k g t entry ≤ 9
+  ν-most = omega (arith, ν-is, scaleBack-most, longest-most, h .within .r-most)
+
+  -- ---- the past symbols
+
+  pub symbols-raised : Each (λ (u : ℤ). natAbs u * 2 ^ (15 - longest (t .symbols)) < 2 ^ 15) (t .symbols)
+  symbols-raised = each-weaken (λ (u : ℤ). natAbs u < 2 ^ longest (t .symbols)) (λ (u : ℤ). natAbs u * 2 ^ (15 - longest (t .symbols)) < 2 ^ 15)
+      (λ u l. Powers.raise (natAbs u) 15 (longest (t .symbols)) (15 - longest (t .symbols)) (omega (arith, longest-most, h .within .r-most)) l)
+      (t .symbols) (longest-above (longest (t .symbols)) (t .symbols) (le-refl (longest (t .symbols))))
+
+  pub held-small : Each (λ (a : ℤ). natAbs a * 2 ^ scaleBack k < 2 ^ 15) (map (held k g t entry) (t .symbols))
+  held-small = each-map (λ (u : ℤ). natAbs u * 2 ^ (15 - longest (t .symbols)) < 2 ^ 15) (λ (a : ℤ). natAbs a * 2 ^ scaleBack k < 2 ^ 15) (held k g t entry)
+      (λ u l. omega (
+        arith,
+        ap (λ (n : ℕ). n * 2 ^ scaleBack k) (raise-abs u (15 - ν k g t entry)),
+        ap (λ (n : ℕ). natAbs u * n) (split (15 - longest (t .symbols)) (15 - ν k g t entry) (scaleBack k) (omega (arith, ν-is, ν-most))),
+      ))
+      (t .symbols) symbols-raised
+
+  pub H-raised : H k g t entry ≡ raise (dot (t .back) (t .symbols)) (15 - ν k g t entry)
+  unfolding H
+  H-raised = dot-raise (15 - ν k g t entry) (t .back) (t .symbols)
+
+  pub newBack-raised : newBack k g t entry ≡ adapt (raise (J k g t entry (backSide k g t entry)) (scaleBack k + (15 - ν k g t entry))) (t .back) (t .symbols)
+  unfolding newBack
+  newBack-raised =
+      adapt-raise (15 - ν k g t entry) (raise (J k g t entry (backSide k g t entry)) (scaleBack k)) (t .back) (t .symbols)
+      ∙ ap (λ (z : ℤ). adapt z (t .back) (t .symbols)) (raise-raise (J k g t entry (backSide k g t entry)) (scaleBack k) (15 - ν k g t entry))
+
+  -- ---- the two sides
+
+  pub forward-fit : SideFit (k .r) (k .p) (forwardSide k g t entry)
+  forward-fit = record {
+    weights-long = h .forward-long;
+    mantissas-long = h .samples-long;
+    weights-small = h .forward-small;
+    mantissas-small = h .samples-small;
+    scale-enough = scale-enough (k .p);
+    exponent-most = omega (arith, h .g-most);
+  }
+
+  pub back-fit : SideFit (k .r) (k .q) (backSide k g t entry)
+  back-fit = record {
+    weights-long = h .back-long;
+    mantissas-long = length-map (t .symbols) (held k g t entry) ∙ h .symbols-long;
+    weights-small = h .back-small;
+    mantissas-small = held-small;
+    scale-enough = scale-enough (k .q);
+    exponent-most = omega (arith, ν-is, longest-most);
+  }
+
+  pub symbol-fit : SideFit (k .r) (k .q) (symbolSide k g t entry)
+  symbol-fit = record {
+    weights-long = h .back-long;
+    mantissas-long = h .symbols-long;
+    weights-small = h .back-small;
+    mantissas-small = subst (λ (s : ℕ). Each (λ (u : ℤ). natAbs u * 2 ^ s < 2 ^ 15) (t .symbols)) (sym symbol-scale) symbols-raised;
+    scale-enough = omega (arith, h .within .q-most, rises {a = 11} {b = scaleBack k + (15 - ν k g t entry)} (omega (arith, symbol-scale, longest-most, h .within .r-most)));
+    exponent-most = omega (arith, symbol-scale, longest-most, h .within .r-most);
+  }
+    where
+      symbol-scale : scaleBack k + (15 - ν k g t entry) ≡ 15 - longest (t .symbols)
+      symbol-scale = omega (arith, ν-is, ν-most)
+
+  -- ---- v and the exponents
+
+  pub ξ-least : 1 ≤ ξ k g t entry
+  ξ-least = omega (arith, ξ-form k g t entry, le-max-right g (ν k g t entry + 30), ν-is, scaleBack-least)
+
+  pub ξ-most : ξ k g t entry ≤ t .ψ + 9
+  ξ-most = omega (
+    arith,
+    ξ-form k g t entry,
+    max-le {a = g} {b = ν k g t entry + 30} {k = 39} (omega (arith, h .g-most, h .within .r-most, scaleForward-most)) (omega (arith, ν-most)),
+  )
+
+  module _ (e : isEntry (k .r) entry ≡ true) where
+    pub v-symbol : isSymbol (k .r) (v k g t entry) ≡ true
+    unfolding v decision
+    v-symbol = go (eqb (natAbs entry) 0) e
+      where
+        go : (b : Bool) → (b || isSymbol (k .r) entry) ≡ true → isSymbol (k .r) (cond b (decision k g t entry) entry) ≡ true
+        go true s = decide-symbol (k .r) (Y k g t entry) (ξ k g t entry)
+        go false s = s
+
+    pub v-below : natAbs (v k g t entry) < 2 ^ (k .r + 1)
+    v-below = symbol-below (k .r) (v k g t entry) v-symbol
+
+    pub κ-least : 2 ≤ κ k g t entry
+    unfolding κ
+    κ-least = omega (
+      arith,
+      scaleBack-least,
+      exponent-lt 0 (bitLength (natAbs (v k g t entry))) (omega (arith, symbol-least (k .r) (v k g t entry) v-symbol, bit-length-above (natAbs (v k g t entry)))),
+    )
+
+    pub κ-most : κ k g t entry ≤ 9
+    unfolding κ
+    κ-most = omega (arith, scaleBack-most, bit-length-le (natAbs (v k g t entry)) (k .r + 1) v-below, h .within .r-most)
+
+    pub θ-least : 1 ≤ θ k g t entry
+    θ-least = omega (arith, θ-form k g t entry, le-max-right (κ k g t entry) (ξ k g t entry), ξ-least)
+
+    pub θ-most : θ k g t entry ≤ t .ψ + 9
+    θ-most = omega (arith, θ-form k g t entry, max-le {a = κ k g t entry} {b = ξ k g t entry} {k = t .ψ + 9} (omega (arith, κ-most)) ξ-most)

@@ -1,0 +1,131 @@
+-- Bounds of one side, over its lists: both filters are one filter.
+use mathlib.Core.Path.{_≡_, refl, sym, ap, _∙_}
+use mathlib.Core.Bool.{Bool, true, false}
+use mathlib.Core.List.{List, [], _∷_}
+use Prim.Native.Nat.{ℕ, _+_, _*_, _^_, _≤_, _<_}
+use native.Mathlib.Omega.{arith}
+use native.Mathlib.Nat.{le-refl, mul-le-mul-left, mul-le-mul-right, div-mul-le-self}
+use borrow.Author.Tests.{ltb-true}
+use lib.Dec.{ltb}
+use lib.ListN.{length}
+use lib.IntN.{ℤ, pos, natAbs, _*ℤ_}
+use Rattle.laws.specs.Integers.{abs-mul, abs-add}
+use Rattle.laws.specs.Lists.{and-left, and-right}
+use Rattle.laws.specs.Powers.{split3, rises, cancel-le}
+use Rattle.laws.specs.Sums.{Each, each-map, dot-bound}
+use Rattle.numbers.specs.Cut.{cut, raise}
+use Rattle.numbers.proofs.CutLaws.{cut-abs, cut-lt}
+use Rattle.filter.specs.Settings.{halvingLimit}
+use Rattle.filter.specs.Side.{Side, sum, adapt, adapted, learnt, allSmall, halved, largest, magnitudes}
+use Rattle.filter.specs.Sample.{settled}
+use Rattle.filter.specs.Sound.{Small, Summable, Adaptable}
+use Rattle.filter.proofs.ListBounds.{each-weaken, largest-magnitude, largest-above}
+
+-- the facts of a side of n taps
+pub record SideFit (r n : ℕ) (f : Side) : Type 0 where
+  pub weights-long : length (f .weights) ≡ n
+  pub mantissas-long : length (f .mantissas) ≡ n
+  pub weights-small : Each Small (f .weights)
+  pub mantissas-small : Each (λ (a : ℤ). natAbs a * 2 ^ f .scale < 2 ^ 15) (f .mantissas)
+  pub scale-enough : 2 * n ≤ 2 ^ f .scale
+  pub exponent-most : f .exponent ≤ r + 31 + f .scale
+
+-- |z·2^k| and |T(z / 2^k)|
+pub raise-abs : (z : ℤ) (k : ℕ) → natAbs (raise z k) ≡ natAbs z * 2 ^ k
+raise-abs z k = abs-mul z (pos (2 ^ k))
+
+pub cut-scaled : (z : ℤ) (k : ℕ) → natAbs (cut z k) * 2 ^ k ≤ natAbs z
+cut-scaled z k = omega (arith, div-mul-le-self (natAbs z) (2 ^ k), ap (λ (n : ℕ). n * 2 ^ k) (cut-abs z k))
+
+-- ---- new weights
+
+adapt-each : (K : ℤ) (m : ℕ) → natAbs K * m < 2 ^ 44 → (w a : List ℤ) → Each Small w → Each (λ (x : ℤ). natAbs x ≤ m) a →
+    Each (λ (x : ℤ). natAbs x < 2 ^ 15) (adapt K w a)
+unfolding adapt
+adapt-each K m b [] a h g = tt
+adapt-each K m b (w ∷ ws) [] h g = each-weaken Small (λ (x : ℤ). natAbs x < 2 ^ 15) (λ x l. omega arith) (w ∷ ws) h
+adapt-each K m b (w ∷ ws) (x ∷ a) h g = (gained, adapt-each K m b ws a (h .1) (g .1))
+  where
+    gain : natAbs (cut (K *ℤ x) 30) < 2 ^ 14
+    gain = cut-lt (K *ℤ x) 44 14 30 refl (omega (arith, abs-mul K x, mul-le-mul-left (natAbs K) (g .0)))
+
+    gained : natAbs (adapted K w x) < 2 ^ 15
+    gained = omega (arith, abs-add w (cut (K *ℤ x) 30), gain, h .0)
+
+-- each gain is below 2^14, so each new weight is below 2^15
+pub adapt-small : (K : ℤ) (w a : List ℤ) → Adaptable K w a → Each (λ (x : ℤ). natAbs x < 2 ^ 15) (adapt K w a)
+adapt-small K w a f = adapt-each K (largest (magnitudes a)) (f .bound) w a (f .small) (largest-above (largest (magnitudes a)) a (le-refl (largest (magnitudes a))))
+
+-- one halving makes them small again
+pub halved-small : (w : List ℤ) → Each (λ (x : ℤ). natAbs x < 2 ^ 15) w → Each Small (halved w)
+halved-small w h = each-map (λ (x : ℤ). natAbs x < 2 ^ 15) Small (λ (x : ℤ). cut x 1) (λ x l. cut-lt x 15 14 1 refl l) w h
+
+pub all-small : (w : List ℤ) → allSmall w ≡ true → Each Small w
+all-small [] e = tt
+all-small (x ∷ w) e = (
+  ltb-true (natAbs x) halvingLimit (and-left (ltb (natAbs x) halvingLimit) (allSmall w) e),
+  all-small w (and-right (ltb (natAbs x) halvingLimit) (allSmall w) e),
+)
+
+-- new weights are kept if they are small, and halved if not
+pub settled-small : (b : Bool) (w : List ℤ) → (b ≡ true → Each Small w) → Each (λ (x : ℤ). natAbs x < 2 ^ 15) w → Each Small (settled b w)
+settled-small true w h g = h refl
+settled-small false w h g = halved-small w g
+
+-- ---- the sum and the update of a side
+
+module _ {r n : ℕ} (f : Side) (h : SideFit r n f) where
+  pub mantissas-largest : largest (magnitudes (f .mantissas)) * 2 ^ f .scale < 2 ^ 15
+  mantissas-largest = largest-magnitude (λ (m : ℕ). m * 2 ^ f .scale < 2 ^ 15) (omega arith) (f .mantissas) (h .mantissas-small)
+
+  -- |sum|·2^s ≤ n·16383·(2^15 − 1)
+  sum-most : natAbs (sum f) * 2 ^ f .scale ≤ n * (16383 * 32767)
+  sum-most = go (largest (magnitudes (f .mantissas))) mantissas-largest
+      (dot-bound 16383 (largest (magnitudes (f .mantissas))) (f .weights) (f .mantissas)
+      (each-weaken Small (λ (x : ℤ). natAbs x ≤ 16383) (λ x l. omega arith) (f .weights) (h .weights-small))
+      (largest-above (largest (magnitudes (f .mantissas))) (f .mantissas) (le-refl (largest (magnitudes (f .mantissas))))))
+    where
+      go : (m : ℕ) → m * 2 ^ f .scale < 2 ^ 15 → natAbs (sum f) ≤ length (f .weights) * (16383 * m) → natAbs (sum f) * 2 ^ f .scale ≤ n * (16383 * 32767)
+      go m b l = omega (arith, mul-le-mul-right (2 ^ f .scale) l, ap (λ (k : ℕ). k * (m * 2 ^ f .scale)) (h .weights-long), mul-le-mul-left n b)
+
+  pub sum-scaled : natAbs (sum f) * 2 ^ f .scale ≤ n * 2 ^ 29
+  sum-scaled = omega (arith, sum-most)
+
+  -- the same at a scale as high as the exponent may be
+  pub sum-raised : (x : ℕ) → x ≤ r + 31 + f .scale → natAbs (sum f) * 2 ^ x ≤ n * (2 ^ r * 2 ^ 60)
+  sum-raised x l = omega (
+    arith,
+    mul-le-mul-left (natAbs (sum f)) (rises l),
+    ap (λ (m : ℕ). natAbs (sum f) * m) (split3 (r + 31 + f .scale) r 31 (f .scale) (omega arith)),
+    mul-le-mul-right (2 ^ r * 2 ^ 31) sum-scaled,
+  )
+
+  pub sum-small : natAbs (sum f) < 2 ^ 28
+  sum-small = omega (arith, cancel-le {m = 2 * natAbs (sum f)} {n = 16383 * 32767} (f .scale) (omega (arith, sum-most, h .scale-enough)))
+
+  pub summable : Summable (f .weights) (f .mantissas)
+  summable = record {
+    same-length = h .weights-long ∙ sym (h .mantissas-long);
+    small = h .weights-small;
+    bound = go (largest (magnitudes (f .mantissas))) mantissas-largest;
+  }
+    where
+      go : (m : ℕ) → m * 2 ^ f .scale < 2 ^ 15 → length (f .weights) * (2 ^ 14 * m) < 2 ^ 31
+      go m b = omega (arith, mul-le-mul-right m (h .scale-enough), ap (λ (l : ℕ). l * m) (h .weights-long))
+
+  pub adaptable : (J : ℤ) → natAbs J ≤ 2 ^ 29 → Adaptable (raise J (f .scale)) (f .weights) (f .mantissas)
+  adaptable J j = record {
+    same-length = h .weights-long ∙ sym (h .mantissas-long);
+    small = h .weights-small;
+    bound = go (largest (magnitudes (f .mantissas))) mantissas-largest;
+  }
+    where
+      go : (m : ℕ) → m * 2 ^ f .scale < 2 ^ 15 → natAbs (raise J (f .scale)) * m < 2 ^ 44
+      go m b = omega (arith, ap (λ (l : ℕ). l * m) (raise-abs J (f .scale)), mul-le-mul-right (m * 2 ^ f .scale) j)
+
+  pub learnt-small : (J : ℤ) → natAbs J ≤ 2 ^ 29 → Each (λ (x : ℤ). natAbs x < 2 ^ 15) (learnt J f)
+  learnt-small J j = adapt-small (raise J (f .scale)) (f .weights) (f .mantissas) (adaptable J j)
+
+  -- the places of M·Z never run below 17
+  pub places-least : (ψ θ : ℕ) → r ≤ 3 → θ ≤ ψ + 9 → f .exponent + θ + 17 ≤ 60 + ψ + f .scale
+  places-least ψ θ l e = omega (arith, h .exponent-most)

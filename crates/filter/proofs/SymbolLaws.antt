@@ -1,0 +1,70 @@
+-- Symbols and entries as bounds, and the decision is a symbol.
+use mathlib.Core.Path.{_≡_, refl, ap, ap₂, _∙_}
+use mathlib.Core.Bool.{Bool, true, false, cond, _&&_, _||_}
+use Prim.Native.Nat.{ℕ, suc, _+_, _*_, _-_, _%_, _^_, _≤_, _<_}
+use native.Mathlib.Omega.{arith}
+use native.Mathlib.Nat.{le-refl}
+use borrow.Author.Tests.{leb-true, le-leb, lt-ltb, eqb-true, eq-eqb}
+use lib.Dec.{leb, eqb}
+use lib.IntN.{ℤ, pos, negsuc, negℤ, natAbs, _+ℤ_, _*ℤ_}
+use lib.Signed.{ltZ, _≤ℤ_}
+use Rattle.laws.specs.Integers.{abs-neg}
+use Rattle.laws.specs.Linear.{of-le, by-abs, atom, nat, neg}
+use Rattle.laws.specs.Lists.{and-left, and-right}
+use Rattle.laws.specs.Machine.{lt-refuted}
+use Rattle.laws.specs.Powers.{split, positive}
+use Rattle.filter.specs.Settings.{isSymbol, isEntry}
+use Rattle.filter.specs.Decision.{floor, clip, topSymbol, decide}
+
+-- a symbol is below 2^(r+1) in magnitude
+pub symbol-below : (r : ℕ) (v : ℤ) → isSymbol r v ≡ true → natAbs v < 2 ^ (r + 1)
+symbol-below r v e = omega (arith, leb-true (natAbs v) (2 ^ (r + 1) - 1) (and-right (eqb (natAbs v % 2) 1) (leb (natAbs v) (2 ^ (r + 1) - 1)) e), positive (r + 1))
+
+-- and not 0
+pub symbol-odd : (r : ℕ) (v : ℤ) → isSymbol r v ≡ true → natAbs v % 2 ≡ 1
+symbol-odd r v e = eqb-true (natAbs v % 2) 1 (and-left (eqb (natAbs v % 2) 1) (leb (natAbs v) (2 ^ (r + 1) - 1)) e)
+
+pub symbol-least : (r : ℕ) (v : ℤ) → isSymbol r v ≡ true → 1 ≤ natAbs v
+symbol-least r v e = omega (arith, symbol-odd r v e)
+
+pub entry-below : (r : ℕ) (v : ℤ) → isEntry r v ≡ true → natAbs v < 2 ^ (r + 1)
+entry-below r v e = go (eqb (natAbs v) 0) refl e
+  where
+    go : (b : Bool) → eqb (natAbs v) 0 ≡ b → (b || isSymbol r v) ≡ true → natAbs v < 2 ^ (r + 1)
+    go true q h = omega (arith, eqb-true (natAbs v) 0 q, positive (r + 1))
+    go false q h = symbol-below r v h
+
+-- ---- the decision
+
+symbol-of : (r : ℕ) (v : ℤ) → natAbs v % 2 ≡ 1 → natAbs v ≤ 2 ^ (r + 1) - 1 → isSymbol r v ≡ true
+symbol-of r v o l = ap₂ (λ (x y : Bool). x && y) (eq-eqb (natAbs v % 2) 1 o) (le-leb (natAbs v) (2 ^ (r + 1) - 1) l)
+
+top-odd : (r : ℕ) → (2 ^ (r + 1) - 1) % 2 ≡ 1
+top-odd r = omega (arith, split (r + 1) r 1 refl, positive r)
+
+odd : (z : ℤ) → natAbs (pos 2 *ℤ z +ℤ pos 1) % 2 ≡ 1
+odd (pos n) = omega arith
+odd (negsuc n) = omega (arith, negative (2 * suc n) (2 * n) (omega arith))
+  where
+    negative : (m l : ℕ) → m ≡ suc (suc l) → natAbs (negℤ (pos m) +ℤ pos 1) ≡ suc l
+    negative m l e = ap (λ (m : ℕ). natAbs (negℤ (pos m) +ℤ pos 1)) e ∙ simp (lt-ltb 1 (suc (suc l)) (omega arith)) (omega arith)
+
+-- the ends are symbols, and so is an odd number between them
+clip-symbol : (r : ℕ) (d : ℤ) → natAbs d % 2 ≡ 1 → isSymbol r (clip (topSymbol r) d) ≡ true
+clip-symbol r d o = high (ltZ (topSymbol r) d) refl
+  where
+    between : d ≤ℤ topSymbol r → negℤ (topSymbol r) ≤ℤ d → natAbs d ≤ 2 ^ (r + 1) - 1
+    between h l = by-abs d (atom d)
+        (omega (arith, of-le (atom d) (nat (2 ^ (r + 1) - 1)) h, of-le (neg (nat (2 ^ (r + 1) - 1))) (atom d) l))
+
+    low : (b : Bool) → ltZ d (negℤ (topSymbol r)) ≡ b → d ≤ℤ topSymbol r → isSymbol r (cond b (negℤ (topSymbol r)) d) ≡ true
+    low true e h = symbol-of r (negℤ (topSymbol r)) (rw (abs-neg (topSymbol r)) (top-odd r)) (omega (arith, abs-neg (topSymbol r)))
+    low false e h = symbol-of r d o (between h (lt-refuted e))
+
+    high : (b : Bool) → ltZ (topSymbol r) d ≡ b → isSymbol r (cond b (topSymbol r) (cond (ltZ d (negℤ (topSymbol r))) (negℤ (topSymbol r)) d)) ≡ true
+    high true e = symbol-of r (topSymbol r) (top-odd r) (le-refl (2 ^ (r + 1) - 1))
+    high false e = low (ltZ d (negℤ (topSymbol r))) refl (lt-refuted e)
+
+pub decide-symbol : (r : ℕ) (Y : ℤ) (ξ : ℕ) → isSymbol r (decide r Y ξ) ≡ true
+unfolding decide
+decide-symbol r Y ξ = clip-symbol r (pos 2 *ℤ floor Y (31 - ξ) +ℤ pos 1) (odd (floor Y (31 - ξ)))

@@ -1,0 +1,127 @@
+-- What the functions of a sample ask and promise, as records with named parts.
+use mathlib.Core.Path.{_≡_}
+use mathlib.Core.Bool.{Bool, true, _&&_, cond}
+use mathlib.Core.List.{List}
+use Prim.Native.Nat.{ℕ, _+_, _-_, _*_, _^_, _≤_, _<_}
+use lib.Dec.{eqb}
+use lib.IntN.{ℤ, pos, natAbs, _*ℤ_}
+use Rattle.laws.specs.Sums.{dot}
+use Rattle.numbers.specs.BitLength.{bitLength}
+use Rattle.numbers.specs.Cut.{cut, raise}
+use Rattle.filter.specs.Settings.{Settings, isEntry, scaleForward, scaleBack}
+use Rattle.filter.specs.Side.{adapt, allSmall, push}
+use Rattle.filter.specs.Output.{output, outputExponent}
+use Rattle.filter.specs.Decision.{decide}
+use Rattle.filter.specs.Error.{error, errorExponent}
+use Rattle.filter.specs.Sample.{Taps, longest, settled, settledExponent, Y, ξ, decision, Z, θ, next}
+use Rattle.filter.specs.Sound.{Fit, Summable, Adaptable, Joinable}
+use Rattle.filter.specs.declared.sample.Settings as Declared
+use Rattle.filter.specs.declared.sample.Heard.{Heard}
+use Rattle.filter.specs.declared.sample.Judged.{Judged}
+use Rattle.filter.specs.declared.sample.Taken.{Taken}
+
+abbrev pub settingsOf : Declared.Settings → Settings
+settingsOf k = record { p = k .p; q = k .q; N = k .n; r = k .r; L = k .l; M = k .m }
+
+abbrev pub tapsOf : List ℤ → List ℤ → List ℤ → List ℤ → ℕ → Taps
+tapsOf forward back samples symbols ψ = record { forward = forward; back = back; samples = samples; symbols = symbols; ψ = ψ }
+
+-- ---- steps 1 to 3
+
+pub record Audible (sb g ψ : ℕ) (forward back samples symbols : List ℤ) : Type 0 where
+  pub forward-sum : Summable forward samples
+  pub back-sum : Summable back symbols
+  pub ν-most : sb + longest symbols ≤ 9
+  pub room : natAbs (dot back symbols) * 2 ^ (15 - (sb + longest symbols)) < 2 ^ 28
+  pub joinable : Joinable (dot forward samples) (raise (dot back symbols) (15 - (sb + longest symbols))) g (sb + longest symbols) ψ
+
+pub record Heard-is (sb g ψ : ℕ) (forward back samples symbols : List ℤ) (h : Heard) : Type 0 where
+  pub nu : h .nu ≡ sb + longest symbols
+  pub y : h .y ≡ output (dot forward samples) (raise (dot back symbols) (15 - (sb + longest symbols))) g (sb + longest symbols)
+  pub xi : h .xi ≡ outputExponent ψ g (sb + longest symbols)
+
+-- ---- steps 4 and 5
+
+pub record Decidable (r sb : ℕ) (y : ℤ) (ξ : ℕ) (entry : ℤ) : Type 0 where
+  pub r-most : r ≤ 3
+  pub scale-least : 1 ≤ sb
+  pub scale-most : sb ≤ 5
+  pub y-small : natAbs y < 2 ^ 29
+  pub ξ-least : 1 ≤ ξ
+  pub ξ-most : ξ ≤ 24
+  pub entry-is : isEntry r entry ≡ true
+
+abbrev pub chosen : ℤ → ℤ → ℤ
+chosen entry d = cond (eqb (natAbs entry) 0) d entry
+
+pub record Judged-is (r sb : ℕ) (y : ℤ) (ξ : ℕ) (entry : ℤ) (j : Judged) : Type 0 where
+  pub decision : j .decision ≡ decide r y ξ
+  pub v : j .v ≡ chosen entry (decide r y ξ)
+  pub z : j .z ≡ error (chosen entry (decide r y ξ)) y ξ (sb + bitLength (natAbs (chosen entry (decide r y ξ))))
+  pub theta : j .theta ≡ errorExponent ξ (sb + bitLength (natAbs (chosen entry (decide r y ξ))))
+
+-- ---- step 6
+
+-- J of a side with this scale and exponent
+abbrev pub factorOf : ℕ → ℤ → ℕ → ℕ → ℕ → ℕ → ℤ
+factorOf m z ψ θ scale exponent = cut (pos m *ℤ z) (60 + ψ + scale - (exponent + θ))
+
+-- the new weights of a side whose data are raised by some places more
+abbrev pub taught : ℕ → ℤ → ℕ → ℕ → ℕ → ℕ → ℕ → List ℤ → List ℤ → List ℤ
+taught m z ψ θ scale exponent more w a = adapt (raise (factorOf m z ψ θ scale exponent) (scale + more)) w a
+
+pub record Teachable (m : ℕ) (z : ℤ) (ψ θ scale exponent more : ℕ) (w a : List ℤ) : Type 0 where
+  pub z-small : natAbs z < 2 ^ 30
+  pub ψ-most : ψ ≤ 15
+  pub scale-most : scale ≤ 5
+  pub more-most : more ≤ 15
+  pub places : exponent + θ ≤ 60 + ψ + scale
+  pub factor-small : natAbs (factorOf m z ψ θ scale exponent) ≤ 2 ^ 29
+  pub adaptable : Adaptable (raise (factorOf m z ψ θ scale exponent) (scale + more)) w a
+
+-- ---- step 7
+
+pub record Settled-is (ψ : ℕ) (forward back : List ℤ) (ψ′ : ℕ) (forward′ back′ : List ℤ) : Type 0 where
+  pub exponent : ψ′ ≡ settledExponent (allSmall forward && allSmall back) ψ
+  pub ahead : forward′ ≡ settled (allSmall forward && allSmall back) forward
+  pub behind : back′ ≡ settled (allSmall forward && allSmall back) back
+
+-- ---- steps 6 to 8
+
+pub record Changeable (m s sb g ψ : ℕ) (h : Heard) (j : Judged) (forward back samples symbols : List ℤ) : Type 0 where
+  pub ν-most : h .nu ≤ 9
+  pub ahead : Teachable m (j .z) ψ (j .theta) s g 0 forward samples
+  pub behind : Teachable m (j .z) ψ (j .theta) sb (h .nu + 30) (15 - h .nu) back symbols
+
+-- the new weights before step 7
+abbrev pub taughtForward : ℕ → ℕ → ℕ → ℕ → Judged → List ℤ → List ℤ → List ℤ
+taughtForward m s g ψ j forward samples = taught m (j .z) ψ (j .theta) s g 0 forward samples
+
+abbrev pub taughtBack : ℕ → ℕ → ℕ → ℕ → Judged → List ℤ → List ℤ → List ℤ
+taughtBack m sb ν ψ j back symbols = taught m (j .z) ψ (j .theta) sb (ν + 30) (15 - ν) back symbols
+
+pub record Changed-is (m s sb g ψ : ℕ) (h : Heard) (j : Judged) (forward back samples symbols : List ℤ) (ψ′ : ℕ) (forward′ back′ symbols′ : List ℤ) : Type 0 where
+  pub settled-is : Settled-is ψ (taughtForward m s g ψ j forward samples) (taughtBack m sb (h .nu) ψ j back symbols) ψ′ forward′ back′
+  pub pushed : symbols′ ≡ push (j .v) symbols
+
+-- ---- the sample as a whole
+
+abbrev pub takenOf : Heard → Judged → ℕ → Taken
+takenOf h j ψ = record { y = h .y; xi = h .xi; decision = j .decision; z = j .z; theta = j .theta; psi = ψ }
+
+pub record Ready (k : Settings) (s sb g : ℕ) (t : Taps) (entry : ℤ) : Type 0 where
+  pub fit : Fit k g t
+  pub entry-is : isEntry (k .r) entry ≡ true
+  pub forward-scale : s ≡ scaleForward k
+  pub back-scale : sb ≡ scaleBack k
+
+pub record Taken-is (k : Settings) (g : ℕ) (t : Taps) (entry : ℤ) (r : Taken) (forward back symbols : List ℤ) : Type 0 where
+  pub y : r .y ≡ Y k g t entry
+  pub xi : r .xi ≡ ξ k g t entry
+  pub decision-is : r .decision ≡ decision k g t entry
+  pub z : r .z ≡ Z k g t entry
+  pub theta : r .theta ≡ θ k g t entry
+  pub psi : r .psi ≡ next k g t entry .ψ
+  pub forward-is : forward ≡ next k g t entry .forward
+  pub back-is : back ≡ next k g t entry .back
+  pub symbols-are : symbols ≡ next k g t entry .symbols

@@ -1,0 +1,157 @@
+// One sample.
+ghost use mathlib.Core.Path.{_≡_};
+ghost use mathlib.Core.Bool.{_&&_};
+ghost use Prim.Native.Nat.{_^_, _<_, _≤_};
+ghost use lib.IntN.{natAbs};
+ghost use Rattle.filter.specs.Side.{allSmall};
+ghost use Rattle.filter.specs.Calls.{Audible, Heard-is, Decidable, Judged-is, chosen, Teachable, taught, Settled-is, Changeable, Changed-is, takenOf, Ready, Taken-is, settingsOf, tapsOf};
+
+// The settings of a station.
+pub struct Settings {
+    pub p: u32,
+    pub q: u32,
+    pub n: u32,
+    pub r: u32,
+    pub l: u32,
+    pub m: u32,
+}
+
+// What steps 1 to 3 give.
+pub struct Heard {
+    pub nu: u32,
+    pub y: i32,
+    pub xi: u32,
+}
+
+// What steps 4 and 5 give.
+pub struct Judged {
+    pub decision: i16,
+    pub v: i16,
+    pub z: i32,
+    pub theta: u32,
+}
+
+// What a sample hands out, and the new ψ.
+pub struct Taken {
+    pub y: i32,
+    pub xi: u8,
+    pub decision: i8,
+    pub z: i32,
+    pub theta: u8,
+    pub psi: u32,
+}
+
+// Steps 1 to 3: ν, Y and ξ.
+pub fn hear(sb: u32, g: u32, psi: u32, forward: &[i16], back: &[i16], samples: &[i16], symbols: &[i16]) -> Heard
+    requires { ⌜ Audible sb g psi (now forward) (now back) (now samples) (now symbols) ⌝ }
+    ensures { λ r. ⌜ Heard-is sb g psi (now (forward .entry)) (now (back .entry)) (now (samples .entry)) (now (symbols .entry)) r ⌝ }
+{
+    let nu = sb + super::side::longest(symbols);
+    let f = super::side::sum(forward, samples);
+    let h = super::side::raised(super::side::sum(back, symbols), 15 - nu);
+    let o = super::output::output(f, h, g, nu, psi);
+    Heard {
+        nu: nu,
+        y: o.y,
+        xi: o.xi,
+    }
+}
+
+// Step 5: the training entry, or the decision where that is 0.
+fn chosen(entry: i16, d: i16) -> i16
+    ensures { λ r. ⌜ r ≡ chosen entry d ⌝ }
+{
+    if entry == 0 { d } else { entry }
+}
+
+// Steps 4 and 5: the decision, v, Z and θ.
+pub fn judge(r: u32, sb: u32, y: i32, xi: u32, entry: i16) -> Judged
+    requires { ⌜ Decidable r sb y xi entry ⌝ }
+    ensures { λ j. ⌜ Judged-is r sb y xi entry j ⌝ }
+{
+    let d = super::decision::decide(y, xi, r);
+    let v = chosen(entry, d);
+    let kappa = sb + numbers::bit_length::signed_bit_length(v as i64);
+    let e = super::error::error(v, y, xi, kappa);
+    Judged {
+        decision: d,
+        v: v,
+        z: e.z,
+        theta: e.theta,
+    }
+}
+
+// Step 6: the new weights of a side whose data are raised by some places more.
+pub fn learn(w: &mut [i16], a: &[i16], m: u32, z: i32, psi: u32, theta: u32, scale: u32, exponent: u32, more: u32)
+    requires { ⌜ Teachable m z psi theta scale exponent more (now w) (now a) ⌝ }
+    ensures { λ _. ⌜ now (w .exit) ≡ taught m z psi theta scale exponent more (now (w .entry)) (now (a .entry)) ⌝ }
+{
+    let j = super::factor::factor(m, z, 60 + psi + scale - (exponent + theta));
+    let k = numbers::cut::raise(j, scale + more);
+    super::side::adapt(w, a, k);
+}
+
+// Step 7: whether no weight of either side has reached the halving limit.
+fn both_small(forward: &[i16], back: &[i16]) -> bool
+    ensures { λ r. ⌜ r ≡ (allSmall (now (forward .entry)) && allSmall (now (back .entry))) ⌝ }
+{
+    if super::side::all_small(forward) {
+        super::side::all_small(back)
+    } else {
+        false
+    }
+}
+
+// Step 7: the new ψ.
+pub fn settle(forward: &mut [i16], back: &mut [i16], psi: u32) -> u32
+    requires { ⌜ psi ≤ 15 ⌝ }
+    ensures { λ r. ⌜ Settled-is psi (now (forward .entry)) (now (back .entry)) r (now (forward .exit)) (now (back .exit)) ⌝ }
+{
+    if both_small(forward, back) {
+        return psi;
+    }
+    super::side::halve(forward);
+    super::side::halve(back);
+    psi + 1
+}
+
+// Steps 6 to 8: the new weights and symbols, and the new ψ.
+pub fn change(m: u32, s: u32, sb: u32, g: u32, psi: u32, h: Heard, j: Judged, forward: &mut [i16], back: &mut [i16], samples: &[i16], symbols: &mut [i16]) -> u32
+    requires { ⌜ Changeable m s sb g psi h j (now forward) (now back) (now samples) (now symbols) ⌝ }
+    ensures { λ r. ⌜ Changed-is m s sb g psi h j (now (forward .entry)) (now (back .entry)) (now (samples .entry)) (now (symbols .entry)) r (now (forward .exit)) (now (back .exit)) (now (symbols .exit)) ⌝ }
+{
+    let nu = h.nu;
+    let z = j.z;
+    let theta = j.theta;
+    learn(forward, samples, m, z, psi, theta, s, g, 0);
+    learn(back, symbols, m, z, psi, theta, sb, nu + 30, 15 - nu);
+    let next = settle(forward, back, psi);
+    super::side::push(symbols, j.v);
+    next
+}
+
+// What is handed out, in its final widths.
+fn hand_out(h: Heard, j: Judged, psi: u32) -> Taken
+    requires { ⌜ (h .xi ≤ 24) × (j .theta ≤ 24) × (natAbs (j .decision) < 2 ^ 4) ⌝ }
+    ensures { λ r. ⌜ r ≡ takenOf h j psi ⌝ }
+{
+    Taken {
+        y: h.y,
+        xi: h.xi as u8,
+        decision: j.decision as i8,
+        z: j.z,
+        theta: j.theta as u8,
+        psi: psi,
+    }
+}
+
+// Steps 1 to 8.
+pub fn step(k: Settings, s: u32, sb: u32, g: u32, psi: u32, entry: i16, forward: &mut [i16], back: &mut [i16], samples: &[i16], symbols: &mut [i16]) -> Taken
+    requires { ⌜ Ready (settingsOf k) s sb g (tapsOf (now forward) (now back) (now samples) (now symbols) psi) entry ⌝ }
+    ensures { λ r. ⌜ Taken-is (settingsOf k) g (tapsOf (now (forward .entry)) (now (back .entry)) (now (samples .entry)) (now (symbols .entry)) psi) entry r (now (forward .exit)) (now (back .exit)) (now (symbols .exit)) ⌝ }
+{
+    let h = hear(sb, g, psi, forward, back, samples, symbols);
+    let j = judge(k.r, sb, h.y, h.xi, entry);
+    let next = change(k.m, s, sb, g, psi, h, j, forward, back, samples, symbols);
+    hand_out(h, j, next)
+}
