@@ -1,4 +1,4 @@
--- A block on a sound state: every sample of it is fit, and what it leaves is sound. The facts of one sample are taken as given.
+-- A block on a sound state: every sample of it is fit, and what it leaves is sound.
 use mathlib.Core.Path.{_≡_, _∙_}
 use mathlib.Core.Bool.{true}
 use mathlib.Core.List.{[], _∷_}
@@ -14,6 +14,9 @@ use Rattle.filter.specs.Settings.{Settings, exponentLimit, isEntry}
 use Rattle.filter.specs.Sample.{Taps, v, small, newForward, newBack, next}
 use Rattle.filter.specs.Block.{Block, Memory, newb, newB, g, stored, old, start, entered, after, at, goes, left}
 use Rattle.filter.specs.Sound.{Small, Fit, Sound, Acceptable}
+use Rattle.filter.proofs.SymbolLaws.{symbol-entry}
+use Rattle.filter.proofs.SampleSides.{v-symbol}
+use Rattle.filter.proofs.SampleBounds.{bounded}
 use Rattle.filter.proofs.BlockLists.{push-length, push-each, adapt-length, settled-length}
 use Rattle.filter.proofs.BlockExponents.{newb-newB, newB-most, g-least, g-most}
 use Rattle.filter.proofs.BlockStored.{StateBound, SampleBound, stored-sound, stored-small, old-small, stored-length}
@@ -79,63 +82,58 @@ left-samples k o i s a = each-of (StateBound k (newb k o i) (newB k o i)) (pos 0
         (each-at (StateBound k (newb k o i) (newB k o i)) (stored k o i) (k .N - 1 - j) (pos 0) (stored-sound k o i)
         (omega (arith, stored-length k o i a)))
 
-module _
-    (k : Settings)
-    (sample : (x : ℕ) (t : Taps) (e : ℤ) → Fit k x t → isEntry (k .r) e ≡ true → Each Small (next k x t e .forward) × Each Small (next k x t e .back))
-    (symbol : (x : ℕ) (t : Taps) (e : ℤ) → Fit k x t → isEntry (k .r) e ≡ true → isEntry (k .r) (v k x t e) ≡ true)
-  where
-    -- one sample done
-    pub fit-next : (x : ℕ) (t : Taps) (e : ℤ) → Fit k x t → isEntry (k .r) e ≡ true → next k x t e .ψ ≤ exponentLimit → Fit k x (next k x t e)
-    unfolding next
-    fit-next x t e f h l = record {
-      within = f .within;
-      admitted = f .admitted;
-      forward-long = next-forward-length k x t e ∙ f .forward-long;
-      back-long = next-back-length k x t e ∙ f .back-long;
-      samples-long = f .samples-long;
-      symbols-long = push-length (v k x t e) (t .symbols) ∙ f .symbols-long;
-      forward-small = sample x t e f h .0;
-      back-small = sample x t e f h .1;
-      samples-small = f .samples-small;
-      symbols-are = push-each (λ (z : ℤ). isEntry (k .r) z ≡ true) (v k x t e) (t .symbols) (symbol x t e f h) (f .symbols-are);
-      ψ-most = l;
-      g-least = f .g-least;
-      g-most = f .g-most;
-    }
+-- one sample done
+pub fit-next : (k : Settings) (x : ℕ) (t : Taps) (e : ℤ) → Fit k x t → isEntry (k .r) e ≡ true → next k x t e .ψ ≤ exponentLimit → Fit k x (next k x t e)
+unfolding next
+fit-next k x t e f h l = record {
+  within = f .within;
+  admitted = f .admitted;
+  forward-long = next-forward-length k x t e ∙ f .forward-long;
+  back-long = next-back-length k x t e ∙ f .back-long;
+  samples-long = f .samples-long;
+  symbols-long = push-length (v k x t e) (t .symbols) ∙ f .symbols-long;
+  forward-small = bounded k x t e f h .next-forward;
+  back-small = bounded k x t e f h .next-back;
+  samples-small = f .samples-small;
+  symbols-are = push-each (λ (z : ℤ). isEntry (k .r) z ≡ true) (v k x t e) (t .symbols) (symbol-entry (k .r) (v k x t e) (v-symbol k x t e f h)) (f .symbols-are);
+  ψ-most = l;
+  g-least = f .g-least;
+  g-most = f .g-most;
+}
 
-    module _ (o : Memory) (i : Block) (s : Sound k o) (a : Acceptable k i) where
-      -- when n samples are done
-      pub fit-after : (n : ℕ) → n ≤ k .N → goes k o i n ≡ true → Fit k (g k o i) (after k o i n)
-      unfolding after goes
-      fit-after zero h e = fit-start k o i s a
-      fit-after (suc n) h e =
-          fit-next (g k o i) (entered k o i n (after k o i n)) (getD (i .entries) n (pos 0))
-          (fit-entered k o i n (after k o i n) a h (fit-after n (omega arith) (and-left (goes k o i n) _ e)))
-          (each-at (λ (z : ℤ). isEntry (k .r) z ≡ true) (i .entries) n (pos 0) (a .entries-are) (omega (arith, a .entries-long)))
-          (leb-true _ _ (and-right (goes k o i n) _ e))
+module _ (k : Settings) (o : Memory) (i : Block) (s : Sound k o) (a : Acceptable k i) where
+  -- when n samples are done
+  pub fit-after : (n : ℕ) → n ≤ k .N → goes k o i n ≡ true → Fit k (g k o i) (after k o i n)
+  unfolding after goes
+  fit-after zero h e = fit-start k o i s a
+  fit-after (suc n) h e =
+      fit-next k (g k o i) (entered k o i n (after k o i n)) (getD (i .entries) n (pos 0))
+      (fit-entered k o i n (after k o i n) a h (fit-after n (omega arith) (and-left (goes k o i n) _ e)))
+      (each-at (λ (z : ℤ). isEntry (k .r) z ≡ true) (i .entries) n (pos 0) (a .entries-are) (omega (arith, a .entries-long)))
+      (leb-true _ _ (and-right (goes k o i n) _ e))
 
-      -- at every sample that is reached
-      pub fit-at : (n : ℕ) → n < k .N → goes k o i n ≡ true → Fit k (g k o i) (at k o i n)
-      unfolding at
-      fit-at n h e = fit-entered k o i n (after k o i n) a h (fit-after n (omega arith) e)
+  -- at every sample that is reached
+  pub fit-at : (n : ℕ) → n < k .N → goes k o i n ≡ true → Fit k (g k o i) (at k o i n)
+  unfolding at
+  fit-at n h e = fit-entered k o i n (after k o i n) a h (fit-after n (omega arith) e)
 
-      -- what an accepted block leaves
-      pub left-sound : goes k o i (k .N) ≡ true → Sound k (left k o i)
-      unfolding left
-      left-sound e =
-          let f = fit-after (k .N) (le-refl (k .N)) e in
-          record {
-            within = s .within;
-            admitted = s .admitted;
-            forward-long = f .forward-long;
-            back-long = f .back-long;
-            samples-long = left-length k o i (s .within .p-least) (s .samples-long);
-            symbols-long = f .symbols-long;
-            forward-small = f .forward-small;
-            back-small = f .back-small;
-            samples-small = left-samples k o i s a;
-            symbols-are = f .symbols-are;
-            ψ-most = f .ψ-most;
-            b-most = newb-newB k o i;
-            B-most = newB-most k o i s a;
-          }
+  -- what an accepted block leaves
+  pub left-sound : goes k o i (k .N) ≡ true → Sound k (left k o i)
+  unfolding left
+  left-sound e =
+      let f = fit-after (k .N) (le-refl (k .N)) e in
+      record {
+        within = s .within;
+        admitted = s .admitted;
+        forward-long = f .forward-long;
+        back-long = f .back-long;
+        samples-long = left-length k o i (s .within .p-least) (s .samples-long);
+        symbols-long = f .symbols-long;
+        forward-small = f .forward-small;
+        back-small = f .back-small;
+        samples-small = left-samples k o i s a;
+        symbols-are = f .symbols-are;
+        ψ-most = f .ψ-most;
+        b-most = newb-newB k o i;
+        B-most = newB-most k o i s a;
+      }

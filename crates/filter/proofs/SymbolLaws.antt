@@ -68,3 +68,10 @@ clip-symbol r d o = high (ltZ (topSymbol r) d) refl
 pub decide-symbol : (r : ℕ) (Y : ℤ) (ξ : ℕ) → isSymbol r (decide r Y ξ) ≡ true
 unfolding decide
 decide-symbol r Y ξ = clip-symbol r (pos 2 *ℤ floor Y (31 - ξ) +ℤ pos 1) (odd (floor Y (31 - ξ)))
+
+pub symbol-entry : (r : ℕ) (v : ℤ) → isSymbol r v ≡ true → isEntry r v ≡ true
+symbol-entry r v e = go (eqb (natAbs v) 0)
+  where
+    go : (b : Bool) → (b || isSymbol r v) ≡ true
+    go true = refl
+    go false = e

@@ -9,7 +9,7 @@ use Rattle.numbers.specs.BitLength.{bitLength}
 use Rattle.numbers.specs.Cut.{raise, rescale}
 use Rattle.filter.specs.Settings.{Settings, scaleForward, exponentLimit}
 use Rattle.filter.specs.Side.{largest, magnitudes, push}
-use Rattle.filter.specs.Sample.{Taps, next}
+use Rattle.filter.specs.Sample.{Taps, Y, ξ, decision, Z, θ, next}
 
 -- what a block is given: m, the gains and the training entries
 pub record Block : Type 0 where
@@ -79,6 +79,26 @@ module _ (k : Settings) (o : Memory) (i : Block) where
   unfoldable pub goes : ℕ → Bool
   goes zero = true
   goes (suc n) = goes n && leb (after (suc n) .ψ) exponentLimit
+
+  -- the training entry of a sample
+  abbrev pub entryAt : ℕ → ℤ
+  entryAt n = getD (i .entries) n (pos 0)
+
+  -- what a block hands out: Y, ξ, decision, Z and θ of each sample
+  unfoldable pub handedY : List ℤ
+  handedY = values (λ n. Y k g (at n) (entryAt n)) (k .N)
+
+  unfoldable pub handedξ : List ℕ
+  handedξ = values (λ n. ξ k g (at n) (entryAt n)) (k .N)
+
+  unfoldable pub handedDecision : List ℤ
+  handedDecision = values (λ n. decision k g (at n) (entryAt n)) (k .N)
+
+  unfoldable pub handedZ : List ℤ
+  handedZ = values (λ n. Z k g (at n) (entryAt n)) (k .N)
+
+  unfoldable pub handedθ : List ℕ
+  handedθ = values (λ n. θ k g (at n) (entryAt n)) (k .N)
 
   -- what an accepted block leaves
   unfoldable pub left : Memory

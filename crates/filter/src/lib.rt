@@ -1,4 +1,5 @@
 // One side, one sample, one block of the equaliser.
+pub mod block;
 pub mod decision;
 pub mod error;
 pub mod factor;
