@@ -24,3 +24,4 @@ pub mod BlockStored
 pub mod BlockWindow
 pub mod BlockNear
 pub mod BlockSound
+pub mod RunLaws

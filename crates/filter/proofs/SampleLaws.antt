@@ -11,7 +11,7 @@ use lib.IntN.{ℤ, natAbs}
 use Rattle.laws.specs.Powers.{rises, raise}
 use Rattle.numbers.specs.BitLength.{bitLength}
 use Rattle.numbers.proofs.BitLengthLaws.{bit-length-le, bit-length-above}
-use Rattle.filter.specs.Settings.{isEntry}
+use Rattle.filter.specs.Settings.{Settings, isEntry}
 use Rattle.filter.specs.Decision.{decide}
 use Rattle.filter.specs.Error.{errorExponent}
 use Rattle.filter.specs.Sound.{Missable}
@@ -19,7 +19,8 @@ use Rattle.filter.proofs.SymbolLaws.{symbol-below, entry-below, decide-
 use Rattle.filter.proofs.OutputLaws.{error-exponent-form}
 use Rattle.filter.specs.Side.{allSmall, halved}
 use Rattle.filter.specs.Sample.{settled, settledExponent}
-use Rattle.filter.specs.Calls.{Settled-is, chosen}
+use Rattle.filter.specs.Calls.{Settled-is, Taken-is, chosen, tapsOf}
+use Rattle.filter.specs.declared.sample.Taken.{Taken}
 
 -- ---- step 7
 
@@ -63,3 +64,9 @@ missable v y ξ s h l m a b u = record {
 -- what holds of the weights that were settled holds of weights equal to them
 pub settled-of : {ψ ψ′ : ℕ} {f b f₀ b₀ f′ b′ : List ℤ} → f ≡ f₀ → b ≡ b₀ → Settled-is ψ f b ψ′ f′ b′ → Settled-is ψ f₀ b₀ ψ′ f′ b′
 settled-of {ψ = ψ} {ψ′ = ψ′} {f′ = f′} {b′ = b′} e h s = subst₂ (λ (x y : List ℤ). Settled-is ψ x y ψ′ f′ b′) e h s
+
+-- a step on equal windows and entries
+pub taken-of : {k : Settings} {g ψ : ℕ} {f b w w₀ y : List ℤ} {x x₀ : ℤ} {r : Taken} {f′ b′ y′ : List ℤ} → w ≡ w₀ → x ≡ x₀ →
+    Taken-is k g (tapsOf f b w y ψ) x r f′ b′ y′ → Taken-is k g (tapsOf f b w₀ y ψ) x₀ r f′ b′ y′
+taken-of {k = k} {g = g} {ψ = ψ} {f = f} {b = b} {y = y} {r = r} {f′ = f′} {b′ = b′} {y′ = y′} e h t =
+    subst₂ (λ (w : List ℤ) (x : ℤ). Taken-is k g (tapsOf f b w y ψ) x r f′ b′ y′) e h t

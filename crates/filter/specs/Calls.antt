@@ -130,6 +130,11 @@ pub record Taken-is (k : Settings) (g : ℕ) (t : Taps) (entry : ℤ) (r : Taken
   pub back-is : back ≡ next k g t entry .back
   pub symbols-are : symbols ≡ next k g t entry .symbols
 
+-- with the window after it
+pub record Advanced-is (k : Settings) (g : ℕ) (t : Taps) (entry : ℤ) (r : Taken) (forward back samples symbols : List ℤ) : Type 0 where
+  pub taken : Taken-is k g t entry r forward back symbols
+  pub window : samples ≡ t .samples
+
 -- ---- the block
 
 abbrev pub blockOf : List ℤ → List ℕ → List ℤ → Block

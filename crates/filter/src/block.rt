@@ -1,8 +1,10 @@
 // One block.
 ghost use mathlib.Core.Path.{_≡_};
 ghost use Prim.Native.Nat.{max};
-ghost use Rattle.filter.specs.Calls.{settingsOf, blockOf, memoryOf, Begun-is, Startable, Runnable, Ran-is};
+ghost use Rattle.filter.specs.Side.{push};
+ghost use Rattle.filter.specs.Calls.{settingsOf, blockOf, memoryOf, Begun-is, Startable, Ready, Advanced-is, Runnable, Ran-is, tapsOf};
 use super::sample::Settings;
+use super::sample::Taken;
 
 // The scale counts of a block, its b and B, and γ + 30.
 pub struct Begun {
@@ -56,6 +58,15 @@ fn wide(x: i8) -> i16
     x as i16
 }
 
+// The next stored sample enters the window, and the sample is taken.
+fn advance(k: Settings, e: Begun, psi: u32, a: i16, entry: i8, forward: &mut [i16], back: &mut [i16], samples: &mut [i16], symbols: &mut [i16]) -> Taken
+    requires { ⌜ Ready (settingsOf k) (e .s) (e .sb) (e .g) (tapsOf (now forward) (now back) (push a (now samples)) (now symbols) psi) entry ⌝ }
+    ensures { λ r. ⌜ Advanced-is (settingsOf k) (e .g) (tapsOf (now (forward .entry)) (now (back .entry)) (push a (now (samples .entry))) (now (symbols .entry)) psi) entry r (now (forward .exit)) (now (back .exit)) (now (samples .exit)) (now (symbols .exit)) ⌝ }
+{
+    super::side::push(samples, a);
+    super::sample::step(k, e.s, e.sb, e.g, psi, wide(entry), forward, back, samples, symbols)
+}
+
 // The samples of a block one by one, up to the one at which ψ would pass its limit.
 pub fn run(k: Settings, psi: u32, b: u32, big: u32, m: &[i16], gains: &[u8], entries: &[i8], forward: &mut [i16], back: &mut [i16], samples: &mut [i16], symbols: &mut [i16]) -> Ran
     requires { ⌜ Runnable (settingsOf k) (memoryOf (now forward) (now back) (now samples) (now symbols) psi b big) (blockOf (now m) (now gains) (now entries)) (now samples) ⌝ }
@@ -72,8 +83,7 @@ pub fn run(k: Settings, psi: u32, b: u32, big: u32, m: &[i16], gains: &[u8], ent
     let mut at = psi;
     let mut n: usize = 0;
     while n < m.len() {
-        super::side::push(samples, stored[n]);
-        let t = super::sample::step(k, e.s, e.sb, e.g, at, wide(entries[n]), forward, back, samples, symbols);
+        let t = advance(k, e, at, stored[n], entries[n], forward, back, samples, symbols);
         at = t.psi;
         if 15 < at {
             return Ran { done: false, psi: at, b: e.b, big: e.big, y: y, xi: xi, decision: decision, z: z, theta: theta };

@@ -1,52 +1,82 @@
+-- The scale counts, the bit length of the loudest sample, and the larger of it and the one before.
+use mathlib.Core.Path.{_≡_, ap, ap₂, _∙_}
+use Prim.Native.Nat.{ℕ, _+_, _≤_, _<_, max}
+use native.Mathlib.Omega.{arith}
+use native.Mathlib.Nat.{max-le}
 use borrow.Author.Needs.{needs}
+use Rattle.numbers.specs.BitLength.{bitLength}
+use Rattle.numbers.proofs.BitLengthLaws.{bit-length-le}
+use Rattle.filter.specs.Calls.{blockLength, settingsOf}
+use Rattle.filter.proofs.SampleSides.{scale-most}
 use Rattle.filter.proofs.block.begin.Statement.{statement}
 use Rattle.filter.proofs.block.begin.Tie as tie
-use Rattle.filter.proofs.block.begin.Reads as reads
-use Rattle.filter.proofs.block.begin.Lts as lts
-use Rattle.filter.proofs.block.larger.Reads as larger-reads
-use Rattle.filter.proofs.stored.loudest.Reads as loudest-reads
-use Rattle.numbers.proofs.bit_length.bit_length.Reads as bit-length-reads
-use Rattle.numbers.proofs.scale_count.scale_count.Reads as scale-count-reads
 
--- src/block.rt:34:47
 cast-scale-count : tie.Need-cast-scale-count
 cast-scale-count c = search needs
 
--- src/block.rt:34:9
 scale-count-requires : tie.Need-scale-count-requires
 scale-count-requires c κs = search needs
 
--- src/block.rt:35:48
 cast-scale-count-2 : tie.Need-cast-scale-count-2
 cast-scale-count-2 c = search needs
 
--- src/block.rt:35:9
 scale-count-requires-2 : tie.Need-scale-count-requires-2
 scale-count-requires-2 c κs = search needs
 
--- src/block.rt:36:45
 loudest-requires : tie.Need-loudest-requires
 loudest-requires c κs = search needs
 
--- src/block.rt:36:9
 bit-length-requires : tie.Need-bit-length-requires
 bit-length-requires c κs = search needs
 
--- src/block.rt:37:9
 larger-requires : tie.Need-larger-requires
 larger-requires c κs = search needs
 
--- src/block.rt:43:12
+-- the places of the calls
+abbrev loud : tie.After-larger → tie.After-loudest
+loud c = c .before .before
+
+abbrev scaled : tie.After-loudest → tie.After-scale-count
+scaled c = c .before .before .before
+
+abbrev start : tie.After-loudest → tie.Start
+start c = scaled c .before .before .before
+
+length-is : (c : tie.After-larger) → c .before .bit-length .result ≡ blockLength (start (loud c) .args .m .now) (start (loud c) .args .gains .now)
+length-is c = c .before .bit-length .ensures ∙ ap bitLength (loud c .loudest .ensures)
+
+length-most : (c : tie.After-larger) → c .before .bit-length .result ≤ 64
+length-most c = omega (arith, c .before .bit-length .ensures, bit-length-le (loud c .loudest .result) 64 (omega (arith, loud c .loudest .ok)))
+
+larger-most : (c : tie.After-larger) → c .larger .result ≤ 64
+larger-most c = omega (arith, c .larger .ensures, length-most c, start (loud c) .pre .was-most)
+
 add-t11 : tie.Need-add-t11
-add-t11 c = ?
+add-t11 c = record { fits = omega (arith, larger-most (c .before), start (loud (c .before)) .pre .within .r-most) }
 
--- src/block.rt:43:12
 add-t12 : tie.Need-add-t12
-add-t12 c = ?
+add-t12 c =
+    let s = start (loud (c .before)) in
+    record { fits = omega (
+      arith,
+      larger-most (c .before),
+      s .pre .within .r-most,
+      scaled (loud (c .before)) .scale-count .ensures,
+      scale-most (s .args .k .p) (s .pre .within .p-most),
+    ) }
 
--- src/block.rt:30:1
 returns : tie.Need-returns
-returns c = ?
+returns c =
+    let d = c .before in
+    let a = start (loud d) .args in
+    let big = d .larger .ensures ∙ ap (λ (n : ℕ). max n (a .was)) (length-is d) in
+    record {
+      s = scaled (loud d) .scale-count .ensures;
+      sb = loud d .before .scale-count2 .ensures;
+      b = length-is d;
+      big = big;
+      exponent = ap₂ (λ (x y : ℕ). a .k .r + x + y) big (scaled (loud d) .scale-count .ensures)
+    }
 
 pub begin-spec : {M : Type 1} → statement M
 begin-spec =
