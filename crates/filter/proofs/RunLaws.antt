@@ -41,7 +41,7 @@ pub filled-next {ℓ} : {A : Type ℓ} (f : ℕ → A) (n : ℕ) (l : List A) (x
 unfolding values
 filled-next f n l x h p e = record {
   long = length-set l n x ∙ p .long;
-  is = take-suc-set l n x (omega (arith, p .long)) ∙ ap (λ t. t ++ (x ∷ [])) (p .is) ∙ ap (λ y. values f n ++ (y ∷ [])) e
+  is = take-suc-set l n x (omega (arith, p .long)) ∙ ap (λ t. t ++ (x ∷ [])) (p .is) ∙ ap (λ y. values f n ++ (y ∷ [])) e;
 }
 
 -- ---- ψ within its limit
@@ -83,7 +83,7 @@ module _ (k : Settings) (o : Memory) (i : Block) (window₀ : List ℤ) (run : R
 
   -- none, with the old samples at the new exponent
   pub passed-none : (window : List ℤ) → window ≡ map (λ (a : ℤ). rescale a (o .B) (newB k o i)) window₀ →
-    Passed k o i 0 (o .ψ) (o .forward) (o .back) window (o .symbols) (replicate 128 (pos 0)) (replicate 128 0) (replicate 128 (pos 0)) (replicate 128 (pos 0)) (replicate 128 0)
+      Passed k o i 0 (o .ψ) (o .forward) (o .back) window (o .symbols) (replicate 128 (pos 0)) (replicate 128 0) (replicate 128 (pos 0)) (replicate 128 (pos 0)) (replicate 128 0)
   unfolding after start goes old
   passed-none window e = record {
     within = omega arith;
@@ -97,7 +97,7 @@ module _ (k : Settings) (o : Memory) (i : Block) (window₀ : List ℤ) (run : R
     xi-filled = filled-none _ 0;
     decision-filled = filled-none _ (pos 0);
     z-filled = filled-none _ (pos 0);
-    theta-filled = filled-none _ 0
+    theta-filled = filled-none _ 0;
   }
 
   module _ (n ψ : ℕ) (forward back window symbols y : List ℤ) (xi : List ℕ) (decisions z : List ℤ) (theta : List ℕ)
@@ -128,17 +128,17 @@ module _ (k : Settings) (o : Memory) (i : Block) (window₀ : List ℤ) (run : R
       taps-at = rw (p .forward-is, p .back-is, p .window-is, p .symbols-are, p .ψ-is)
 
       pub ready : (s sb x : ℕ) (e : ℤ) → s ≡ scaleForward k → sb ≡ scaleBack k → x ≡ g k o i → e ≡ entryAt k o i n →
-        Ready k s sb x (tapsOf forward back (push (getD (stored k o i) n (pos 0)) window) symbols ψ) e
+          Ready k s sb x (tapsOf forward back (push (getD (stored k o i) n (pos 0)) window) symbols ψ) e
       ready s sb x e es eb ex ee = rw (taps-at, ex, ee) (record {
         fit = fit-at k o i (run .sound) (run .acceptable) n more (p .goes-on);
         entry-is = entry-is;
         forward-scale = es;
-        back-scale = eb
+        back-scale = eb;
       })
 
       -- what a step on these taps promises is a step of the definitions
       pub taken-at : (x : ℕ) (a e : ℤ) (t : Taken) (f′ b′ w′ y′ : List ℤ) → x ≡ g k o i → a ≡ getD (stored k o i) n (pos 0) → e ≡ entryAt k o i n →
-        Advanced-is k x (tapsOf forward back (push a window) symbols ψ) e t f′ b′ w′ y′ → Advanced-is k (g k o i) (at k o i n) (entryAt k o i n) t f′ b′ w′ y′
+          Advanced-is k x (tapsOf forward back (push a window) symbols ψ) e t f′ b′ w′ y′ → Advanced-is k (g k o i) (at k o i n) (entryAt k o i n) t f′ b′ w′ y′
       taken-at x a e t f′ b′ w′ y′ ex ea ee h =
           subst (λ (s : Taps). Advanced-is k (g k o i) s (entryAt k o i n) t f′ b′ w′ y′) taps-at
           (subst₃ (λ (x : ℕ) (a e : ℤ). Advanced-is k x (tapsOf forward back (push a window) symbols ψ) e t f′ b′ w′ y′) ex ea ee h)
@@ -160,7 +160,7 @@ module _ (k : Settings) (o : Memory) (i : Block) (window₀ : List ℤ) (run : R
 
         -- ψ kept its limit
         pub passed-next : (ty td tz : ℤ) → ty ≡ t .y → td ≡ t .decision → tz ≡ t .z → t .psi ≤ 15 →
-          Passed k o i (n + 1) (t .psi) f′ b′ w′ y′ (set y n ty) (set xi n (t .xi)) (set decisions n td) (set z n tz) (set theta n (t .theta))
+            Passed k o i (n + 1) (t .psi) f′ b′ w′ y′ (set y n ty) (set xi n (t .xi)) (set decisions n td) (set z n tz) (set theta n (t .theta))
         unfolding goes
         passed-next ty td tz ey ed ez l =
             subst (λ (m : ℕ). Passed k o i m (t .psi) f′ b′ w′ y′ (set y n ty) (set xi n (t .xi)) (set decisions n td) (set z n tz) (set theta n (t .theta))) (sym (add-one n)) (record {
@@ -175,7 +175,7 @@ module _ (k : Settings) (o : Memory) (i : Block) (window₀ : List ℤ) (run : R
               xi-filled = filled-next _ n xi (t .xi) room (p .xi-filled) (h .xi);
               decision-filled = filled-next _ n decisions td room (p .decision-filled) (ed ∙ h .decision-is);
               z-filled = filled-next _ n z tz room (p .z-filled) (ez ∙ h .z);
-              theta-filled = filled-next _ n theta (t .theta) room (p .theta-filled) (h .theta)
+              theta-filled = filled-next _ n theta (t .theta) room (p .theta-filled) (h .theta);
             })
 
         -- ψ would pass its limit
@@ -185,6 +185,7 @@ module _ (k : Settings) (o : Memory) (i : Block) (window₀ : List ℤ) (run : R
           where
             beyond : 15 < after k o i (suc n) .ψ
             beyond = subst (λ (x : ℕ). 15 < x) (h .psi ∙ ap (λ (a : Taps). a .ψ) (sym next-is)) l
+
             go : (b : Bool) → goes k o i (k .N) ≡ b → b ≡ false
             go false e = refl
             go true e = sym (and-right (goes k o i n) _ (goes-before k o i (suc n) (k .N) more e)) ∙ lt-leb _ _ beyond
@@ -206,7 +207,7 @@ module _ (k : Settings) (o : Memory) (i : Block) (window₀ : List ℤ) (run : R
           xi = ap (take (k .N)) ex ∙ q .xi-filled .is;
           decision-is = ap (take (k .N)) ed ∙ q .decision-filled .is;
           z = ap (take (k .N)) ez ∙ q .z-filled .is;
-          theta = ap (take (k .N)) et ∙ q .theta-filled .is
+          theta = ap (take (k .N)) et ∙ q .theta-filled .is;
         }
 
     pub all-go : k .N ≤ n → goes k o i (k .N) ≡ true
@@ -219,17 +220,20 @@ module _ (k : Settings) (o : Memory) (i : Block) (window₀ : List ℤ) (run : R
   startable = record {
     within = run .sound .within;
     was-most = omega (arith, run .sound .b-most, run .sound .B-most);
-    receivable = receivable k o i (run .acceptable)
+    receivable = receivable k o i (run .acceptable);
   }
 
   pub window-storable : Each (Storable (o .B) (newB k o i)) window₀
   window-storable =
       subst (λ (l : List ℤ). Each (Storable (o .B) (newB k o i)) l) (sym (run .window-is))
-      (each-append (Storable (o .B) (newB k o i)) (o .samples) (pos 0 ∷ []) (old-storable k o i (run .sound)) (record {
-        shift = omega (arith, run .sound .B-most);
-        room = omega arith;
-        bound = rw rescale-zero (omega arith)
-      }, tt))
+      (each-append (Storable (o .B) (newB k o i)) (o .samples) (pos 0 ∷ []) (old-storable k o i (run .sound)) (
+        record {
+          shift = omega (arith, run .sound .B-most);
+          room = omega arith;
+          bound = rw rescale-zero (omega arith);
+        },
+        tt,
+      ))
 
   pub lent-long : length window₀ ≡ k .p
   lent-long =

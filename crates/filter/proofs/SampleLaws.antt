@@ -37,6 +37,7 @@ chosen-below r y ξ entry h e = go (eqb (natAbs entry) 0)
   where
     top : 2 ^ (r + 1) ≤ 2 ^ 4
     top = rises {a = r + 1} {b = 4} (omega arith)
+
     go : (b : Bool) → natAbs (cond b (decide r y ξ) entry) < 2 ^ 4
     go true = omega (arith, top, symbol-below r (decide r y ξ) (decide-symbol r y ξ))
     go false = omega (arith, top, entry-below r entry e)
@@ -48,7 +49,7 @@ missable v y ξ s h l m a b u = record {
   ξ-least = l;
   ξ-most = omega arith;
   κ-most = omega (arith, bit-length-le (natAbs v) 4 u);
-  room = room
+  room = room;
 }
   where
     room : natAbs v * 2 ^ (30 - errorExponent ξ (s + bitLength (natAbs v))) ≤ 2 ^ 29

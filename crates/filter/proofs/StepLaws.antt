@@ -45,8 +45,8 @@ module _ (k : Settings) (s sb g : ℕ) (t : Taps) (entry : ℤ) (r : Ready k s s
       h-small = B.H-small k g t entry (r .fit);
       ψ-most = r .fit .ψ-most;
       ν-most = S.ν-most k g t entry (r .fit);
-      g-most = omega (arith, r .fit .g-most, r .fit .within .r-most, S.scaleForward-most k g t entry (r .fit))
-    })
+      g-most = omega (arith, r .fit .g-most, r .fit .within .r-most, S.scaleForward-most k g t entry (r .fit));
+    });
   }
 
   pub record Heard-as (h : Heard) : Type 0 where
@@ -59,7 +59,7 @@ module _ (k : Settings) (s sb g : ℕ) (t : Taps) (entry : ℤ) (r : Ready k s s
   heard-as h p = record {
     nu-as = p .nu ∙ ν-of;
     y-as = p .y ∙ rw (held, ν-of);
-    xi-as = p .xi ∙ rw ν-of
+    xi-as = p .xi ∙ rw ν-of;
   }
 
   -- ---- steps 4 and 5
@@ -72,7 +72,7 @@ module _ (k : Settings) (s sb g : ℕ) (t : Taps) (entry : ℤ) (r : Ready k s s
     y-small = rw (p .y-as) (B.Y-small k g t entry (r .fit));
     ξ-least = rw (p .xi-as) (S.ξ-least k g t entry (r .fit));
     ξ-most = rw (p .xi-as) (omega (arith, S.ξ-most k g t entry (r .fit), r .fit .ψ-most));
-    entry-is = r .entry-is
+    entry-is = r .entry-is;
   }
 
   pub record Judged-as (j : Judged) : Type 0 where
@@ -87,7 +87,7 @@ module _ (k : Settings) (s sb g : ℕ) (t : Taps) (entry : ℤ) (r : Ready k s s
     decision-as = q .decision ∙ rw (p .y-as, p .xi-as);
     v-as = q .v ∙ rw (p .y-as, p .xi-as);
     z-as = q .z ∙ rw (p .y-as, p .xi-as, r .back-scale);
-    theta-as = q .theta ∙ rw (p .y-as, p .xi-as, r .back-scale)
+    theta-as = q .theta ∙ rw (p .y-as, p .xi-as, r .back-scale);
   }
 
   -- ---- steps 6 to 8
@@ -101,7 +101,7 @@ module _ (k : Settings) (s sb g : ℕ) (t : Taps) (entry : ℤ) (r : Ready k s s
     more-most = omega arith;
     places = omega (arith, B.places k g t entry (r .fit) (r .entry-is) (forwardSide k g t entry) (S.forward-fit k g t entry (r .fit)));
     factor-small = B.J-small k g t entry (r .fit) (r .entry-is) (forwardSide k g t entry) (S.forward-fit k g t entry (r .fit));
-    adaptable = rw add-zero (B.forward-adaptable k g t entry (r .fit) (r .entry-is))
+    adaptable = rw add-zero (B.forward-adaptable k g t entry (r .fit) (r .entry-is));
   }
 
   behind : Teachable (k .M) (Z k g t entry) (t .ψ) (θ k g t entry) (scaleBack k) (ν k g t entry + 30) (15 - ν k g t entry) (t .back) (t .symbols)
@@ -113,14 +113,14 @@ module _ (k : Settings) (s sb g : ℕ) (t : Taps) (entry : ℤ) (r : Ready k s s
     more-most = omega arith;
     places = omega (arith, B.places k g t entry (r .fit) (r .entry-is) (backSide k g t entry) (S.back-fit k g t entry (r .fit)));
     factor-small = B.J-small k g t entry (r .fit) (r .entry-is) (backSide k g t entry) (S.back-fit k g t entry (r .fit));
-    adaptable = B.back-adaptable k g t entry (r .fit) (r .entry-is)
+    adaptable = B.back-adaptable k g t entry (r .fit) (r .entry-is);
   }
 
   pub changeable : (h : Heard) (j : Judged) → Heard-as h → Judged-as j → Changeable (k .M) s sb g (t .ψ) h j (t .forward) (t .back) (t .samples) (t .symbols)
   changeable h j p q = record {
     ν-most = rw (p .nu-as) (S.ν-most k g t entry (r .fit));
     ahead = rw (q .z-as, q .theta-as, r .forward-scale) ahead;
-    behind = rw (q .z-as, q .theta-as, p .nu-as, r .back-scale) behind
+    behind = rw (q .z-as, q .theta-as, p .nu-as, r .back-scale) behind;
   }
 
   pub handable : (h : Heard) (j : Judged) → Heard-as h → Judged-as j → (h .xi ≤ 24) × (j .theta ≤ 24) × (natAbs (j .decision) < 2 ^ 4)
@@ -144,7 +144,7 @@ module _ (k : Settings) (s sb g : ℕ) (t : Taps) (entry : ℤ) (r : Ready k s s
   back-taught h j p q = rw (q .z-as, q .theta-as, p .nu-as, r .back-scale) (sym (S.newBack-raised k g t entry (r .fit)))
 
   pub taken-as : (h : Heard) (j : Judged) → Heard-as h → Judged-as j → (ψ′ : ℕ) (f′ b′ y′ : List ℤ) →
-    Changed-is (k .M) s sb g (t .ψ) h j (t .forward) (t .back) (t .samples) (t .symbols) ψ′ f′ b′ y′ → (x : Taken) → x ≡ takenOf h j ψ′ → Taken-is k g t entry x f′ b′ y′
+      Changed-is (k .M) s sb g (t .ψ) h j (t .forward) (t .back) (t .samples) (t .symbols) ψ′ f′ b′ y′ → (x : Taken) → x ≡ takenOf h j ψ′ → Taken-is k g t entry x f′ b′ y′
   unfolding next small
   taken-as h j p q ψ′ f′ b′ y′ c x e =
       let w = settled-of (forward-taught j q) (back-taught h j p q) (c .settled-is) in
@@ -157,5 +157,5 @@ module _ (k : Settings) (s sb g : ℕ) (t : Taps) (entry : ℤ) (r : Ready k s s
         psi = ap (λ (z : Taken). z .psi) e ∙ w .exponent;
         forward-is = w .ahead;
         back-is = w .behind;
-        symbols-are = c .pushed ∙ rw (q .v-as)
+        symbols-are = c .pushed ∙ rw (q .v-as);
       }

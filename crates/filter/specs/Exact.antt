@@ -43,8 +43,8 @@ pub record Faithful (k : Settings) (g : ℕ) (t : Taps) (entry : ℤ) : Type 0 w
   pub output-near : natAbs (raise (Y k g t entry) (ξ k g t entry + 30) -ℤ exactOutput g t) < 2 ^ (ξ k g t entry + 30)
   -- each new weight and the exact LMS step
   pub forward-near : (n : ℕ) → n < length (t .forward) →
-    Near (next k g t entry .ψ) (getD (next k g t entry .forward) n (pos 0))
+      Near (next k g t entry .ψ) (getD (next k g t entry .forward) n (pos 0))
       (exactWeight (k .M) (t .ψ) (exactOutput g t) (v k g t entry) (getD (t .samples) n (pos 0)) g (getD (t .forward) n (pos 0)))
   pub back-near : (n : ℕ) → n < length (t .back) →
-    Near (next k g t entry .ψ) (getD (next k g t entry .back) n (pos 0))
+      Near (next k g t entry .ψ) (getD (next k g t entry .back) n (pos 0))
       (exactWeight (k .M) (t .ψ) (exactOutput g t) (v k g t entry) (getD (t .symbols) n (pos 0)) 45 (getD (t .back) n (pos 0)))

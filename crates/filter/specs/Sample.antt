@@ -98,5 +98,5 @@ module _ (k : Settings) (g : ℕ) (t : Taps) (entry : ℤ) where
     back = settled small newBack;
     samples = t .samples;
     symbols = push v (t .symbols);
-    ψ = settledExponent small (t .ψ)
+    ψ = settledExponent small (t .ψ);
   }

@@ -59,16 +59,49 @@ fn wide(x: i8) -> i16
 }
 
 // The next stored sample enters the window, and the sample is taken.
-fn advance(k: Settings, e: Begun, psi: u32, a: i16, entry: i8, forward: &mut [i16], back: &mut [i16], samples: &mut [i16], symbols: &mut [i16]) -> Taken
+fn advance(
+    k: Settings,
+    e: Begun,
+    psi: u32,
+    a: i16,
+    entry: i8,
+    forward: &mut [i16],
+    back: &mut [i16],
+    samples: &mut [i16],
+    symbols: &mut [i16],
+) -> Taken
     requires { ⌜ Ready (settingsOf k) (e .s) (e .sb) (e .g) (tapsOf (now forward) (now back) (push a (now samples)) (now symbols) psi) entry ⌝ }
     ensures { λ r. ⌜ Advanced-is (settingsOf k) (e .g) (tapsOf (now (forward .entry)) (now (back .entry)) (push a (now (samples .entry))) (now (symbols .entry)) psi) entry r (now (forward .exit)) (now (back .exit)) (now (samples .exit)) (now (symbols .exit)) ⌝ }
 {
     super::side::push(samples, a);
-    super::sample::step(k, e.s, e.sb, e.g, psi, wide(entry), forward, back, samples, symbols)
+    super::sample::step(
+        k,
+        e.s,
+        e.sb,
+        e.g,
+        psi,
+        wide(entry),
+        forward,
+        back,
+        samples,
+        symbols,
+    )
 }
 
 // The samples of a block one by one, up to the one at which ψ would pass its limit.
-pub fn run(k: Settings, psi: u32, b: u32, big: u32, m: &[i16], gains: &[u8], entries: &[i8], forward: &mut [i16], back: &mut [i16], samples: &mut [i16], symbols: &mut [i16]) -> Ran
+pub fn run(
+    k: Settings,
+    psi: u32,
+    b: u32,
+    big: u32,
+    m: &[i16],
+    gains: &[u8],
+    entries: &[i8],
+    forward: &mut [i16],
+    back: &mut [i16],
+    samples: &mut [i16],
+    symbols: &mut [i16],
+) -> Ran
     requires { ⌜ Runnable (settingsOf k) (memoryOf (now forward) (now back) (now samples) (now symbols) psi b big) (blockOf (now m) (now gains) (now entries)) (now samples) ⌝ }
     ensures { λ r. ⌜ Ran-is (settingsOf k) (memoryOf (now (forward .entry)) (now (back .entry)) (now (samples .entry)) (now (symbols .entry)) psi b big) (blockOf (now (m .entry)) (now (gains .entry)) (now (entries .entry))) r (now (forward .exit)) (now (back .exit)) (now (samples .exit)) (now (symbols .exit)) ⌝ }
 {
@@ -83,10 +116,30 @@ pub fn run(k: Settings, psi: u32, b: u32, big: u32, m: &[i16], gains: &[u8], ent
     let mut at = psi;
     let mut n: usize = 0;
     while n < m.len() {
-        let t = advance(k, e, at, stored[n], entries[n], forward, back, samples, symbols);
+        let t = advance(
+            k,
+            e,
+            at,
+            stored[n],
+            entries[n],
+            forward,
+            back,
+            samples,
+            symbols,
+        );
         at = t.psi;
         if 15 < at {
-            return Ran { done: false, psi: at, b: e.b, big: e.big, y: y, xi: xi, decision: decision, z: z, theta: theta };
+            return Ran {
+                done: false,
+                psi: at,
+                b: e.b,
+                big: e.big,
+                y: y,
+                xi: xi,
+                decision: decision,
+                z: z,
+                theta: theta,
+            };
         }
         let ty = t.y;
         let td = t.decision;
@@ -98,5 +151,15 @@ pub fn run(k: Settings, psi: u32, b: u32, big: u32, m: &[i16], gains: &[u8], ent
         theta[n] = t.theta;
         n += 1;
     }
-    Ran { done: true, psi: at, b: e.b, big: e.big, y: y, xi: xi, decision: decision, z: z, theta: theta }
+    Ran {
+        done: true,
+        psi: at,
+        b: e.b,
+        big: e.big,
+        y: y,
+        xi: xi,
+        decision: decision,
+        z: z,
+        theta: theta,
+    }
 }

@@ -4,6 +4,6 @@ pub mod decision;
 pub mod error;
 pub mod factor;
 pub mod output;
+pub mod sample;
 pub mod side;
 pub mod stored;
-pub mod sample;

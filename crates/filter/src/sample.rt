@@ -42,7 +42,15 @@ pub struct Taken {
 }
 
 // Steps 1 to 3: ν, Y and ξ.
-pub fn hear(sb: u32, g: u32, psi: u32, forward: &[i16], back: &[i16], samples: &[i16], symbols: &[i16]) -> Heard
+pub fn hear(
+    sb: u32,
+    g: u32,
+    psi: u32,
+    forward: &[i16],
+    back: &[i16],
+    samples: &[i16],
+    symbols: &[i16],
+) -> Heard
     requires { ⌜ Audible sb g psi (now forward) (now back) (now samples) (now symbols) ⌝ }
     ensures { λ r. ⌜ Heard-is sb g psi (now (forward .entry)) (now (back .entry)) (now (samples .entry)) (now (symbols .entry)) r ⌝ }
 {
@@ -82,7 +90,17 @@ pub fn judge(r: u32, sb: u32, y: i32, xi: u32, entry: i16) -> Judged
 }
 
 // Step 6: the new weights of a side whose data are raised by some places more.
-pub fn learn(w: &mut [i16], a: &[i16], m: u32, z: i32, psi: u32, theta: u32, scale: u32, exponent: u32, more: u32)
+pub fn learn(
+    w: &mut [i16],
+    a: &[i16],
+    m: u32,
+    z: i32,
+    psi: u32,
+    theta: u32,
+    scale: u32,
+    exponent: u32,
+    more: u32,
+)
     requires { ⌜ Teachable m z psi theta scale exponent more (now w) (now a) ⌝ }
     ensures { λ _. ⌜ now (w .exit) ≡ taught m z psi theta scale exponent more (now (w .entry)) (now (a .entry)) ⌝ }
 {
@@ -116,7 +134,19 @@ pub fn settle(forward: &mut [i16], back: &mut [i16], psi: u32) -> u32
 }
 
 // Steps 6 to 8: the new weights and symbols, and the new ψ.
-pub fn change(m: u32, s: u32, sb: u32, g: u32, psi: u32, h: Heard, j: Judged, forward: &mut [i16], back: &mut [i16], samples: &[i16], symbols: &mut [i16]) -> u32
+pub fn change(
+    m: u32,
+    s: u32,
+    sb: u32,
+    g: u32,
+    psi: u32,
+    h: Heard,
+    j: Judged,
+    forward: &mut [i16],
+    back: &mut [i16],
+    samples: &[i16],
+    symbols: &mut [i16],
+) -> u32
     requires { ⌜ Changeable m s sb g psi h j (now forward) (now back) (now samples) (now symbols) ⌝ }
     ensures { λ r. ⌜ Changed-is m s sb g psi h j (now (forward .entry)) (now (back .entry)) (now (samples .entry)) (now (symbols .entry)) r (now (forward .exit)) (now (back .exit)) (now (symbols .exit)) ⌝ }
 {
@@ -146,7 +176,18 @@ fn hand_out(h: Heard, j: Judged, psi: u32) -> Taken
 }
 
 // Steps 1 to 8.
-pub fn step(k: Settings, s: u32, sb: u32, g: u32, psi: u32, entry: i16, forward: &mut [i16], back: &mut [i16], samples: &[i16], symbols: &mut [i16]) -> Taken
+pub fn step(
+    k: Settings,
+    s: u32,
+    sb: u32,
+    g: u32,
+    psi: u32,
+    entry: i16,
+    forward: &mut [i16],
+    back: &mut [i16],
+    samples: &[i16],
+    symbols: &mut [i16],
+) -> Taken
     requires { ⌜ Ready (settingsOf k) s sb g (tapsOf (now forward) (now back) (now samples) (now symbols) psi) entry ⌝ }
     ensures { λ r. ⌜ Taken-is (settingsOf k) g (tapsOf (now (forward .entry)) (now (back .entry)) (now (samples .entry)) (now (symbols .entry)) psi) entry r (now (forward .exit)) (now (back .exit)) (now (symbols .exit)) ⌝ }
 {

@@ -57,13 +57,15 @@ add-t11 c = record { fits = omega (arith, larger-most (c .before), start (loud (
 add-t12 : tie.Need-add-t12
 add-t12 c =
     let s = start (loud (c .before)) in
-    record { fits = omega (
-      arith,
-      larger-most (c .before),
-      s .pre .within .r-most,
-      scaled (loud (c .before)) .scale-count .ensures,
-      scale-most (s .args .k .p) (s .pre .within .p-most),
-    ) }
+    record {
+      fits = omega (
+        arith,
+        larger-most (c .before),
+        s .pre .within .r-most,
+        scaled (loud (c .before)) .scale-count .ensures,
+        scale-most (s .args .k .p) (s .pre .within .p-most),
+      );
+    }
 
 returns : tie.Need-returns
 returns c =
@@ -75,7 +77,7 @@ returns c =
       sb = loud d .before .scale-count2 .ensures;
       b = length-is d;
       big = big;
-      exponent = ap₂ (λ (x y : ℕ). a .k .r + x + y) big (scaled (loud d) .scale-count .ensures)
+      exponent = ap₂ (λ (x y : ℕ). a .k .r + x + y) big (scaled (loud d) .scale-count .ensures);
     }
 
 pub begin-spec : {M : Type 1} → statement M

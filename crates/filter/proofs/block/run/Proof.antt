@@ -85,22 +85,23 @@ add-store : tie.Need-add-store Inv-loop μ-loop
 add-store c =
     let b = c .before .before .before .before in
     let s = start b in
-    record { fits = omega (
-      arith,
-      places b (lent s),
-      newB-most (settings s) (memory s (lent s)) (block s) (s .pre .sound) (s .pre .acceptable),
-      scale-most (s .args .k .p) (s .pre .sound .within .p-most),
-    ) }
+    record {
+      fits = omega (
+        arith,
+        places b (lent s),
+        newB-most (settings s) (memory s (lent s)) (block s) (s .pre .sound) (s .pre .acceptable),
+        scale-most (s .args .k .p) (s .pre .sound .within .p-most),
+      );
+    }
 
 store-requires : tie.Need-store-requires Inv-loop μ-loop
 store-requires c κs =
     let b = c .before .before .before .before in
-    let s = start b in
-    (
+    let s = start b in (
       receivable (settings s) (memory s (lent s)) (block s) (s .pre .acceptable),
       omega (arith, s .pre .acceptable .samples-long, s .pre .sound .within .N-most),
       subst (λ (n : ℕ). Each (Storable 15 n) (receivedAll (s .args .m .now) (s .args .gains .now))) (sym (places b (lent s)))
-      (received-storable (settings s) (memory s (lent s)) (block s) (s .pre .sound) (s .pre .acceptable)),
+          (received-storable (settings s) (memory s (lent s)) (block s) (s .pre .sound) (s .pre .acceptable)),
     )
 
 -- the place where the block began
@@ -221,7 +222,7 @@ returns c =
     let a = c .before .before .before .before .before in
     let s = origin (turned a) in
     let f = R.stopped (settings s) (memory s (lent s)) (block s) (lent s) (s .pre) _ _ _ _ _ _ _ _ _ _ _ (passed (turned a)) (more (turned a))
-            (a .advance .result) _ _ _ _ (advanced a (lent s) (s .pre) (passed (turned a))) (c .if1 .taken) in
+    (a .advance .result) _ _ _ _ (advanced a (lent s) (s .pre) (passed (turned a))) (c .if1 .taken) in
     record { done = sym f; finished = λ e. absurd (subst T (sym e ∙ f) tt) }
 
 -- the place of the call from the stores
@@ -305,7 +306,7 @@ returns-2 c =
     record {
       done = sym (R.all-go (settings s) (memory s (lent s)) (block s) (lent s) (s .pre) _ _ _ _ _ _ _ _ _ _ _ (all-passed c) all);
       finished = λ e. R.finished (settings s) (memory s (lent s)) (block s) (lent s) (s .pre) _ _ _ _ _ _ _ _ _ _ _ (all-passed c) all _
-          refl (length-is b (lent s)) (big-is b (lent s)) refl refl refl refl refl
+          refl (length-is b (lent s)) (big-is b (lent s)) refl refl refl refl refl;
     }
 
 pub run-spec : {M : Type 1} → statement M

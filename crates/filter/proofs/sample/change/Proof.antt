@@ -62,7 +62,7 @@ symbol-kept c = kept w16 (start (first (second c)) .args .j .v) (omega (arith, c
 returns : tie.Need-returns
 returns c = record {
   settled-is = settled-of (ahead (first (second c))) (behind (second c)) (c .before .before .before .before .before .before .settle .ensures);
-  pushed = c .before .push .ensures ∙ rw (symbol-kept c)
+  pushed = c .before .push .ensures ∙ rw (symbol-kept c);
 }
 
 pub change-spec : {M : Type 1} → statement M

@@ -59,7 +59,7 @@ returns c =
     record {
       nu = nu-is (d .before .before .before);
       y = kept w32 (c .before .output .result .y) (omega (arith, c .struct-told .given)) ∙ c .before .output .ensures .0 ∙ rw (forward-sum (d .before .before), held-sum d, nu-is (d .before .before .before));
-      xi = c .before .output .ensures .1 ∙ rw (nu-is (d .before .before .before))
+      xi = c .before .output .ensures .1 ∙ rw (nu-is (d .before .before .before));
     }
 
 pub hear-spec : {M : Type 1} → statement M

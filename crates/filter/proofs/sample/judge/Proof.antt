@@ -66,7 +66,7 @@ returns c =
       decision = decided (d .before .before);
       v = picked (d .before);
       z = kept w32 (c .before .error .result .z) (omega (arith, c .struct-told .given)) ∙ e .0 ∙ rw (picked (d .before), toZ-ofZ (d .before .before .before .fits .y), length-is d);
-      theta = e .1 ∙ rw (length-is d)
+      theta = e .1 ∙ rw (length-is d);
     }
 
 pub judge-spec : {M : Type 1} → statement M

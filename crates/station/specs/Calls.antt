@@ -1,0 +1,54 @@
+-- What the functions below the operations ask and promise.
+use mathlib.Core.Path.{_≡_}
+use mathlib.Core.Bool.{Bool, true}
+use mathlib.Core.List.{List}
+use Prim.Native.Nat.{ℕ, _<_}
+use lib.ListN.{take}
+use lib.IntN.{ℤ}
+use Rattle.filter.specs.Block.{Block, goes, left, handedY, handedξ, handedDecision, handedZ, handedθ}
+use Rattle.filter.specs.Sound.{Sound, Acceptable}
+use Rattle.station.specs.Sizes.{sizesFit}
+use Rattle.station.specs.State.{settings, memory, isSound, stateOf}
+use Rattle.station.specs.Answers.{Lent}
+use Rattle.station.specs.declared.equaliser.Equaliser.{Equaliser}
+use Rattle.station.specs.declared.block.Done.{Done}
+use Rattle.filter.specs.declared.block.Ran.{Ran}
+
+abbrev pub lentOf : List ℤ → List ℕ → List ℤ → List ℤ → List ℕ → List ℤ → List ℤ → List ℕ → Lent
+lentOf m gains entries y xi decision z theta = record { m = m; gains = gains; entries = entries; y = y; xi = xi; decision = decision; z = z; theta = theta }
+
+-- a state and a block that passed the checks
+pub record Checked (e : Equaliser) (i : Block) : Type 0 where
+  pub sizes : sizesFit (settings e) ≡ true
+  pub sound-state : isSound e ≡ true
+  pub sound : Sound (settings e) (memory e)
+  pub acceptable : Acceptable (settings e) i
+
+pub record Finished (e : Equaliser) (i : Block) (r : Done) : Type 0 where
+  pub state : r .state ≡ stateOf (settings e) (left (settings e) (memory e) i)
+  pub y : take (e .n) (r .y) ≡ handedY (settings e) (memory e) i
+  pub xi : take (e .n) (r .xi) ≡ handedξ (settings e) (memory e) i
+  pub decision-is : take (e .n) (r .decision) ≡ handedDecision (settings e) (memory e) i
+  pub z : take (e .n) (r .z) ≡ handedZ (settings e) (memory e) i
+  pub theta : take (e .n) (r .theta) ≡ handedθ (settings e) (memory e) i
+
+pub record Done-is (e : Equaliser) (i : Block) (r : Done) : Type 0 where
+  pub done : r .done ≡ goes (settings e) (memory e) i (e .n)
+  pub finished : goes (settings e) (memory e) i (e .n) ≡ true → Finished e i r
+
+-- the numbers of a run that fit their bytes
+pub record Ended (e : Equaliser) (ran : Ran) : Type 0 where
+  pub psi : ran .psi < 256
+  pub b : ran .b < 256
+  pub big : ran .big < 256
+
+abbrev pub doneOf : Equaliser → Ran → List ℤ → List ℤ → Done
+doneOf e ran weights past = record {
+  done = ran .done;
+  state = record { p = e .p; q = e .q; n = e .n; r = e .r; l = e .l; psi = ran .psi; b = ran .b; big = ran .big; m = e .m; weights = weights; past = past };
+  y = ran .y;
+  xi = ran .xi;
+  decision = ran .decision;
+  z = ran .z;
+  theta = ran .theta;
+}

@@ -1,0 +1,22 @@
+-- The sizes and the step admission, as tests.
+use mathlib.Core.Bool.{Bool, _&&_, cond}
+use Prim.Native.Nat.{ℕ, _+_, _*_, _^_}
+use lib.Dec.{leb}
+use Rattle.filter.specs.Settings.{Settings, tapLimit, blockLimit, stepBound}
+
+abbrev pub sizesFit : Settings → Bool
+sizesFit k =
+    leb 1 (k .p) && leb (k .p) tapLimit && leb 1 (k .q) && leb (k .q) tapLimit && leb 1 (k .N) && leb (k .p) (k .N + 1) && leb (k .N) blockLimit
+    && leb (k .r) 3 && leb (k .L) 15
+
+-- M·D ≤ 2^30, both sides times 2^L
+abbrev pub admits : Settings → Bool
+admits k = leb (k .M * stepBound k) (2 ^ (30 + k .L))
+
+-- what set-up answers: 0, or the number of the refusal
+unfoldable pub settingsNumber : Settings → ℕ
+settingsNumber k = cond (sizesFit k) (cond (admits k) 0 2) 1
+
+-- the settings of these numbers
+abbrev pub given : ℕ → ℕ → ℕ → ℕ → ℕ → ℕ → Settings
+given p q N r L M = record { p = p; q = q; N = N; r = r; L = L; M = M }

@@ -1,0 +1,149 @@
+// Running a block: the checks, and the run of an acceptable block.
+ghost use mathlib.Core.Path.{_≡_};
+ghost use Rattle.filter.specs.Calls.{blockOf};
+ghost use Rattle.station.specs.Answers.{lengthsFit, checkNumber};
+ghost use Rattle.station.specs.Calls.{lentOf, Checked, Done-is, Ended, doneOf};
+use super::equaliser::Equaliser;
+use filter::block::Ran;
+use filter::sample::Settings;
+
+// Whether ψ kept its limit, and then the next state and what is handed out.
+pub struct Done {
+    pub done: bool,
+    pub state: Equaliser,
+    pub y: [i32; 128],
+    pub xi: [u8; 128],
+    pub decision: [i8; 128],
+    pub z: [i32; 128],
+    pub theta: [u8; 128],
+}
+
+// 3: whether every lent list is N long.
+pub fn lengths_fit(
+    n: usize,
+    m: &[i16],
+    gains: &[u8],
+    entries: &[i8],
+    y: &[i32],
+    xi: &[u8],
+    decision: &[i8],
+    z: &[i32],
+    theta: &[u8],
+) -> bool
+    ensures { λ r. ⌜ r ≡ lengthsFit n (lentOf (now (m .entry)) (now (gains .entry)) (now (entries .entry)) (now (y .entry)) (now (xi .entry)) (now (decision .entry)) (now (z .entry)) (now (theta .entry))) ⌝ }
+{
+    if m.len() != n || gains.len() != n || entries.len() != n {
+        return false;
+    }
+    if y.len() != n || xi.len() != n || decision.len() != n {
+        return false;
+    }
+    z.len() == n && theta.len() == n
+}
+
+// 1, 2, 9, then 3, 4, 5, or 0.
+pub fn checked(
+    e: Equaliser,
+    m: &[i16],
+    gains: &[u8],
+    entries: &[i8],
+    y: &[i32],
+    xi: &[u8],
+    decision: &[i8],
+    z: &[i32],
+    theta: &[u8],
+) -> u8
+    ensures { λ r. ⌜ r ≡ checkNumber e (lentOf (now (m .entry)) (now (gains .entry)) (now (entries .entry)) (now (y .entry)) (now (xi .entry)) (now (decision .entry)) (now (z .entry)) (now (theta .entry))) ⌝ }
+{
+    let number = super::sound::examined(e);
+    if number != 0 {
+        return number;
+    }
+    if !lengths_fit(e.n as usize, m, gains, entries, y, xi, decision, z, theta) {
+        return 3;
+    }
+    if !super::sound::all_gains(gains, e.l) {
+        return 4;
+    }
+    if super::sound::all_entries(entries, e.r as u32) {
+        0
+    } else {
+        5
+    }
+}
+
+// The run of a block that passed the checks.
+pub fn run_checked(e: Equaliser, m: &[i16], gains: &[u8], entries: &[i8]) -> Done
+    requires { ⌜ Checked e (blockOf (now m) (now gains) (now entries)) ⌝ }
+    ensures { λ r. ⌜ Done-is e (blockOf (now (m .entry)) (now (gains .entry)) (now (entries .entry))) r ⌝ }
+{
+    let p = e.p as usize;
+    let q = e.q as usize;
+    let taps = p + q;
+    let weights = e.weights;
+    let past = e.past;
+    let mut forward = super::copies::fronted(&weights[..p]);
+    let mut back = super::copies::fronted(&weights[p..taps]);
+    let mut window = super::copies::fronted(&past[..p]);
+    let mut symbols = super::copies::fronted(&past[p..taps]);
+    let k = Settings {
+        p: e.p as u32,
+        q: e.q as u32,
+        n: e.n as u32,
+        r: e.r as u32,
+        l: e.l as u32,
+        m: e.m,
+    };
+    let ran = filter::block::run(
+        k,
+        e.psi as u32,
+        e.b as u32,
+        e.big as u32,
+        m,
+        gains,
+        entries,
+        &mut forward[..p],
+        &mut back[..q],
+        &mut window[..p],
+        &mut symbols[..q],
+    );
+    let last = p - 1;
+    window[last] = 0;
+    let ws = super::copies::joined(&forward[..p], &back[..q]);
+    let ds = super::copies::joined(&window[..p], &symbols[..q]);
+    finished(e, ran, ws, ds)
+}
+
+// The state from its parts, beside what the block hands out.
+fn finished(e: Equaliser, ran: Ran, ws: [i16; 32], ds: [i16; 32]) -> Done
+    requires { ⌜ Ended e ran ⌝ }
+    ensures { λ r. ⌜ r ≡ doneOf e ran ws ds ⌝ }
+{
+    let y = ran.y;
+    let xi = ran.xi;
+    let decision = ran.decision;
+    let z = ran.z;
+    let theta = ran.theta;
+    let next = Equaliser {
+        p: e.p,
+        q: e.q,
+        n: e.n,
+        r: e.r,
+        l: e.l,
+        psi: ran.psi as u8,
+        b: ran.b as u8,
+        big: ran.big as u8,
+        m: e.m,
+        weights: ws,
+        past: ds,
+    };
+    Done {
+        done: ran.done,
+        state: next,
+        y: y,
+        xi: xi,
+        decision: decision,
+        z: z,
+        theta: theta,
+    }
+}

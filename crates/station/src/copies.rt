@@ -1,0 +1,75 @@
+// Copies between lists of one length, and lists at the front of an array.
+ghost use mathlib.Core.Path.{_≡_};
+ghost use mathlib.Core.List.{_++_};
+ghost use Prim.Native.Nat.{_+_, _-_, _≤_};
+ghost use lib.ListN.{length, replicate};
+ghost use lib.IntN.{pos};
+ghost use Rattle.station.specs.State.{padded};
+
+pub fn copy16(src: &[i16], dst: &mut [i16])
+    requires { ⌜ length (now src) ≡ length (now dst) ⌝ }
+    ensures { λ _. ⌜ now (dst .exit) ≡ now (src .entry) ⌝ }
+{
+    let mut i: usize = 0;
+    while i < src.len() {
+        dst[i] = src[i];
+        i += 1;
+    }
+}
+
+pub fn copy32(src: &[i32], dst: &mut [i32])
+    requires { ⌜ length (now src) ≡ length (now dst) ⌝ }
+    ensures { λ _. ⌜ now (dst .exit) ≡ now (src .entry) ⌝ }
+{
+    let mut i: usize = 0;
+    while i < src.len() {
+        dst[i] = src[i];
+        i += 1;
+    }
+}
+
+pub fn copy8(src: &[i8], dst: &mut [i8])
+    requires { ⌜ length (now src) ≡ length (now dst) ⌝ }
+    ensures { λ _. ⌜ now (dst .exit) ≡ now (src .entry) ⌝ }
+{
+    let mut i: usize = 0;
+    while i < src.len() {
+        dst[i] = src[i];
+        i += 1;
+    }
+}
+
+pub fn copy_bytes(src: &[u8], dst: &mut [u8])
+    requires { ⌜ length (now src) ≡ length (now dst) ⌝ }
+    ensures { λ _. ⌜ now (dst .exit) ≡ now (src .entry) ⌝ }
+{
+    let mut i: usize = 0;
+    while i < src.len() {
+        dst[i] = src[i];
+        i += 1;
+    }
+}
+
+// A list at the front of sixteen places.
+pub fn fronted(src: &[i16]) -> [i16; 16]
+    requires { ⌜ length (now src) ≤ 16 ⌝ }
+    ensures { λ r. ⌜ r ≡ now (src .entry) ++ replicate (16 - length (now (src .entry))) (pos 0) ⌝ }
+{
+    let mut out = [0i16; 16];
+    let n = src.len();
+    copy16(src, &mut out[..n]);
+    out
+}
+
+// Two lists, one after the other, at the front of thirty-two places.
+pub fn joined(first: &[i16], second: &[i16]) -> [i16; 32]
+    requires { ⌜ length (now first) + length (now second) ≤ 32 ⌝ }
+    ensures { λ r. ⌜ r ≡ padded (now (first .entry) ++ now (second .entry)) ⌝ }
+{
+    let mut out = [0i16; 32];
+    let n = first.len();
+    let end = n + second.len();
+    copy16(first, &mut out[..n]);
+    copy16(second, &mut out[n..end]);
+    out
+}
