@@ -1,0 +1,4 @@
+pub mod Decimal
+pub mod Trace
+pub mod Text
+pub mod Written
