@@ -1,0 +1,59 @@
+//! A second implementation of the station equaliser, written from document 01
+//! alone. It is meant to be read beside that document and to be compared with
+//! a faster implementation; it is not meant to be fast.
+//!
+//! Every number is exact. The equaliser itself works on whole numbers and on
+//! dyadic numbers (a whole number times a power of two) in 128 bits, with
+//! every operation checked. The checker of demand 3 uses whole numbers of any
+//! length.
+//!
+//! Answers are numbers: 0 for accepted, otherwise the refusal's number.
+//!
+//! * [`numbers`]: the cut T, the bit length, the scale count S.
+//! * [`settings`]: the limits and the step admission.
+//! * [`state`]: the equaliser record, soundness, set-up.
+//! * [`block`]: running a block.
+//! * [`image`]: saving and loading.
+//! * [`trace`]: the bytes of a trace to its text.
+//! * [`exact`]: whole numbers and dyadic numbers of any length.
+//! * [`demand3`]: the figures of demand 3, checked at every sample.
+//! * [`random`]: a small generator and arbitrary sound states.
+//! * [`vectors`]: the test vectors.
+
+pub mod block;
+pub mod demand3;
+pub mod exact;
+pub mod image;
+pub mod numbers;
+pub mod random;
+pub mod settings;
+pub mod state;
+pub mod trace;
+pub mod vectors;
+
+pub use block::{run, Inputs, Outputs};
+pub use image::{image_length, load, save};
+pub use settings::Settings;
+pub use state::{set_up, State};
+pub use trace::trace;
+
+/// The call was accepted.
+pub const ACCEPTED: u8 = 0;
+/// A size is outside its limits.
+pub const SIZES: u8 = 1;
+/// M is not admitted.
+pub const STEP: u8 = 2;
+/// A lent list is not N long.
+pub const LISTS: u8 = 3;
+/// A gain is below L or above 15.
+pub const GAIN: u8 = 4;
+/// A training entry is neither 0 nor a symbol.
+pub const TRAINING: u8 = 5;
+/// The weights' exponent would rise to 16.
+pub const EXPONENT: u8 = 6;
+/// The buffer is shorter than the image.
+pub const BUFFER: u8 = 7;
+/// The bytes have a wrong length (or, in a trace, a nonzero byte 5).
+pub const LENGTH: u8 = 8;
+/// The state is not sound.
+pub const UNSOUND: u8 = 9;

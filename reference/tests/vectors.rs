@@ -1,0 +1,239 @@
+//! The test vectors: the same every time, each kind present, and replayed
+//! from their bytes.
+
+use reference::block::{Inputs, Outputs};
+use reference::vectors::{block_vectors, image_vectors, trace_vectors, TraceVector};
+use reference::{image_length, load, run, save, trace, Settings, State};
+use std::collections::BTreeSet;
+use std::sync::OnceLock;
+
+/// The traces, made once.
+fn traces() -> &'static [TraceVector] {
+    static TRACES: OnceLock<Vec<TraceVector>> = OnceLock::new();
+    TRACES.get_or_init(trace_vectors)
+}
+
+/// Takes bytes from the front of a list.
+struct Reader<'a>(&'a [u8]);
+
+impl<'a> Reader<'a> {
+    fn take(&mut self, length: usize) -> &'a [u8] {
+        let (front, rest) = self.0.split_at(length);
+        self.0 = rest;
+        front
+    }
+
+    fn byte(&mut self) -> u8 {
+        self.take(1)[0]
+    }
+
+    fn short(&mut self) -> u16 {
+        u16::from_le_bytes(self.take(2).try_into().unwrap())
+    }
+
+    fn long(&mut self) -> u32 {
+        u32::from_le_bytes(self.take(4).try_into().unwrap())
+    }
+
+    fn record(&mut self) -> State {
+        let h = self.take(8);
+        let m = self.long();
+        let mut places = || (0..32).map(|_| self.short() as i16).collect();
+        State {
+            settings: Settings {
+                p: h[0],
+                q: h[1],
+                n: h[2],
+                r: h[3],
+                l: h[4],
+                m,
+            },
+            psi: h[5],
+            b: h[6],
+            big_b: h[7],
+            weights: places(),
+            data: places(),
+        }
+    }
+}
+
+#[test]
+fn traces_replay() {
+    let vectors = traces();
+    let bytes: Vec<u8> = vectors.iter().flat_map(|vector| vector.bytes()).collect();
+    assert!(bytes.len() < 3_000_000);
+    let mut reader = Reader(&bytes);
+    let mut count = 0;
+    while !reader.0.is_empty() {
+        let length = reader.long() as usize;
+        let input = reader.take(length);
+        let length = reader.long() as usize;
+        let text = reader.take(length);
+        assert_eq!(trace(input).as_bytes(), text);
+        count += 1;
+    }
+    assert_eq!(count, vectors.len());
+    assert!(count >= 220);
+}
+
+#[test]
+fn traces_have_every_kind() {
+    let vectors = traces();
+    let mut stops = BTreeSet::new();
+    let mut rs = BTreeSet::new();
+    let mut ls = BTreeSet::new();
+    let mut taps = BTreeSet::new();
+    let mut lengths = BTreeSet::new();
+    let mut frozen = 0;
+    let mut largest = 0;
+    for vector in vectors {
+        let input = &vector.input;
+        let last = vector.text.lines().last().unwrap_or("");
+        if let Some(stop) = last.strip_prefix("stop ") {
+            stops.insert(stop.split(' ').next().unwrap().to_string());
+        }
+        lengths.insert(input.len());
+        if input.len() < 12 || vector.text.starts_with("stop") || vector.text.is_empty() {
+            continue;
+        }
+        let m = u32::from_le_bytes(input[8..12].try_into().unwrap());
+        let settings = Settings {
+            p: input[0],
+            q: input[1],
+            n: input[2],
+            r: input[3],
+            l: input[4],
+            m,
+        };
+        rs.insert(settings.r);
+        ls.insert((settings.r, settings.l));
+        taps.insert((settings.p, settings.q, settings.n));
+        frozen += u32::from(m == 0);
+        largest += u32::from(m == settings.largest_m());
+    }
+    let expected = ["1", "2", "4", "5", "8"].map(str::to_string);
+    assert_eq!(stops, BTreeSet::from(expected));
+    assert_eq!(rs.len(), 4);
+    assert_eq!(ls.len(), 64);
+    for (p, q) in [(1, 1), (1, 16), (16, 1), (16, 16)] {
+        let least = 1.max(p - 1);
+        assert!(taps.contains(&(p, q, least)) && taps.contains(&(p, q, 128)));
+    }
+    assert!(frozen > 3 && largest > 100);
+    for length in [0, 11, 12, 65_535, 65_536, 65_537, 65_540, 65_548] {
+        assert!(lengths.contains(&length), "{length}");
+    }
+    let longest = vectors
+        .iter()
+        .filter(|vector| vector.input.len() == 65_536)
+        .map(|vector| vector.text.lines().count())
+        .max();
+    assert_eq!(longest, Some(16_381));
+}
+
+#[test]
+fn blocks_replay() {
+    let vectors = block_vectors();
+    let bytes: Vec<u8> = vectors.iter().flat_map(|vector| vector.bytes()).collect();
+    let mut reader = Reader(&bytes);
+    let mut count = 0;
+    while !reader.0.is_empty() {
+        let before = reader.record();
+        let lengths: Vec<usize> = (0..8).map(|_| usize::from(reader.short())).collect();
+        let samples: Vec<i16> = (0..lengths[0]).map(|_| reader.short() as i16).collect();
+        let gains = reader.take(lengths[1]);
+        let training: Vec<i8> = reader.take(lengths[2]).iter().map(|&t| t as i8).collect();
+        let untouched = Outputs {
+            y: vec![-9; lengths[3]],
+            xi: vec![99; lengths[4]],
+            decision: vec![99; lengths[5]],
+            z: vec![-9; lengths[6]],
+            theta: vec![99; lengths[7]],
+        };
+        let mut outputs = untouched.clone();
+        let mut state = before.clone();
+        let inputs = Inputs {
+            samples: &samples,
+            gains,
+            training: &training,
+        };
+        let number = run(&mut state, inputs, &mut outputs);
+        assert_eq!(number, reader.byte());
+        if number == 0 {
+            for i in 0..usize::from(before.settings.n) {
+                assert_eq!(outputs.y[i], reader.long() as i32);
+                assert_eq!(outputs.xi[i], reader.byte());
+                assert_eq!(outputs.decision[i], reader.byte() as i8);
+                assert_eq!(outputs.z[i], reader.long() as i32);
+                assert_eq!(outputs.theta[i], reader.byte());
+            }
+            assert_eq!(state, reader.record());
+        } else {
+            assert_eq!(state, before);
+            assert_eq!(outputs, untouched);
+        }
+        count += 1;
+    }
+    assert_eq!(count, vectors.len());
+    assert!(count >= 300);
+}
+
+#[test]
+fn blocks_have_every_kind() {
+    let vectors = block_vectors();
+    let mut numbers = [0; 10];
+    let mut exponents = BTreeSet::new();
+    let mut rises = 0;
+    for vector in &vectors {
+        numbers[usize::from(vector.number)] += 1;
+        if vector.number == 0 {
+            exponents.insert(vector.before.psi);
+            rises += u32::from(vector.after.psi > vector.before.psi);
+        }
+    }
+    for number in [1, 2, 3, 4, 5, 6, 9] {
+        assert!(numbers[number] >= 10, "{number}");
+    }
+    assert_eq!((numbers[7], numbers[8]), (0, 0));
+    assert!(numbers[0] >= 200);
+    assert_eq!(exponents.len(), 16);
+    assert!(rises > 20);
+}
+
+#[test]
+fn images_replay() {
+    let vectors = image_vectors();
+    let bytes: Vec<u8> = vectors.iter().flat_map(|vector| vector.bytes()).collect();
+    let mut reader = Reader(&bytes);
+    let mut numbers = [0; 10];
+    while !reader.0.is_empty() {
+        let length = usize::from(reader.short());
+        let image = reader.take(length);
+        let (number, state) = load(image);
+        assert_eq!(number, reader.byte());
+        if number == 0 {
+            let mut again = vec![0; image_length(&state.settings)];
+            assert_eq!(save(&state, &mut again), (0, image.len()));
+            assert_eq!(again, image);
+        } else {
+            assert_eq!(state, State::fresh());
+        }
+        numbers[usize::from(number)] += 1;
+    }
+    assert!(numbers[0] >= 60);
+    assert!(numbers[1] + numbers[2] + numbers[8] + numbers[9] >= 320);
+    for number in [1, 2, 8, 9] {
+        assert!(numbers[number] >= 20, "{number}");
+    }
+    assert_eq!(numbers.iter().sum::<usize>(), vectors.len());
+}
+
+#[test]
+fn the_vectors_are_the_same_every_time() {
+    let bytes = |list: &[TraceVector]| -> Vec<u8> { list.iter().flat_map(|v| v.bytes()).collect() };
+    let blocks = || -> Vec<u8> { block_vectors().iter().flat_map(|v| v.bytes()).collect() };
+    let images = || -> Vec<u8> { image_vectors().iter().flat_map(|v| v.bytes()).collect() };
+    assert!(bytes(traces()) == bytes(&trace_vectors()));
+    assert!(blocks() == blocks());
+    assert!(images() == images());
+}
