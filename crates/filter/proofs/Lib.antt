@@ -25,3 +25,4 @@ pub mod BlockWindow
 pub mod BlockNear
 pub mod BlockSound
 pub mod RunLaws
+pub mod BlockHolds
