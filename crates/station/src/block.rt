@@ -1,8 +1,9 @@
 // Running a block: the checks, and the run of an acceptable block.
 ghost use mathlib.Core.Path.{_≡_};
+ghost use mathlib.Core.Bool.{false};
 ghost use Rattle.filter.specs.Calls.{blockOf};
 ghost use Rattle.station.specs.Answers.{lengthsFit, checkNumber};
-ghost use Rattle.station.specs.Calls.{lentOf, Checked, Done-is, Ended, doneOf};
+ghost use Rattle.station.specs.Calls.{lentOf, Sampled, Checked, Parts, Done-is, Ended, doneOf};
 use super::equaliser::Equaliser;
 use filter::block::Ran;
 use filter::sample::Settings;
@@ -72,6 +73,17 @@ pub fn checked(
     }
 }
 
+// The samples have 16 bits. The loop only reads, for the proof: compiled, it is gone.
+pub fn sixteen_bits(m: &[i16])
+    ensures { λ _. ⌜ Sampled (now (m .entry)) ⌝ }
+{
+    let mut i: usize = 0;
+    while i < m.len() {
+        let x = m[i];
+        i += 1;
+    }
+}
+
 // The run of a block that passed the checks.
 pub fn run_checked(e: Equaliser, m: &[i16], gains: &[u8], entries: &[i8]) -> Done
     requires { ⌜ Checked e (blockOf (now m) (now gains) (now entries)) ⌝ }
@@ -86,6 +98,32 @@ pub fn run_checked(e: Equaliser, m: &[i16], gains: &[u8], entries: &[i8]) -> Don
     let mut back = super::copies::fronted(&weights[p..taps]);
     let mut window = super::copies::fronted(&past[..p]);
     let mut symbols = super::copies::fronted(&past[p..taps]);
+    run_parts(
+        e,
+        m,
+        gains,
+        entries,
+        &mut forward[..p],
+        &mut back[..q],
+        &mut window[..p],
+        &mut symbols[..q],
+    )
+}
+
+// The run on the four parts of a state: weights, samples with a place for the next, symbols.
+fn run_parts(
+    e: Equaliser,
+    m: &[i16],
+    gains: &[u8],
+    entries: &[i8],
+    forward: &mut [i16],
+    back: &mut [i16],
+    window: &mut [i16],
+    symbols: &mut [i16],
+) -> Done
+    requires { ⌜ Parts e (blockOf (now m) (now gains) (now entries)) (now forward) (now back) (now window) (now symbols) ⌝ }
+    ensures { λ r. ⌜ Done-is e (blockOf (now (m .entry)) (now (gains .entry)) (now (entries .entry))) r ⌝ }
+{
     let k = Settings {
         p: e.p as u32,
         q: e.q as u32,
@@ -102,16 +140,39 @@ pub fn run_checked(e: Equaliser, m: &[i16], gains: &[u8], entries: &[i8]) -> Don
         m,
         gains,
         entries,
-        &mut forward[..p],
-        &mut back[..q],
-        &mut window[..p],
-        &mut symbols[..q],
+        forward,
+        back,
+        window,
+        symbols,
     );
-    let last = p - 1;
+    if !ran.done {
+        return stopped(e, ran);
+    }
+    let last = window.len() - 1;
     window[last] = 0;
-    let ws = super::copies::joined(&forward[..p], &back[..q]);
-    let ds = super::copies::joined(&window[..p], &symbols[..q]);
+    let ws = super::copies::joined(forward, back);
+    let ds = super::copies::joined(window, symbols);
     finished(e, ran, ws, ds)
+}
+
+// A block at which ψ would pass its limit leaves no next state.
+fn stopped(e: Equaliser, ran: Ran) -> Done
+    ensures { λ r. ⌜ r .done ≡ false ⌝ }
+{
+    let y = ran.y;
+    let xi = ran.xi;
+    let decision = ran.decision;
+    let z = ran.z;
+    let theta = ran.theta;
+    Done {
+        done: false,
+        state: e,
+        y: y,
+        xi: xi,
+        decision: decision,
+        z: z,
+        theta: theta,
+    }
 }
 
 // The state from its parts, beside what the block hands out.

@@ -103,6 +103,7 @@ impl Equaliser {
                 state: self,
             };
         }
+        super::block::sixteen_bits(m);
         let r = super::block::run_checked(self, m, gains, entries);
         if !r.done {
             return Answer {

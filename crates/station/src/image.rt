@@ -38,6 +38,9 @@ pub fn put_header(e: Equaliser, out: &mut [u8])
     ensures { λ _. ⌜ now (out .exit) ≡ header e ⌝ }
 {
     let m = e.m;
+    let m1 = m / 256;
+    let m2 = m1 / 256;
+    let m3 = m2 / 256;
     out[0] = e.p;
     out[1] = e.q;
     out[2] = e.n;
@@ -47,7 +50,7 @@ pub fn put_header(e: Equaliser, out: &mut [u8])
     out[6] = e.b;
     out[7] = e.big;
     out[8] = (m % 256) as u8;
-    out[9] = (m / 256 % 256) as u8;
-    out[10] = (m / 65536 % 256) as u8;
-    out[11] = (m / 16777216 % 256) as u8;
+    out[9] = (m1 % 256) as u8;
+    out[10] = (m2 % 256) as u8;
+    out[11] = (m3 % 256) as u8;
 }

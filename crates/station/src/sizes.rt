@@ -10,10 +10,16 @@ pub fn sizes_fit(p: u8, q: u8, n: u8, r: u8, l: u8) -> bool
     if p < 1 || 16 < p || q < 1 || 16 < q {
         return false;
     }
-    if n < 1 || n + 1 < p || 128 < n {
+    if n < 1 || 128 < n {
         return false;
     }
-    r <= 3 && l <= 15
+    if n + 1 < p {
+        return false;
+    }
+    if 3 < r || 15 < l {
+        return false;
+    }
+    true
 }
 
 // Whether M·D ≤ 2^30, both sides times 2^L.
@@ -21,10 +27,10 @@ pub fn admits(p: u8, q: u8, r: u8, l: u8, m: u32) -> bool
     requires { ⌜ sizesFit (given p q 128 r l 0) ≡ true ⌝ }
     ensures { λ f. ⌜ f ≡ admits (given p q 128 r l m) ⌝ }
 {
-    let e = 2 * (r as u64) + 2;
-    let d = (1u64 << (e + 1 + (l as u64)))
-        + (p as u64) * (1u64 << e)
-        + (q as u64) * (1u64 << (e + (l as u64)));
+    let e = 2 * (r as u64);
+    let d = (1u64 << (e + 3 + (l as u64)))
+        + (p as u64) * (1u64 << (e + 2))
+        + (q as u64) * (1u64 << (e + 2 + (l as u64)));
     (m as u64) * d <= 1u64 << (30 + (l as u64))
 }
 

@@ -45,7 +45,7 @@ pub fn is_entry(v: i16, r: u32) -> bool
     ensures { λ f. ⌜ f ≡ isEntry r v ⌝ }
 {
     let size = numbers::bit_length::magnitude(v as i64);
-    size == 0 || (size % 2 == 1 && size <= (2u64 << r) - 1)
+    size == 0 || (size % 2 == 1 && size <= (1u64 << (r + 1)) - 1)
 }
 
 pub fn all_symbols(xs: &[i16], r: u32) -> bool
@@ -81,7 +81,8 @@ pub fn all_gains(gains: &[u8], l: u8) -> bool
 {
     let mut i: usize = 0;
     while i < gains.len() {
-        if gains[i] < l || 15 < gains[i] {
+        let g = gains[i];
+        if g < l || 15 < g {
             return false;
         }
         i += 1;
@@ -92,7 +93,10 @@ pub fn all_gains(gains: &[u8], l: u8) -> bool
 fn sound_exponents(e: Equaliser) -> bool
     ensures { λ f. ⌜ f ≡ soundExponents e ⌝ }
 {
-    e.psi <= 15 && e.b <= e.big && (e.big as u32) + (e.l as u32) <= 31
+    if 15 < e.psi || e.big < e.b {
+        return false;
+    }
+    (e.big as u32) + (e.l as u32) <= 31
 }
 
 fn sound_weights(e: Equaliser) -> bool

@@ -1,4 +1,0 @@
-pub mod Decimal
-pub mod Trace
-pub mod Text
-pub mod Written
