@@ -1,0 +1,126 @@
+-- The text of one block.
+use mathlib.Core.Path.{_≡_, refl, sym, ap, _∙_}
+use mathlib.Core.Bool.{Bool, true, false, cond}
+use mathlib.Core.List.{List, [], _∷_, _++_}
+use Prim.Native.Nat.{ℕ, zero, suc, _+_, _*_, _^_, _≤_, _<_}
+use native.Mathlib.Omega.{arith}
+use lib.Dec.{eqb}
+use mathlib.Core.Logic.{_⊎_, inl, inr}
+use native.Mathlib.Nat.{eq-or-lt-of-le, suc-inj}
+use native.Mathlib.Numerals.{add-one}
+use lib.ListN.{length, getD, length-append, List·getD-append}
+use lib.Seq.{getD-at}
+use lib.IntN.{ℤ, pos, natAbs}
+use borrow.Author.Tests.{eqb-true, eqb-false}
+use Rattle.laws.specs.Lists.{all}
+use Rattle.laws.specs.Powers.{rises}
+use Rattle.filter.specs.Settings.{isEntry}
+use Rattle.filter.specs.Sample.{Y, ξ, decision}
+use Rattle.filter.specs.Block.{Block, Memory, g, at, goes, entryAt, values, handedY, handedξ, handedDecision}
+use Rattle.filter.proofs.SymbolLaws.{symbol-below, decide-symbol}
+use Rattle.filter.proofs.BlockHolds.{bounded-at}
+use Rattle.station.specs.Sizes.{sizesFit, admits}
+use Rattle.station.specs.State.{settings, memory, isSound}
+use Rattle.station.specs.Answers.{Lent, block, examined, lengthsFit, gainFits, checkNumber, runNumber, runState}
+use Rattle.station.specs.Calls.{Checked, Sampled}
+use Rattle.station.specs.declared.equaliser.Equaliser.{Equaliser}
+use Rattle.station.proofs.CheckLaws.{checked-is}
+use Rattle.trace_text.specs.Calls.{Printable, AllPrintable}
+
+-- ---- numbers
+
+examined-most : (e : Equaliser) → examined e ≤ 9
+unfolding examined
+examined-most e = go (sizesFit (settings e)) (admits (settings e)) (isSound e)
+  where
+    go : (a b c : Bool) → cond a (cond b (cond c 0 9) 2) 1 ≤ 9
+    go true true true = omega arith
+    go true true false = omega arith
+    go true false c = omega arith
+    go false b c = omega arith
+
+check-most : (e : Equaliser) (l : Lent) → checkNumber e l ≤ 9
+unfolding checkNumber
+check-most e l = go (eqb (examined e) 0) (lengthsFit (e .n) l) (all (gainFits (e .l)) (l .gains)) (all (isEntry (e .r)) (l .entries))
+  where
+    go : (t a b c : Bool) → cond t (cond a (cond b (cond c 0 5) 4) 3) (examined e) ≤ 9
+    go true true true true = omega arith
+    go true true true false = omega arith
+    go true true false c = omega arith
+    go true false b c = omega arith
+    go false a b c = examined-most e
+
+pub run-most : (e : Equaliser) (l : Lent) → runNumber e l ≤ 9
+unfolding runNumber
+run-most e l = go (eqb (checkNumber e l) 0) (goes (settings e) (memory e) (block l) (e .n))
+  where
+    go : (t a : Bool) → cond t (cond a 0 6) (checkNumber e l) ≤ 9
+    go true true = omega arith
+    go true false = omega arith
+    go false a = check-most e l
+
+pub run-tests : (e : Equaliser) (l : Lent) → runNumber e l ≡ 0 → (checkNumber e l ≡ 0) × (goes (settings e) (memory e) (block l) (e .n) ≡ true)
+unfolding runNumber
+run-tests e l h = go (checkNumber e l) (eqb (checkNumber e l) 0) (goes (settings e) (memory e) (block l) (e .n)) refl h
+  where
+    go : (n : ℕ) (t a : Bool) → eqb n 0 ≡ t → cond t (cond a 0 6) n ≡ 0 → (n ≡ 0) × (a ≡ true)
+    go n true true f h = (eqb-true n 0 f, refl)
+    go n true false f h = absurd (omega arith)
+    go n false a f h = absurd (eqb-false n 0 f h)
+
+-- ---- the values of a function at 0 to n − 1
+
+pub values-length {ℓ} : {A : Type ℓ} (f : ℕ → A) (n : ℕ) → length (values f n) ≡ n
+unfolding values
+values-length f zero = refl
+values-length f (suc n) = length-append (values f n) (f n ∷ []) ∙ ap (λ (m : ℕ). m + 1) (values-length f n) ∙ add-one n
+
+pub values-at {ℓ} : {A : Type ℓ} (f : ℕ → A) (d : A) (n i : ℕ) → i < n → getD (values f n) i d ≡ f i
+unfolding values
+values-at f d zero i h = absurd (omega arith)
+values-at f d (suc n) i h = go (eq-or-lt-of-le h) (λ l. values-at f d n i l)
+  where
+    go : (suc i ≡ suc n) ⊎ (suc i < suc n) → (i < n → getD (values f n) i d ≡ f i) → getD (values f n ++ (f n ∷ [])) i d ≡ f i
+    go (inl q) rest = getD-at (values f n) (f n) [] d i (values-length f n ∙ sym (suc-inj q)) ∙ ap f (sym (suc-inj q))
+    go (inr l) rest = List·getD-append (values f n) (f n ∷ []) d i (omega (arith, values-length f n)) ∙ rest (omega arith)
+
+-- ---- what an accepted block hands out can be printed
+
+module _ (e : Equaliser) (l : Lent) (place : ℕ) (run : runNumber e l ≡ 0) (w : length (e .weights) ≡ 32) (d : length (e .past) ≡ 32)
+    (m : Sampled (l .m)) (room : place + e .n ≤ 100000) where
+  c : Checked e (block l)
+  c = checked-is e l (run-tests e l run .0) w d m
+
+  abbrev outY : ℕ → ℤ
+  outY i = Y (settings e) (g (settings e) (memory e) (block l)) (at (settings e) (memory e) (block l) i) (entryAt (settings e) (memory e) (block l) i)
+
+  abbrev outξ : ℕ → ℕ
+  outξ i = ξ (settings e) (g (settings e) (memory e) (block l)) (at (settings e) (memory e) (block l) i) (entryAt (settings e) (memory e) (block l) i)
+
+  abbrev outDecision : ℕ → ℤ
+  outDecision i = decision (settings e) (g (settings e) (memory e) (block l)) (at (settings e) (memory e) (block l) i) (entryAt (settings e) (memory e) (block l) i)
+
+  decided : (i : ℕ) → natAbs (outDecision i) < 2 ^ (e .r + 1)
+  unfolding decision
+  decided i = symbol-below (e .r) (outDecision i) (decide-symbol (e .r) (outY i) (outξ i))
+
+  each : (i : ℕ) → i < e .n → Printable (place + i) (outY i) (outξ i) (outDecision i)
+  each i h =
+      let b = bounded-at (settings e) (memory e) (block l) (c .sound) (c .acceptable) (run-tests e l run .1) i h in
+      record {
+        place-below = omega (arith, room);
+        Y-below = b .Y-small;
+        ξ-most = b .ξ-most;
+        decision-most = omega (arith, decided i, rises {a = e .r + 1} {b = 4} (omega (arith, c .sound .within .r-most)));
+      }
+
+  pub printable : AllPrintable place (handedY (settings e) (memory e) (block l)) (handedξ (settings e) (memory e) (block l)) (handedDecision (settings e) (memory e) (block l))
+  unfolding handedY handedξ handedDecision
+  printable = record {
+    short = omega (arith, values-length outY (e .n), c .sound .within .N-most);
+    ξ-long = values-length outξ (e .n) ∙ sym (values-length outY (e .n));
+    decisions-long = values-length outDecision (e .n) ∙ sym (values-length outY (e .n));
+    each = λ i h.
+        let below : i < e .n = omega (arith, values-length outY (e .n)) in
+        rw (values-at outY (pos 0) (e .n) i below, values-at outξ 0 (e .n) i below, values-at outDecision (pos 0) (e .n) i below) (each i below);
+  }

@@ -1,0 +1,9 @@
+pub mod DecimalLaws
+pub mod FrontLaws
+pub mod LineLaws
+pub mod ReadLaws
+pub mod WorkedExample
+pub mod BlockTextLaws
+pub mod TextLaws
+pub mod TraceLaws
+pub mod HeardLaws

@@ -1,0 +1,96 @@
+-- The text of a whole trace, in its four cases.
+use mathlib.Core.Path.{_≡_, sym, ap, _∙_}
+use mathlib.Core.Bool.{Bool, true, false, cond, _&&_}
+use mathlib.Core.List.{List, _++_}
+use Prim.Native.Nat.{ℕ, _+_, _*_, _≤_, _<_}
+use native.Mathlib.Omega.{arith}
+use lib.Dec.{leb, eqb}
+use lib.ListN.{length, drop}
+use borrow.Author.Tests.{leb-true, le-leb, lt-leb, eq-eqb, ne-eqb}
+use Rattle.laws.specs.Lists.{and-left}
+use Rattle.filter.specs.Settings.{Settings}
+use Rattle.station.specs.Sizes.{sizesFit, admits, settingsNumber}
+use Rattle.station.specs.State.{fresh, refused}
+use Rattle.station.specs.Answers.{SetUp}
+use Rattle.station.specs.declared.equaliser.Equaliser.{Equaliser}
+use Rattle.station.specs.declared.equaliser.Answer.{Answer}
+use Rattle.station.proofs.SizesLaws.{settings-tests, fit-within}
+use Rattle.trace_text.specs.Trace.{traceLimit, byteAt, settingsIn, samplesIn, countIn, wellFormed}
+use Rattle.trace_text.specs.Text.{stopLine, textFrom, traceText, textLimit}
+use Rattle.trace_text.specs.Written.{Fronted}
+use Rattle.trace_text.specs.Calls.{Traceable, Text-is}
+
+-- ---- the answer, from the text at the front of the bytes
+
+module _ (t before : List ℕ) where
+  pub text-short : length before < textLimit → Text-is t before (record { fits = false; length = 0 }) before
+  text-short h =
+      let e = lt-leb textLimit (length before) h in
+      record {
+        fits = sym e;
+        text-length = sym (ap (λ (b : Bool). cond b (length (traceText t)) 0) e);
+        contents = sym (ap (λ (b : Bool). cond b (traceText t ++ drop (length (traceText t)) before) before) e);
+      }
+
+  pub text-front : (count : ℕ) (after : List ℕ) → textLimit ≤ length before → Fronted (traceText t) before count after →
+      Text-is t before (record { fits = true; length = count }) after
+  text-front count after h f =
+      let e = le-leb textLimit (length before) h in
+      record {
+        fits = sym e;
+        text-length = f .count-is ∙ sym (ap (λ (b : Bool). cond b (length (traceText t)) 0) e);
+        contents = f .contents ∙ sym (ap (λ (b : Bool). cond b (traceText t ++ drop (length (traceText t)) before) before) e);
+      }
+
+-- ---- the header
+
+-- a trace that is well formed has a whole header
+pub header : (t : List ℕ) → wellFormed t ≡ true → 12 ≤ length t
+unfolding wellFormed
+header t e =
+    let size = leb 12 (length t) in
+    let bounds = size && leb (length t) traceLimit in
+    let right = bounds && eqb (length t) (12 + 4 * samplesIn t) in
+    leb-true 12 (length t) (and-left size _ (and-left bounds _ (and-left right (eqb (byteAt t 5) 0) e)))
+
+-- what set-up answers is 0, 1 or 2
+pub settings-most : (k : Settings) → settingsNumber k ≤ 2
+unfolding settingsNumber
+settings-most k = go (sizesFit k) (admits k)
+  where
+    go : (a b : Bool) → cond a (cond b 0 2) 1 ≤ 2
+    go true true = omega arith
+    go true false = omega arith
+    go false b = omega arith
+
+-- ---- the text, case by case
+
+module _ (t : List ℕ) where
+  pub not-well-formed : wellFormed t ≡ false → stopLine 8 0 ≡ traceText t
+  unfolding traceText
+  not-well-formed h = simp h
+
+  module _ (h : wellFormed t ≡ true) (a : Answer) (s : SetUp (settingsIn t) a) where
+    pub refused-text : (a .number ≡ 0 → ⊥) → stopLine (a .number) 0 ≡ traceText t
+    unfolding traceText
+    refused-text f =
+        simp (h, ne-eqb (settingsNumber (settingsIn t)) 0 (λ z. f (s .number ∙ z))) (ap (λ (n : ℕ). stopLine n 0) (s .number))
+
+    pub state-is : a .number ≡ 0 → a .state ≡ fresh (settingsIn t)
+    state-is z = s .state ∙ ap (λ (b : Bool). cond b (fresh (settingsIn t)) refused) (eq-eqb (settingsNumber (settingsIn t)) 0 (sym (s .number) ∙ z))
+
+    pub accepted-text : a .number ≡ 0 → textFrom t (countIn t) 0 (a .state) ≡ traceText t
+    unfolding traceText
+    accepted-text z =
+        simp (h, eq-eqb (settingsNumber (settingsIn t)) 0 (sym (s .number) ∙ z)) (ap (textFrom t (countIn t) 0) (state-is z))
+
+    pub traceable : (out : List ℕ) → textLimit ≤ length out → a .number ≡ 0 → Traceable t (a .state) out
+    unfolding fresh
+    traceable out room z =
+        let n-is : a .state .n ≡ settingsIn t .N = ap (λ (e : Equaliser). e .n) (state-is z) in
+        record {
+          n-is = n-is;
+          n-most = omega (arith, n-is, fit-within (settingsIn t) (settings-tests (settingsIn t) (sym (s .number) ∙ z) .0) .N-most);
+          well-formed = h;
+          room = room;
+        }

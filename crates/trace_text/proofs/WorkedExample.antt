@@ -1,0 +1,49 @@
+-- Document 01's worked example, computed by the definitions.
+use mathlib.Core.Path.{_≡_, refl}
+use mathlib.Core.List.{List, [], _∷_}
+use Prim.Native.Nat.{ℕ}
+use lib.Dec.{lit<}
+use Rattle.laws.specs.Sums.{dot}
+use Rattle.numbers.specs.ScaleCount.{scaleCount}
+use Rattle.numbers.specs.BitLength.{bitLength}
+use Rattle.numbers.specs.Cut.{cut}
+use Rattle.filter.specs.Side.{largest, adapt}
+use Rattle.filter.specs.Output.{output, outputExponent}
+use Rattle.filter.specs.Decision.{decide}
+use Rattle.filter.specs.Error.{error, errorExponent}
+use Rattle.filter.specs.Sample.{longest, ν, F, H, Y, ξ, decision, v, κ, Z, θ, J, newForward, newBack, small, next}
+use Rattle.filter.specs.Block.{receivedAll, values, newb, newB, g, stored, old, start, after, at, goes, handedY, handedξ, handedDecision, left}
+use Rattle.station.specs.Sizes.{settingsNumber}
+use Rattle.station.specs.State.{isSound, stateOf, fresh}
+use Rattle.station.specs.Answers.{examined, checkNumber, runNumber, runState}
+use Rattle.trace_text.specs.Decimal.{digits, decimal, signedDecimal}
+use Rattle.trace_text.specs.Trace.{wellFormed, lentAt}
+use Rattle.trace_text.specs.Text.{line, stopLine, lines, blockLines, textFrom, traceText}
+use Rattle.trace_text.proofs.DecimalLaws.{decimal-one, decimal-steps}
+
+-- all definitions but those of the digits, opened
+steps : Unit {0}
+unfolding scaleCount bitLength cut dot largest adapt longest output outputExponent decide error errorExponent ν F H Y ξ decision v κ Z θ J newForward newBack small next receivedAll values newb newB g stored old start after at goes handedY handedξ handedDecision left settingsNumber isSound stateOf fresh examined checkNumber runNumber runState signedDecimal wellFormed lentAt line stopLine lines blockLines textFrom traceText
+steps = tt
+
+-- p = q = N = 1, r = L = 0, two blocks, M = 67108864; m = 16384 with gain 0 twice; trained on 1, then decided
+example : List ℕ
+example =
+    0x01 ∷ 0x01 ∷ 0x01 ∷ 0x00 ∷ 0x00 ∷ 0x00 ∷ 0x02 ∷ 0x00 ∷ 0x00 ∷ 0x00 ∷ 0x00 ∷ 0x04 ∷ 0x00 ∷ 0x40 ∷ 0x00 ∷ 0x00 ∷ 0x40 ∷ 0x00 ∷ 0x01 ∷ 0x00 ∷ []
+
+-- a number of seven digits takes six steps
+seven : decimal 4194304 ≡ 52 ∷ 49 ∷ 57 ∷ 52 ∷ 51 ∷ 48 ∷ 52 ∷ []
+unfolding digits
+seven = decimal-steps 6 4194304 (lit< tt)
+
+-- "0 0 1 1" and "1 4194304 2 1", a newline after each
+prints : traceText example ≡
+    48 ∷ 32 ∷ 48 ∷ 32 ∷ 49 ∷ 32 ∷ 49 ∷ 10
+    ∷ 49 ∷ 32 ∷ 52 ∷ 49 ∷ 57 ∷ 52 ∷ 51 ∷ 48 ∷ 52 ∷ 32 ∷ 50 ∷ 32 ∷ 49 ∷ 10 ∷ []
+unfolding steps example
+prints = simp (decimal-one 0 (lit< tt), decimal-one 1 (lit< tt), decimal-one 2 (lit< tt), seven)
+
+-- three bytes are too few: "stop 8 0" and a newline
+stops : traceText (1 ∷ 1 ∷ 1 ∷ []) ≡ 115 ∷ 116 ∷ 111 ∷ 112 ∷ 32 ∷ 56 ∷ 32 ∷ 48 ∷ 10 ∷ []
+unfolding steps digits decimal
+stops = refl

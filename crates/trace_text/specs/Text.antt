@@ -1,0 +1,49 @@
+-- The text of a trace: a line for each sample of the accepted blocks, and a line of `stop` at a refusal.
+use mathlib.Core.Bool.{cond}
+use mathlib.Core.List.{List, [], _∷_, _++_}
+use Prim.Native.Nat.{ℕ, zero, suc, _+_, _*_}
+use lib.Dec.{eqb}
+use lib.ListN.{getD}
+use lib.IntN.{ℤ, pos}
+use Rattle.filter.specs.Block.{handedY, handedξ, handedDecision}
+use Rattle.station.specs.Sizes.{settingsNumber}
+use Rattle.station.specs.State.{settings, memory, fresh}
+use Rattle.station.specs.Answers.{Lent, block, runNumber, runState}
+use Rattle.station.specs.declared.equaliser.Equaliser.{Equaliser}
+use Rattle.trace_text.specs.Decimal.{decimal, signedDecimal}
+use Rattle.trace_text.specs.Trace.{settingsIn, countIn, wellFormed, lentAt}
+
+-- place, Y, ξ and decision, with one space between, and a newline
+unfoldable pub line : ℕ → ℤ → ℕ → ℤ → List ℕ
+line place Y ξ d = decimal place ++ (32 ∷ signedDecimal Y) ++ (32 ∷ decimal ξ) ++ (32 ∷ signedDecimal d) ++ (10 ∷ [])
+
+-- stop, the number and the block
+unfoldable pub stopLine : ℕ → ℕ → List ℕ
+stopLine number block = (115 ∷ 116 ∷ 111 ∷ 112 ∷ 32 ∷ []) ++ decimal number ++ (32 ∷ decimal block) ++ (10 ∷ [])
+
+-- the first n lines of what a block hands out, from a place on
+unfoldable pub lines : ℕ → List ℤ → List ℕ → List ℤ → ℕ → List ℕ
+lines place Y ξ d zero = []
+lines place Y ξ d (suc n) = lines place Y ξ d n ++ line (place + n) (getD Y n (pos 0)) (getD ξ n 0) (getD d n (pos 0))
+
+-- the lines of an accepted block
+unfoldable pub blockLines : ℕ → Equaliser → Lent → List ℕ
+blockLines place e l =
+    lines place (handedY (settings e) (memory e) (block l)) (handedξ (settings e) (memory e) (block l)) (handedDecision (settings e) (memory e) (block l)) (e .n)
+
+-- the text of the last blocks, from the block i on
+unfoldable pub textFrom : List ℕ → ℕ → ℕ → Equaliser → List ℕ
+textFrom t zero i e = []
+textFrom t (suc blocks) i e =
+    let l = lentAt t (i * e .n) in
+    cond (eqb (runNumber e l) 0) (blockLines (i * e .n) e l ++ textFrom t blocks (suc i) (runState e l)) (stopLine (runNumber e l) i)
+
+unfoldable pub traceText : List ℕ → List ℕ
+traceText t =
+    cond (wellFormed t)
+    (cond (eqb (settingsNumber (settingsIn t)) 0) (textFrom t (countIn t) 0 (fresh (settingsIn t))) (stopLine (settingsNumber (settingsIn t)) 0))
+    (stopLine 8 0)
+
+-- no text is longer
+abbrev pub textLimit : ℕ
+textLimit = 393216
