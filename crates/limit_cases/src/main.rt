@@ -1,0 +1,184 @@
+// The cases beside the limits that a set-up, a block and a save can show, a line each with what comes of it.
+use libc::STDOUT_FILENO;
+use numbers::bit_length::magnitude;
+use station::equaliser::Equaliser;
+
+fn text(s: &[u8]) {
+    io::write_all(STDOUT_FILENO, s);
+}
+
+fn number(before: &[u8], n: u64) {
+    text(before);
+    io::print_decimal(STDOUT_FILENO, n);
+}
+
+fn byte(before: &[u8], n: u8) {
+    number(before, n as u64);
+}
+
+fn signed(before: &[u8], z: i64) {
+    text(before);
+    if z < 0 {
+        text(b"-");
+    }
+    io::print_decimal(STDOUT_FILENO, magnitude(z));
+}
+
+fn signed_byte(before: &[u8], z: i8) {
+    signed(before, z as i64);
+}
+
+fn signed_short(before: &[u8], z: i16) {
+    signed(before, z as i64);
+}
+
+fn signed_long(before: &[u8], z: i32) {
+    signed(before, z as i64);
+}
+
+fn set_up(p: u8, q: u8, n: u8, r: u8, l: u8, m: u32) {
+    let a = Equaliser::set_up(p, q, n, r, l, m);
+    byte(b"set-up p ", p);
+    byte(b" q ", q);
+    byte(b" N ", n);
+    byte(b" r ", r);
+    byte(b" L ", l);
+    number(b" M ", m as u64);
+    byte(b": answer ", a.number);
+    text(b"\n");
+}
+
+// A state of one tap each, with its weights and its past symbol.
+fn state(r: u8, psi: u8, m: u32, forward: i16, back: i16, symbol: i16) -> Equaliser {
+    let mut weights = [0i16; 32];
+    let mut past = [0i16; 32];
+    weights[0] = forward;
+    weights[1] = back;
+    past[1] = symbol;
+    Equaliser {
+        p: 1,
+        q: 1,
+        n: 1,
+        r: r,
+        l: 0,
+        psi: psi,
+        b: 0,
+        big: 0,
+        m: m,
+        weights: weights,
+        past: past,
+    }
+}
+
+// What the image and the weights of a state say.
+fn say_state(e: Equaliser) {
+    let weights = e.weights;
+    let mut image = [0u8; 20];
+    let saved = e.save(&mut image);
+    byte(b", save ", saved.number);
+    byte(b", psi ", image[5]);
+    byte(b", b ", image[6]);
+    byte(b", B ", image[7]);
+    signed_short(b", weights ", weights[0]);
+    signed_short(b" ", weights[1]);
+    text(b"\n");
+}
+
+// A block of one sample with the gain 0.
+fn block(about: &[u8], e: Equaliser, sample: i16, entry: i8) -> Equaliser {
+    let samples = [sample];
+    let gains = [0u8];
+    let entries = [entry];
+    let mut y = [0i32];
+    let mut xi = [0u8];
+    let mut decision = [0i8];
+    let mut z = [0i32];
+    let mut theta = [0u8];
+    let r = e.run(
+        &samples,
+        &gains,
+        &entries,
+        &mut y,
+        &mut xi,
+        &mut decision,
+        &mut z,
+        &mut theta,
+    );
+    let s = r.state;
+    byte(about, r.number);
+    signed_long(b", Y ", y[0]);
+    byte(b", xi ", xi[0]);
+    signed_byte(b", decision ", decision[0]);
+    say_state(s);
+    s
+}
+
+fn set_ups() {
+    set_up(1, 1, 1, 0, 0, 67108864);
+    set_up(1, 1, 1, 0, 0, 67108865);
+    set_up(3, 3, 2, 2, 1, 2581110);
+    set_up(3, 3, 2, 2, 1, 2581111);
+    set_up(4, 1, 2, 0, 0, 0);
+    set_up(4, 1, 3, 0, 0, 0);
+}
+
+fn loudness() {
+    let loud = block(
+        b"lowest sample: answer ",
+        state(0, 0, 67108864, 0, 0, 0),
+        -32768,
+        1,
+    );
+    let quiet = block(b"zeros after it: answer ", loud, 0, 0);
+    block(b"zeros after those: answer ", quiet, 0, 0);
+    block(
+        b"zeros first: answer ",
+        state(0, 0, 67108864, 0, 0, 0),
+        0,
+        0,
+    );
+}
+
+fn ties() {
+    block(b"y 2: answer ", state(1, 3, 0, 0, 8192, 1), 0, 0);
+    block(b"y -2: answer ", state(1, 3, 0, 0, 8192, -1), 0, 0);
+}
+
+fn halvings() {
+    block(
+        b"new weight 16383: answer ",
+        state(0, 0, 131072, 16382, -3, 0),
+        16384,
+        1,
+    );
+    block(
+        b"new weight 16384: answer ",
+        state(0, 0, 131072, 16383, -3, 0),
+        16384,
+        1,
+    );
+    block(
+        b"new weight -16385: answer ",
+        state(0, 0, 196608, -16383, -3, 0),
+        16384,
+        -1,
+    );
+}
+
+fn two_samples() {
+    let first = block(
+        b"first sample: answer ",
+        state(0, 0, 67108864, 0, 0, 0),
+        16384,
+        1,
+    );
+    block(b"second sample: answer ", first, 16384, 0);
+}
+
+fn main() {
+    set_ups();
+    loudness();
+    ties();
+    halvings();
+    two_samples();
+}

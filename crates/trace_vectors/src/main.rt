@@ -1,0 +1,72 @@
+// Runs the traces of a second implementation and says whether the product gives their texts.
+use vector_files::Turn;
+use vector_files::read_piece;
+use vector_files::read_whole;
+
+// Reads the rest of a vector whose first four bytes are in buf, and answers its size, 0 where the file breaks off.
+fn read_rest(fd: i32, buf: &mut [u8]) -> usize {
+    let text = vectors::trace::text_place(buf);
+    if !read_whole(fd, buf, 4, text) {
+        return 0;
+    }
+    let end = vectors::trace::size(buf);
+    if !read_whole(fd, buf, text, end) {
+        return 0;
+    }
+    end
+}
+
+fn next(fd: i32, buf: &mut [u8], out: &mut [u8]) -> Turn {
+    let got = read_piece(fd, buf, 0, 4);
+    if got == 0 {
+        return Turn::End;
+    }
+    if got < 4 {
+        return Turn::Other;
+    }
+    let end = read_rest(fd, buf);
+    if end > buf.len() {
+        return Turn::Other;
+    }
+    let step = vectors::trace::trace_vector(&buf[0..end], out);
+    if step.size != end {
+        return Turn::Other;
+    }
+    if step.same { Turn::Same } else { Turn::Other }
+}
+
+// Runs the next vector, and answers whether to go on. Where there is no next one or it differs, it says so.
+fn turn(fd: i32, buf: &mut [u8], out: &mut [u8], place: u64) -> bool {
+    match next(fd, buf, out) {
+        Turn::Same => true,
+        Turn::End => {
+            vector_files::say_same(place, b" traces");
+            false
+        }
+        Turn::Other => {
+            vector_files::say_other(place, b"trace ");
+            false
+        }
+    }
+}
+
+// A proved loop has to end, so it stops at more vectors than a file has.
+fn run(fd: i32, buf: &mut [u8], out: &mut [u8]) {
+    let mut place: u64 = 0;
+    while place < 1000000 && turn(fd, buf, out, place) {
+        place += 1;
+    }
+}
+
+fn main() {
+    let path = b"traces.bin";
+    let fd = os::open_read(path);
+    if fd < 0 {
+        os::fail(path);
+        return;
+    }
+    let mut buf = vector_files::room();
+    let mut out = vector_files::room();
+    run(fd, &mut buf, &mut out);
+    libc::close(fd);
+}

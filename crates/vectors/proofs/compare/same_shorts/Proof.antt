@@ -1,0 +1,57 @@
+use Prim.Native.Nat.{_-_}
+use borrow.Author.Needs.{needs}
+use Rattle.vectors.proofs.compare.same_shorts.Statement.{statement}
+use Rattle.vectors.proofs.compare.same_shorts.Tie as tie
+
+abbrev Inv-loop : tie.InvT-loop
+Inv-loop a v i₀ i = Unit {0}
+
+abbrev μ-loop : tie.MeasureT-loop
+μ-loop a v i₀ i = 32 - i
+
+loop-holds : tie.Need-loop-holds Inv-loop μ-loop
+loop-holds c = search needs
+
+mul-if1 : tie.Need-mul-if1 Inv-loop μ-loop
+mul-if1 c = search needs
+
+element-copy-out-if1 : tie.Need-element-copy-out-if1 Inv-loop μ-loop
+element-copy-out-if1 c = search needs
+
+mul-signed-short-at : tie.Need-mul-signed-short-at Inv-loop μ-loop
+mul-signed-short-at c = search needs
+
+signed-short-at-requires : tie.Need-signed-short-at-requires Inv-loop μ-loop
+signed-short-at-requires c κs = search needs
+
+returns : tie.Need-returns Inv-loop μ-loop
+returns c = search needs
+
+add-i : tie.Need-add-i Inv-loop μ-loop
+add-i c = search needs
+
+loop-less : tie.Need-loop-less Inv-loop μ-loop
+loop-less c = search needs
+
+loop-again : tie.Need-loop-again Inv-loop μ-loop
+loop-again c = search needs
+
+returns-2 : tie.Need-returns-2 Inv-loop μ-loop
+returns-2 c = search needs
+
+pub same-shorts-spec : {M : Type 1} → statement M
+same-shorts-spec =
+    tie.close
+    (tie.spec
+    Inv-loop
+    μ-loop
+    loop-holds
+    mul-if1
+    element-copy-out-if1
+    mul-signed-short-at
+    signed-short-at-requires
+    returns
+    add-i
+    loop-less
+    loop-again
+    returns-2)
