@@ -53,9 +53,9 @@ pub fn fresh(p: u8, q: u8, n: u8, r: u8, l: u8, m: u32) -> Equaliser
 
 impl Equaliser {
     // The limits.
-    pub const TAPS: usize = 16;
+    pub const TAPS: u8 = 16;
 
-    pub const BLOCK: usize = 128;
+    pub const BLOCK: u8 = 128;
 
     pub const SYMBOLS: u8 = 3;
 

@@ -2,21 +2,22 @@
 ghost use mathlib.Core.Path.{_≡_};
 ghost use mathlib.Core.Bool.{true};
 ghost use Rattle.station.specs.Sizes.{sizesFit, admits, settingsNumber, given};
+use super::equaliser::Equaliser;
 
 // Whether every size is within its limits.
 pub fn sizes_fit(p: u8, q: u8, n: u8, r: u8, l: u8) -> bool
     ensures { λ f. ⌜ f ≡ sizesFit (given p q n r l 0) ⌝ }
 {
-    if p < 1 || 16 < p || q < 1 || 16 < q {
+    if p < 1 || Equaliser::TAPS < p || q < 1 || Equaliser::TAPS < q {
         return false;
     }
-    if n < 1 || 128 < n {
+    if n < 1 || Equaliser::BLOCK < n {
         return false;
     }
     if n + 1 < p {
         return false;
     }
-    if 3 < r || 15 < l {
+    if Equaliser::SYMBOLS < r || Equaliser::GAIN < l {
         return false;
     }
     true

@@ -82,7 +82,7 @@ pub fn all_gains(gains: &[u8], l: u8) -> bool
     let mut i: usize = 0;
     while i < gains.len() {
         let g = gains[i];
-        if g < l || 15 < g {
+        if g < l || Equaliser::GAIN < g {
             return false;
         }
         i += 1;
@@ -93,7 +93,7 @@ pub fn all_gains(gains: &[u8], l: u8) -> bool
 fn sound_exponents(e: Equaliser) -> bool
     ensures { λ f. ⌜ f ≡ soundExponents e ⌝ }
 {
-    if 15 < e.psi || e.big < e.b {
+    if Equaliser::EXPONENT < e.psi || e.big < e.b {
         return false;
     }
     (e.big as u32) + (e.l as u32) <= 31
