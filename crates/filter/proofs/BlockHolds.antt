@@ -11,8 +11,7 @@ use Rattle.filter.specs.Sound.{Fit, Sound, Acceptable}
 use Rattle.filter.specs.Exact.{Bounded, Faithful}
 use Rattle.filter.proofs.SampleBounds as S
 use Rattle.filter.proofs.Distance as D
-use Rattle.filter.proofs.BlockSound.{fit-at}
-use Rattle.filter.proofs.RunLaws.{goes-before}
+use Rattle.filter.proofs.BlockSound.{fit-at, goes-before}
 
 module _ (k : Settings) (o : Memory) (i : Block) (s : Sound k o) (a : Acceptable k i) (e : goes k o i (k .N) ≡ true) (n : ℕ) (h : n < k .N) where
   pub entry-is : isEntry (k .r) (entryAt k o i n) ≡ true

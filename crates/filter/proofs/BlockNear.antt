@@ -50,7 +50,7 @@ finer a x K U Q q h = omega (arith, ap natAbs whole)
     whole = ring (a ∷ x ∷ pos K ∷ pos U ∷ []) (search terms depth 40) tt ∙ ap (λ (n : ℕ). a *ℤ pos n -ℤ x) (sym q)
 
 -- at the exponent B′ of a later block, whether above or below B
-pub later-off : (A X : ℤ) (B B′ S : ℕ) → Off (B + S) (B + S) A X → Off (B′ + S) (max B B′ + S) (rescale A B B′) X
+later-off : (A X : ℤ) (B B′ S : ℕ) → Off (B + S) (B + S) A X → Off (B′ + S) (max B B′ + S) (rescale A B B′) X
 later-off A X B B′ S h = go (decLe B B′)
   where
     go : Dec (B ≤ B′) → Off (B′ + S) (max B B′ + S) (rescale A B B′) X

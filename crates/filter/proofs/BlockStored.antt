@@ -2,20 +2,20 @@
 use mathlib.Core.Path.{_≡_, refl, sym, ap, _∙_}
 use Prim.Native.Nat.{ℕ, _+_, _*_, _-_, _^_, _≤_, _<_}
 use native.Mathlib.Omega.{arith}
-use native.Mathlib.Nat.{div-mul-le-self, mul-le-mul-left}
+use native.Mathlib.Nat.{mul-le-mul-left}
 use lib.ListN.{length, getD, length-map}
 use lib.IntN.{ℤ, pos, natAbs}
-use Rattle.laws.specs.Integers.{abs-mul}
+use Rattle.laws.specs.Lists.{map-at}
 use Rattle.laws.specs.Powers.{split, rises, scale-le, cancel-lt, positive}
 use Rattle.laws.specs.Powers as Power
-use Rattle.laws.specs.Sums.{Each, each-map}
-use Rattle.numbers.specs.Cut.{raise, rescale}
-use Rattle.numbers.proofs.CutLaws.{cut-abs}
+use Rattle.laws.specs.Sums.{Each, each-map, each-weaken}
+use Rattle.numbers.specs.Cut.{rescale}
+use Rattle.numbers.proofs.CutLaws.{rescale-most}
 use Rattle.filter.specs.Settings.{Settings, scaleForward}
 use Rattle.filter.specs.Block.{Block, Memory, receivedAll, newb, newB, stored, old}
 use Rattle.filter.specs.Sound.{Sound, Acceptable, Receivable, Storable}
-use Rattle.filter.proofs.BlockExponents.{received-length, received-below, newb-newB, oldb-newB, newb-most}
-use Rattle.filter.proofs.BlockLists.{each-follows, map-at}
+use Rattle.filter.proofs.BlockExponents.{received-below, newb-newB, oldb-newB, newb-most}
+use Rattle.filter.proofs.ReceivedLaws.{received-length}
 
 -- the bound of a stored sample in a sound state with b and B, and at a sample
 abbrev pub StateBound : Settings → ℕ → ℕ → ℤ → Type 0
@@ -25,15 +25,6 @@ abbrev pub SampleBound : Settings → ℤ → Type 0
 SampleBound k a = natAbs a * 2 ^ scaleForward k < 2 ^ 15
 
 -- ---- one sample
-
--- a rescaled number is no larger in value
-pub rescale-most : (z : ℤ) (i j : ℕ) → natAbs (rescale z i j) * 2 ^ j ≤ natAbs z * 2 ^ i
-rescale-most z i j = omega (
-  arith,
-  ap (λ (n : ℕ). n * 2 ^ j) (cut-abs (raise z i) j),
-  div-mul-le-self (natAbs (raise z i)) (2 ^ j),
-  abs-mul z (pos (2 ^ i)),
-)
 
 -- X below 2^b, stored at B + S
 stored-below : (x : ℤ) (b e : ℕ) → natAbs x < 2 ^ b → natAbs (rescale x 15 e) * 2 ^ e < 2 ^ (15 + b)
@@ -68,7 +59,7 @@ module _ (k : Settings) (o : Memory) (i : Block) where
 
   pub stored-small : Each (SampleBound k) (stored k o i)
   stored-small =
-      each-follows (StateBound k (newb k o i) (newB k o i)) (SampleBound k)
+      each-weaken (StateBound k (newb k o i) (newB k o i)) (SampleBound k)
       (λ a h. sample-below a (newb k o i) (newB k o i) (scaleForward k) (newb-newB k o i) h) (stored k o i) stored-sound
 
   -- each old sample at the new exponent
@@ -79,7 +70,7 @@ module _ (k : Settings) (o : Memory) (i : Block) where
       (λ a h. rescaled-below a (o .B) (newB k o i) (o .b) (scaleForward k) (oldb-newB k o i) h) (o .samples) (s .samples-small)
 
   received-long : Acceptable k i → length (receivedAll (i .samples) (i .gains)) ≡ k .N
-  received-long a = received-length (k .N) (i .samples) (i .gains) (a .samples-long) (a .gains-long)
+  received-long a = received-length (i .samples) (i .gains) (a .samples-long ∙ sym (a .gains-long)) ∙ a .samples-long
 
   pub stored-length : Acceptable k i → length (stored k o i) ≡ k .N
   unfolding stored
@@ -92,11 +83,11 @@ module _ (k : Settings) (o : Memory) (i : Block) where
   pub stored-at : Acceptable k i → (n : ℕ) → n < k .N →
       getD (stored k o i) n (pos 0) ≡ rescale (getD (receivedAll (i .samples) (i .gains)) n (pos 0)) 15 (newB k o i + scaleForward k)
   unfolding stored
-  stored-at a n h = map-at _ (receivedAll (i .samples) (i .gains)) n (pos 0) (omega (arith, received-long a))
+  stored-at a n h = map-at _ (receivedAll (i .samples) (i .gains)) n (pos 0) (pos 0) (omega (arith, received-long a))
 
   pub old-at : (j : ℕ) → j < length (o .samples) → getD (old k o i) j (pos 0) ≡ rescale (getD (o .samples) j (pos 0)) (o .B) (newB k o i)
   unfolding old
-  old-at j h = map-at _ (o .samples) j (pos 0) h
+  old-at j h = map-at _ (o .samples) j (pos 0) (pos 0) h
 
   -- ---- what the code asks
 
@@ -105,7 +96,7 @@ module _ (k : Settings) (o : Memory) (i : Block) where
 
   pub received-storable : Sound k o → Acceptable k i → Each (Storable 15 (newB k o i + scaleForward k)) (receivedAll (i .samples) (i .gains))
   received-storable s a =
-      each-follows (λ (x : ℤ). natAbs x < 2 ^ newb k o i) (Storable 15 (newB k o i + scaleForward k)) storable (receivedAll (i .samples) (i .gains)) (received-below k o i)
+      each-weaken (λ (x : ℤ). natAbs x < 2 ^ newb k o i) (Storable 15 (newB k o i + scaleForward k)) storable (receivedAll (i .samples) (i .gains)) (received-below k o i)
     where
       storable : (x : ℤ) → natAbs x < 2 ^ newb k o i → Storable 15 (newB k o i + scaleForward k) x
       storable x h =
@@ -119,7 +110,7 @@ module _ (k : Settings) (o : Memory) (i : Block) where
 
   pub old-storable : Sound k o → Each (Storable (o .B) (newB k o i)) (o .samples)
   old-storable s =
-      each-follows (StateBound k (o .b) (o .B)) (Storable (o .B) (newB k o i)) storable (o .samples) (s .samples-small)
+      each-weaken (StateBound k (o .b) (o .B)) (Storable (o .B) (newB k o i)) storable (o .samples) (s .samples-small)
     where
       storable : (a : ℤ) → StateBound k (o .b) (o .B) a → Storable (o .B) (newB k o i) a
       storable a h = record {

@@ -9,7 +9,7 @@ use lib.IntN.{ℤ, pos}
 use Rattle.filter.specs.Settings.{Settings}
 use Rattle.filter.specs.Sample.{next}
 use Rattle.filter.specs.Block.{Block, Memory, stored, old, start, after, at, left}
-use Rattle.filter.proofs.BlockLists.{push-length, push-at}
+use Rattle.filter.proofs.SideLaws.{push-length, push-at}
 use Rattle.filter.proofs.BlockStored.{old-length}
 
 same-place : (l : List ℤ) (m n : ℕ) → m ≡ n → getD l m (pos 0) ≡ getD l n (pos 0)
@@ -22,26 +22,23 @@ module _ (k : Settings) (o : Memory) (i : Block) (p-least : 1 ≤ k .p) (long : 
   after-length (suc n) = push-length (getD (stored k o i) n (pos 0)) (after k o i n .samples) ∙ after-length n
 
   -- the samples at a sample are those when it is done
-  pub at-after : (n : ℕ) → at k o i n .samples ≡ after k o i (suc n) .samples
+  at-after : (n : ℕ) → at k o i n .samples ≡ after k o i (suc n) .samples
   unfolding at after next
   at-after n = refl
-
-  pub at-length : (n : ℕ) → length (at k o i n .samples) ≡ k .p
-  at-length n = ap length (at-after n) ∙ after-length (suc n)
 
   -- when one sample more is done
   after-push : (n j : ℕ) → j < k .p → getD (after k o i (suc n) .samples) j (pos 0) ≡ getD (getD (stored k o i) n (pos 0) ∷ after k o i n .samples) j (pos 0)
   unfolding after next
-  after-push n j h = push-at (getD (stored k o i) n (pos 0)) (after k o i n .samples) j (pos 0) (omega (arith, after-length n))
+  after-push n j h = push-at (getD (stored k o i) n (pos 0)) (after k o i n .samples) j (omega (arith, after-length n))
 
   -- when n samples are done, the places before n hold those of this block
-  pub after-new : (n j m : ℕ) → j < k .p → n ≡ suc (j + m) → getD (after k o i n .samples) j (pos 0) ≡ getD (stored k o i) m (pos 0)
+  after-new : (n j m : ℕ) → j < k .p → n ≡ suc (j + m) → getD (after k o i n .samples) j (pos 0) ≡ getD (stored k o i) m (pos 0)
   after-new zero j m h e = absurd (omega arith)
   after-new (suc n) zero m h e = after-push n 0 h ∙ same-place (stored k o i) n m (omega arith)
   after-new (suc n) (suc j) m h e = after-push n (suc j) h ∙ after-new n j m (omega arith) (omega arith)
 
   -- and the later ones the old samples
-  pub after-old : (n j m : ℕ) → j < k .p → m < k .p - 1 → j ≡ n + m → getD (after k o i n .samples) j (pos 0) ≡ getD (old k o i) m (pos 0)
+  after-old : (n j m : ℕ) → j < k .p → m < k .p - 1 → j ≡ n + m → getD (after k o i n .samples) j (pos 0) ≡ getD (old k o i) m (pos 0)
   unfolding after start
   after-old zero j m h l e = List·getD-append (old k o i) (pos 0 ∷ []) (pos 0) j (omega (arith, old-length k o i long)) ∙ same-place (old k o i) j m (omega arith)
   after-old (suc n) zero m h l e = absurd (omega arith)
@@ -53,9 +50,6 @@ module _ (k : Settings) (o : Memory) (i : Block) (p-least : 1 ≤ k .p) (long : 
 
   pub at-old : (n j m : ℕ) → j < k .p → j ≡ suc (n + m) → getD (at k o i n .samples) j (pos 0) ≡ getD (old k o i) m (pos 0)
   at-old n j m h e = ap (λ (s : List ℤ). getD s j (pos 0)) (at-after n) ∙ after-old (suc n) j m h (omega arith) (omega arith)
-
-  pub newest : (n : ℕ) → getD (at k o i n .samples) 0 (pos 0) ≡ getD (stored k o i) n (pos 0)
-  newest n = at-new n 0 n p-least (omega arith)
 
   -- what the block leaves
   pub left-length : length (left k o i .samples) ≡ k .p - 1

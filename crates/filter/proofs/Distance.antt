@@ -4,10 +4,12 @@ use mathlib.Core.Bool.{true}
 use mathlib.Core.List.{map}
 use Prim.Native.Nat.{ℕ, _+_, _-_, _^_, _≤_, _<_}
 use native.Mathlib.Omega.{arith}
-use lib.ListN.{length, getD, List·getD-map}
+use lib.ListN.{length, getD}
 use lib.IntN.{ℤ, pos, natAbs, _+ℤ_, _-ℤ_, _*ℤ_}
+use Rattle.laws.specs.Lists.{map-at}
 use Rattle.laws.specs.Sums.{dot}
 use Rattle.numbers.specs.Cut.{raise}
+use Rattle.numbers.proofs.CutLaws.{raise-raise}
 use Rattle.numbers.proofs.BitLengthLaws.{bit-length-le}
 use Rattle.filter.specs.Settings.{Settings, isEntry, scaleBack}
 use Rattle.filter.specs.Side.{Side, learnt}
@@ -17,19 +19,19 @@ use Rattle.filter.specs.Exact.{exactOutput, exactWeight, Near, Bounded, 
 use Rattle.filter.proofs.OutputLaws.{ξ-form, θ-form}
 use Rattle.filter.proofs.SideBounds.{SideFit}
 use Rattle.filter.proofs.SampleSides.{ν-is, ν-most, longest-most, H-raised, forward-fit, back-fit, v-below}
-use Rattle.filter.proofs.DistanceOutput.{raised, output-distance, error-distance}
+use Rattle.filter.proofs.DistanceOutput.{output-distance, error-distance}
 use Rattle.filter.proofs.DistanceWeight.{settled-near}
 use Rattle.filter.proofs.DistanceSide.{side-distance, step-small}
 
 module _ (k : Settings) (g : ℕ) (t : Taps) (entry : ℤ) (h : Fit k g t) (e : isEntry (k .r) entry ≡ true) (b : Bounded k g t entry) where
   -- what is held of a symbol, or of a sum over symbols, means the same
   held-means : (z : ℤ) → raise (raise z (15 - ν k g t entry)) (ν k g t entry + 30) ≡ raise z 45
-  held-means z = raised z 15 (ν k g t entry) 30 (omega (arith, ν-most k g t entry h))
+  held-means z = raise-raise z (15 - ν k g t entry) (ν k g t entry + 30) 45 (omega (arith, ν-most k g t entry h))
 
-  held-at : (i : ℕ) → raise (getD (map (held k g t entry) (t .symbols)) i (pos 0)) (ν k g t entry + 30) ≡ raise (getD (t .symbols) i (pos 0)) 45
-  held-at i =
-      ap (λ (z : ℤ). raise z (ν k g t entry + 30))
-      (ap (λ (n : ℕ). getD (map (held k g t entry) (t .symbols)) i (pos n)) (omega arith) ∙ List·getD-map (held k g t entry) (t .symbols) i (pos 0))
+  held-at : (i : ℕ) → i < length (t .symbols) →
+      raise (getD (map (held k g t entry) (t .symbols)) i (pos 0)) (ν k g t entry + 30) ≡ raise (getD (t .symbols) i (pos 0)) 45
+  held-at i l =
+      ap (λ (z : ℤ). raise z (ν k g t entry + 30)) (map-at (held k g t entry) (t .symbols) i (pos 0) (pos 0) l)
       ∙ held-means (getD (t .symbols) i (pos 0))
 
   exact-form : raise (raise (F k g t entry) g +ℤ raise (H k g t entry) (ν k g t entry + 30)) (t .ψ) ≡ exactOutput g t
@@ -74,5 +76,5 @@ module _ (k : Settings) (g : ℕ) (t : Taps) (entry : ℤ) (h : Fit k g t) (e : 
     back-near = λ i l.
         subst (λ (d : ℤ). Near (settledExponent (small k g t entry) (t .ψ)) (getD (settled (small k g t entry) (newBack k g t entry)) i (pos 0))
         (raise (getD (t .back) i (pos 0)) (120 + t .ψ) +ℤ pos (k .M) *ℤ d *ℤ (raise (v k g t entry) 60 -ℤ exactOutput g t)))
-        (held-at i) (side-near (backSide k g t entry) (back-fit k g t entry h) i l);
+        (held-at i (omega (arith, h .back-long, h .symbols-long))) (side-near (backSide k g t entry) (back-fit k g t entry h) i l);
   }

@@ -10,10 +10,9 @@ use Rattle.laws.specs.Integers.{abs-add, abs-sub, abs-mul, abs-neg}
 use Rattle.laws.specs.Powers.{split, same, positive}
 use Rattle.laws.specs.Ring.{ring, terms}
 use Rattle.numbers.specs.Cut.{cut, raise}
-use Rattle.numbers.proofs.CutLaws.{cut-error}
+use Rattle.numbers.proofs.CutLaws.{cut-error, raise-raise}
 use Rattle.filter.specs.Output.{output, outputExponent}
 use Rattle.filter.specs.Error.{error, errorExponent}
-use Rattle.filter.proofs.ListBounds.{raise-raise}
 use Rattle.filter.proofs.OutputLaws.{output-form, output-exponent-form, error-form, error-exponent-form}
 
 -- ---- over plain letters
@@ -66,10 +65,6 @@ error-core n c Y y d x h l = omega (
 
 -- ---- at the exponents
 
--- z·2^(c−n)·2^(n+d)
-pub raised : (z : ℤ) (c n d : ℕ) → n ≤ c → raise (raise z (c - n)) (n + d) ≡ raise z (c + d)
-raised z c n d h = raise-raise z (c - n) (n + d) ∙ ap (λ (m : ℕ). z *ℤ pos m) (same (c - n + (n + d)) (c + d) (omega arith))
-
 max-below : (a b : ℕ) → 2 ^ max a b < 2 ^ a + 2 ^ b
 max-below a b = go (decLe a b)
   where
@@ -97,7 +92,7 @@ error-distance v Y y ξ κ l h = rw (error-form v Y ξ κ) (go (errorExponent ξ
   where
     go : (θ : ℕ) → θ ≤ 30 → ξ ≤ θ → natAbs (raise (raise v (30 - θ) -ℤ cut Y (θ - ξ)) (θ + 30) -ℤ (raise v 60 -ℤ y)) < 2 ^ (θ + 30)
     go θ top low =
-        subst (λ (z : ℤ). natAbs (raise (raise v (30 - θ) -ℤ cut Y (θ - ξ)) (θ + 30) -ℤ (z -ℤ y)) < 2 ^ (θ + 30)) (raised v 30 θ 30 top)
+        subst (λ (z : ℤ). natAbs (raise (raise v (30 - θ) -ℤ cut Y (θ - ξ)) (θ + 30) -ℤ (z -ℤ y)) < 2 ^ (θ + 30)) (raise-raise v (30 - θ) (θ + 30) 60 (omega arith))
         (subst (λ (u : ℕ). natAbs ((raise v (30 - θ) -ℤ cut Y (θ - ξ)) *ℤ pos u -ℤ (raise v (30 - θ) *ℤ pos u -ℤ y)) < u)
         (sym (split (θ + 30) (θ - ξ) (ξ + 30) (omega arith)))
         (error-core (raise v (30 - θ)) (cut Y (θ - ξ)) Y y (2 ^ (θ - ξ)) (2 ^ (ξ + 30)) (cut-error Y (θ - ξ)) h))

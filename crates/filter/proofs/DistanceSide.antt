@@ -1,6 +1,6 @@
 -- The new weights of a side and the exact ones.
-use mathlib.Core.Path.{_≡_, refl, sym, _∙_}
-use Prim.Native.Nat.{ℕ, _+_, _*_, _-_, _^_, _≤_, _<_, max}
+use mathlib.Core.Path.{_≡_, refl}
+use Prim.Native.Nat.{ℕ, _+_, _*_, _^_, _≤_, _<_, max}
 use native.Mathlib.Omega.{arith}
 use native.Mathlib.Nat.{mul-le-mul-left, mul-le-mul-right}
 use native.Mathlib.Decide.{decLe}
@@ -14,15 +14,16 @@ use Rattle.filter.specs.Settings.{Settings, Within, Admitted, scaleForwa
 use Rattle.filter.specs.Side.{Side, learnt, factor, factorPlaces}
 use Rattle.filter.specs.Exact.{exactWeight}
 use Rattle.filter.proofs.Admission.{admission}
+use Rattle.filter.proofs.SideLaws.{adapt-at}
 use Rattle.filter.proofs.SideBounds.{SideFit}
-use Rattle.filter.proofs.DistanceWeight.{Close, weight-distance, adapt-at}
+use Rattle.filter.proofs.DistanceWeight.{Close, weight-distance}
 
 -- each new weight, where Z is less than one of its units off v − y and M·2^(x+θ) ≤ 2^(62+ψ+s)
 pub side-distance : {r n : ℕ} (f : Side) → SideFit r n f → (M ψ θ : ℕ) (Z v y : ℤ) → r ≤ 3 → θ ≤ 24 →
     natAbs (raise Z (θ + 30) -ℤ (raise v 60 -ℤ y)) < 2 ^ (θ + 30) → M * (2 ^ f .exponent * 2 ^ θ) ≤ 2 ^ 62 * (2 ^ ψ * 2 ^ f .scale) → (i : ℕ) → i < length (f .weights) →
     Close ψ (getD (learnt (factor M Z ψ θ f) f) i (pos 0)) (exactWeight M ψ y v (getD (f .mantissas) i (pos 0)) (f .exponent) (getD (f .weights) i (pos 0)))
 side-distance f h M ψ θ Z v y l m off e i j =
-    rw (adapt-at (raise (factor M Z ψ θ f) (f .scale)) (f .weights) (f .mantissas) i (h .weights-long ∙ sym (h .mantissas-long)) j)
+    rw (adapt-at (raise (factor M Z ψ θ f) (f .scale)) (f .weights) (f .mantissas) i j (omega (arith, h .weights-long, h .mantissas-long)))
     (weight-distance (getD (f .weights) i (pos 0)) (getD (f .mantissas) i (pos 0)) Z (raise v 60 -ℤ y) M ψ θ (f .scale) (f .exponent) (factorPlaces ψ θ f)
     (omega (arith, h .exponent-most))
     (each-at (λ (a : ℤ). natAbs a * 2 ^ f .scale < 2 ^ 15) (f .mantissas) i (pos 0) (h .mantissas-small) (omega (arith, h .weights-long, h .mantissas-long)))

@@ -2,19 +2,20 @@
 use mathlib.Core.Path.{_≡_, refl, sym, ap, _∙_, subst}
 use mathlib.Core.Bool.{Bool, true, false}
 use mathlib.Core.List.{List, [], _∷_}
-use Prim.Native.Nat.{ℕ, zero, suc, _+_, _*_, _^_, _≤_, _<_}
+use Prim.Native.Nat.{ℕ, suc, _+_, _*_, _^_, _≤_, _<_}
 use native.Mathlib.Omega.{arith}
-use native.Mathlib.Nat.{mul-le-mul-right, mul-le-mul-left, le-of-lt, le-of-suc-le-suc, not-suc-le-zero}
-use lib.ListN.{length, getD, List·getD-map}
+use native.Mathlib.Nat.{mul-le-mul-right, mul-le-mul-left, le-of-lt}
+use lib.ListN.{getD}
 use lib.IntN.{ℤ, pos, natAbs, _+ℤ_, _-ℤ_, _*ℤ_}
 use Rattle.laws.specs.Integers.{abs-add, abs-sub, abs-mul}
 use Rattle.laws.specs.Powers.{split, split3}
 use Rattle.laws.specs.Ring.{ring, terms}
 use Rattle.numbers.specs.Cut.{cut, raise}
-use Rattle.numbers.proofs.CutLaws.{cut-error, cut-zero}
-use Rattle.filter.specs.Side.{adapted, adapt, halved}
+use Rattle.numbers.proofs.CutLaws.{cut-error}
+use Rattle.filter.specs.Side.{adapted}
 use Rattle.filter.specs.Sample.{settled, settledExponent}
 use Rattle.filter.specs.Exact.{Near}
+use Rattle.filter.proofs.SideLaws.{halved-at}
 
 -- ---- over plain letters
 
@@ -146,11 +147,4 @@ pub settled-near : (small : Bool) (l : List ℤ) (n ψ : ℕ) (e : ℤ) → Clos
     Near (settledExponent small ψ) (getD (settled small l) n (pos 0)) e
 settled-near true l n ψ e h = omega (arith, split (120 + ψ) 30 (90 + ψ) (omega arith))
 settled-near false l n ψ e h =
-    subst (λ (w : ℤ). Near (suc ψ) w e) (sym (ap (getD (halved l) n) (sym (cut-zero 1)) ∙ List·getD-map (λ (x : ℤ). cut x 1) l n (pos 0))) (halving (getD l n (pos 0)) e ψ h)
-
-pub adapt-at : (K : ℤ) (w a : List ℤ) (n : ℕ) → length w ≡ length a → n < length w → getD (adapt K w a) n (pos 0) ≡ adapted K (getD w n (pos 0)) (getD a n (pos 0))
-unfolding adapt
-adapt-at K [] a n e h = absurd (not-suc-le-zero h)
-adapt-at K (w ∷ ws) [] n e h = absurd (omega arith)
-adapt-at K (w ∷ ws) (a ∷ b) zero e h = refl
-adapt-at K (w ∷ ws) (a ∷ b) (suc n) e h = adapt-at K ws b n (omega arith) (le-of-suc-le-suc h)
+    subst (λ (w : ℤ). Near (suc ψ) w e) (sym (halved-at l n)) (halving (getD l n (pos 0)) e ψ h)

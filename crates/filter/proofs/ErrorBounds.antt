@@ -9,11 +9,10 @@ use Rattle.laws.specs.Powers.{split, scale-lt, rises, below}
 use Rattle.numbers.specs.BitLength.{bitLength}
 use Rattle.numbers.specs.Cut.{cut, raise}
 use Rattle.numbers.proofs.BitLengthLaws.{bit-length-above}
-use Rattle.numbers.proofs.CutLaws.{cut-le}
+use Rattle.numbers.proofs.CutLaws.{cut-le, cut-scaled, raise-abs}
 use Rattle.filter.specs.Output.{output, outputExponent}
 use Rattle.filter.specs.Error.{error, errorExponent}
 use Rattle.filter.proofs.OutputLaws.{output-form, output-exponent-form, error-form, error-exponent-form}
-use Rattle.filter.proofs.SideBounds.{raise-abs, cut-scaled}
 
 -- a number cut by d places, at the scale that is d higher
 cut-up : (z : ℤ) (d a c : ℕ) → c ≡ d + a → natAbs (cut z d) * 2 ^ c ≤ natAbs z * 2 ^ a

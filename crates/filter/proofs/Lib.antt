@@ -1,10 +1,9 @@
 pub mod WorkedExample
 pub mod LargestLaws
 pub mod SideLaws
-pub mod StoredLaws
+pub mod ReceivedLaws
 pub mod DecisionLaws
 pub mod OutputLaws
-pub mod ListBounds
 pub mod SideBounds
 pub mod SymbolLaws
 pub mod ErrorBounds
@@ -18,11 +17,11 @@ pub mod DistanceSide
 pub mod Distance
 pub mod SampleLaws
 pub mod StepLaws
-pub mod BlockLists
 pub mod BlockExponents
 pub mod BlockStored
 pub mod BlockWindow
 pub mod BlockNear
 pub mod BlockSound
+pub mod RunStart
 pub mod RunLaws
 pub mod BlockHolds

@@ -11,7 +11,7 @@ use Rattle.numbers.proofs.CutLaws.{cut-none}
 use Rattle.filter.specs.Settings.{Settings}
 use Rattle.filter.specs.Output.{output, outputExponent}
 use Rattle.filter.specs.Error.{error, errorExponent}
-use Rattle.filter.specs.Sample.{Taps, ν, F, H, Y, ξ, v, κ, Z, θ}
+use Rattle.filter.specs.Sample.{Taps, ν, ξ, κ, θ}
 
 -- a cut by a difference that is 0
 cut-nothing : (z : ℤ) (a b : ℕ) → a ≤ b → cut z (a - b) ≡ z
@@ -57,10 +57,6 @@ error-form v Y ξ κ = go (decLt ξ κ)
 -- ---- the same of the numbers at a sample
 
 module _ (k : Settings) (g : ℕ) (t : Taps) (entry : ℤ) where
-  pub Y-form : Y k g t entry ≡ cut (F k g t entry) (ν k g t entry + 30 - g) +ℤ cut (H k g t entry) (g - (ν k g t entry + 30))
-  unfolding Y
-  Y-form = output-form (F k g t entry) (H k g t entry) g (ν k g t entry)
-
   pub ξ-form : ξ k g t entry + 30 ≡ t .ψ + max g (ν k g t entry + 30)
   unfolding ξ
   ξ-form = output-exponent-form (t .ψ) g (ν k g t entry)
@@ -68,7 +64,3 @@ module _ (k : Settings) (g : ℕ) (t : Taps) (entry : ℤ) where
   pub θ-form : θ k g t entry ≡ max (κ k g t entry) (ξ k g t entry)
   unfolding θ
   θ-form = error-exponent-form (ξ k g t entry) (κ k g t entry)
-
-  pub Z-form : Z k g t entry ≡ raise (v k g t entry) (30 - θ k g t entry) -ℤ cut (Y k g t entry) (θ k g t entry - ξ k g t entry)
-  unfolding Z θ
-  Z-form = error-form (v k g t entry) (Y k g t entry) (ξ k g t entry) (κ k g t entry)

@@ -106,20 +106,20 @@ module _ (k : Settings) (g : ℕ) (t : Taps) (entry : ℤ) (h : Fit k g t) where
 
     -- ---- step 7
 
-    pub new-forward-small : Each (λ (w : ℤ). natAbs w < 2 ^ 15) (newForward k g t entry)
+    new-forward-small : Each (λ (w : ℤ). natAbs w < 2 ^ 15) (newForward k g t entry)
     unfolding newForward
     new-forward-small = learnt-small (forwardSide k g t entry) (Sides.forward-fit k g t entry h) (J k g t entry (forwardSide k g t entry)) J-forward
 
-    pub new-back-small : Each (λ (w : ℤ). natAbs w < 2 ^ 15) (newBack k g t entry)
+    new-back-small : Each (λ (w : ℤ). natAbs w < 2 ^ 15) (newBack k g t entry)
     unfolding newBack
     new-back-small = learnt-small (backSide k g t entry) (Sides.back-fit k g t entry h) (J k g t entry (backSide k g t entry)) J-back
 
-    pub next-forward-small : Each Small (next k g t entry .forward)
+    next-forward-small : Each Small (next k g t entry .forward)
     unfolding next small
     next-forward-small = settled-small (small k g t entry) (newForward k g t entry)
         (λ s. all-small (newForward k g t entry) (and-left (allSmall (newForward k g t entry)) (allSmall (newBack k g t entry)) s)) new-forward-small
 
-    pub next-back-small : Each Small (next k g t entry .back)
+    next-back-small : Each Small (next k g t entry .back)
     unfolding next small
     next-back-small = settled-small (small k g t entry) (newBack k g t entry)
         (λ s. all-small (newBack k g t entry) (and-right (allSmall (newForward k g t entry)) (allSmall (newBack k g t entry)) s)) new-back-small

@@ -1,12 +1,11 @@
 -- Laws for the functions of a sample.
-use mathlib.Core.Path.{_≡_, refl, sym, ap, _∙_, subst₂}
-use mathlib.Core.Bool.{Bool, true, false, _&&_, cond}
+use mathlib.Core.Path.{_≡_, subst₂}
+use mathlib.Core.Bool.{true, false, _&&_}
 use mathlib.Core.List.{List}
-use Prim.Native.Nat.{ℕ, suc, _+_, _*_, _-_, _^_, _≤_, _<_}
+use Prim.Native.Nat.{ℕ, _+_, _*_, _-_, _^_, _≤_, _<_}
 use native.Mathlib.Numerals.{add-one}
 use native.Mathlib.Nat.{le-max-left, mul-le-mul-left}
 use native.Mathlib.Omega.{arith}
-use lib.Dec.{eqb}
 use lib.IntN.{ℤ, natAbs}
 use Rattle.laws.specs.Powers.{rises, raise}
 use Rattle.numbers.specs.BitLength.{bitLength}
@@ -15,10 +14,10 @@ use Rattle.filter.specs.Settings.{Settings, isEntry}
 use Rattle.filter.specs.Decision.{decide}
 use Rattle.filter.specs.Error.{errorExponent}
 use Rattle.filter.specs.Sound.{Missable}
-use Rattle.filter.proofs.SymbolLaws.{symbol-below, entry-below, decide-symbol}
+use Rattle.filter.proofs.SymbolLaws.{symbol-below, decide-symbol, chosen-symbol}
+use Rattle.filter.proofs.DecisionLaws.{symbol-most}
 use Rattle.filter.proofs.OutputLaws.{error-exponent-form}
 use Rattle.filter.specs.Side.{allSmall, halved}
-use Rattle.filter.specs.Sample.{settled, settledExponent}
 use Rattle.filter.specs.Calls.{Settled-is, Taken-is, chosen, tapsOf}
 use Rattle.filter.specs.declared.sample.Taken.{Taken}
 
@@ -33,14 +32,8 @@ settled-halved ψ f b f′ b′ e g h = record { exponent = simp e (add-one ψ);
 -- ---- steps 4 and 5
 
 pub chosen-below : (r : ℕ) (y : ℤ) (ξ : ℕ) (entry : ℤ) → r ≤ 3 → isEntry r entry ≡ true → natAbs (chosen entry (decide r y ξ)) < 2 ^ 4
-chosen-below r y ξ entry h e = go (eqb (natAbs entry) 0)
-  where
-    top : 2 ^ (r + 1) ≤ 2 ^ 4
-    top = rises {a = r + 1} {b = 4} (omega arith)
-
-    go : (b : Bool) → natAbs (cond b (decide r y ξ) entry) < 2 ^ 4
-    go true = omega (arith, top, symbol-below r (decide r y ξ) (decide-symbol r y ξ))
-    go false = omega (arith, top, entry-below r entry e)
+chosen-below r y ξ entry h e =
+    omega (arith, symbol-most r h, symbol-below r (chosen entry (decide r y ξ)) (chosen-symbol r entry (decide r y ξ) e (decide-symbol r y ξ)))
 
 -- v·2^(30−θ) has room, since θ is at least the bit length and one
 pub missable : (v y : ℤ) (ξ s : ℕ) → natAbs y < 2 ^ 29 → 1 ≤ ξ → ξ ≤ 24 → 1 ≤ s → s ≤ 5 → natAbs v < 2 ^ 4 → Missable v y ξ (s + bitLength (natAbs v))

@@ -1,32 +1,32 @@
 -- A sound state at a sample: the two sides of it, and its exponents.
 use mathlib.Core.Path.{_≡_, refl, sym, ap, _∙_, subst}
-use mathlib.Core.Bool.{Bool, true, false, cond, _||_}
+use mathlib.Core.Bool.{true}
 use mathlib.Core.List.{map}
 use Prim.Native.Nat.{ℕ, _+_, _*_, _-_, _^_, _≤_, _<_}
 use native.Mathlib.Omega.{arith}
-use native.Mathlib.Nat.{le-refl, le-max-right, max-le}
-use lib.Dec.{eqb}
+use native.Mathlib.Nat.{le-max-right, max-le}
 use lib.ListN.{length-map}
-use lib.IntN.{ℤ, natAbs}
+use lib.IntN.{ℤ, pos, natAbs}
 use Rattle.laws.specs.Powers as Powers
-use Rattle.laws.specs.Powers.{split, rises, exponent-le, exponent-lt}
-use Rattle.laws.specs.Sums.{Each, each-map, dot}
-use Rattle.numbers.specs.BitLength.{bitLength}
+use Rattle.laws.specs.Powers.{split, positive, rises, exponent-le}
+use Rattle.laws.specs.Sums.{Each, each-map, each-weaken, dot, dot-scale}
 use Rattle.numbers.specs.Cut.{raise}
 use Rattle.numbers.specs.ScaleCount.{scaleCount}
-use Rattle.numbers.proofs.BitLengthLaws.{bit-length-le, bit-length-above}
+use Rattle.numbers.proofs.CutLaws.{raise-abs, raise-raise}
+use Rattle.numbers.proofs.BitLengthLaws.{bit-length-le}
 use Rattle.numbers.proofs.ScaleCountLaws.{scale-enough, scale-least}
 use Rattle.filter.specs.Settings.{Settings, scaleForward, scaleBack, isSymbol, isEntry}
-use Rattle.filter.specs.Side.{Side, adapt}
+use Rattle.filter.specs.Side.{Side, adapt, largest, magnitudes}
 use Rattle.filter.specs.Sample.{Taps, longest, ν, held, forwardSide, backSide, H, Y, ξ, decision, v, κ, θ, J, newBack}
 use Rattle.filter.specs.Sound.{Fit}
-use Rattle.filter.proofs.ListBounds.{each-weaken, longest-is, longest-above, raise-raise, dot-raise, adapt-raise}
+use Rattle.filter.proofs.LargestLaws.{largest-magnitude, longest-is, longest-above}
+use Rattle.filter.proofs.SideLaws.{adapt-raise}
 use Rattle.filter.proofs.OutputLaws.{ξ-form, θ-form}
-use Rattle.filter.proofs.SideBounds.{SideFit, raise-abs}
-use Rattle.filter.proofs.SymbolLaws.{entry-below, symbol-below, symbol-least, decide-symbol}
+use Rattle.filter.proofs.SideBounds.{SideFit}
+use Rattle.filter.proofs.SymbolLaws.{entry-below, symbol-below, decide-symbol, chosen-symbol}
 
 -- the scale count of 1 to 16 taps
-pub scale-positive : (n : ℕ) → 1 ≤ n → 1 ≤ scaleCount n
+scale-positive : (n : ℕ) → 1 ≤ n → 1 ≤ scaleCount n
 scale-positive n h = exponent-le 1 (scaleCount n) (omega (arith, scale-enough n))
 
 pub scale-most : (n : ℕ) → n ≤ 16 → scaleCount n ≤ 5
@@ -37,9 +37,6 @@ abbrev pub symbolSide : Settings → ℕ → Taps → ℤ → Side
 symbolSide k g t entry = record { weights = t .back; mantissas = t .symbols; scale = scaleBack k + (15 - ν k g t entry); exponent = 45 }
 
 module _ (k : Settings) (g : ℕ) (t : Taps) (entry : ℤ) (h : Fit k g t) where
-  pub scaleForward-least : 1 ≤ scaleForward k
-  scaleForward-least = scale-positive (k .p) (h .within .p-least)
-
   pub scaleForward-most : scaleForward k ≤ 5
   scaleForward-most = scale-most (k .p) (h .within .p-most)
 
@@ -50,9 +47,9 @@ module _ (k : Settings) (g : ℕ) (t : Taps) (entry : ℤ) (h : Fit k g t) where
   scaleBack-most = scale-most (k .q) (h .within .q-most)
 
   pub longest-most : longest (t .symbols) ≤ k .r + 1
-  longest-most = longest-is (λ (n : ℕ). n ≤ k .r + 1) (omega arith) (t .symbols)
-      (each-weaken (λ (u : ℤ). isEntry (k .r) u ≡ true) (λ (u : ℤ). bitLength (natAbs u) ≤ k .r + 1)
-      (λ u e. bit-length-le (natAbs u) (k .r + 1) (entry-below (k .r) u e)) (t .symbols) (h .symbols-are))
+  longest-most = rw longest-is (bit-length-le (largest (magnitudes (t .symbols))) (k .r + 1)
+      (largest-magnitude (λ (n : ℕ). n < 2 ^ (k .r + 1)) (positive (k .r + 1)) (t .symbols)
+      (each-weaken (λ (u : ℤ). isEntry (k .r) u ≡ true) (λ (u : ℤ). natAbs u < 2 ^ (k .r + 1)) (λ u e. entry-below (k .r) u e) (t .symbols) (h .symbols-are))))
 
   pub ν-is : ν k g t entry ≡ scaleBack k + longest (t .symbols)
   unfolding ν
@@ -63,12 +60,12 @@ module _ (k : Settings) (g : ℕ) (t : Taps) (entry : ℤ) (h : Fit k g t) where
 
   -- ---- the past symbols
 
-  pub symbols-raised : Each (λ (u : ℤ). natAbs u * 2 ^ (15 - longest (t .symbols)) < 2 ^ 15) (t .symbols)
+  symbols-raised : Each (λ (u : ℤ). natAbs u * 2 ^ (15 - longest (t .symbols)) < 2 ^ 15) (t .symbols)
   symbols-raised = each-weaken (λ (u : ℤ). natAbs u < 2 ^ longest (t .symbols)) (λ (u : ℤ). natAbs u * 2 ^ (15 - longest (t .symbols)) < 2 ^ 15)
       (λ u l. Powers.raise (natAbs u) 15 (longest (t .symbols)) (15 - longest (t .symbols)) (omega (arith, longest-most, h .within .r-most)) l)
-      (t .symbols) (longest-above (longest (t .symbols)) (t .symbols) (le-refl (longest (t .symbols))))
+      (t .symbols) (longest-above (t .symbols))
 
-  pub held-small : Each (λ (a : ℤ). natAbs a * 2 ^ scaleBack k < 2 ^ 15) (map (held k g t entry) (t .symbols))
+  held-small : Each (λ (a : ℤ). natAbs a * 2 ^ scaleBack k < 2 ^ 15) (map (held k g t entry) (t .symbols))
   held-small = each-map (λ (u : ℤ). natAbs u * 2 ^ (15 - longest (t .symbols)) < 2 ^ 15) (λ (a : ℤ). natAbs a * 2 ^ scaleBack k < 2 ^ 15) (held k g t entry)
       (λ u l. omega (
         arith,
@@ -79,13 +76,13 @@ module _ (k : Settings) (g : ℕ) (t : Taps) (entry : ℤ) (h : Fit k g t) where
 
   pub H-raised : H k g t entry ≡ raise (dot (t .back) (t .symbols)) (15 - ν k g t entry)
   unfolding H
-  H-raised = dot-raise (15 - ν k g t entry) (t .back) (t .symbols)
+  H-raised = dot-scale (pos (2 ^ (15 - ν k g t entry))) (t .back) (t .symbols)
 
   pub newBack-raised : newBack k g t entry ≡ adapt (raise (J k g t entry (backSide k g t entry)) (scaleBack k + (15 - ν k g t entry))) (t .back) (t .symbols)
   unfolding newBack
   newBack-raised =
       adapt-raise (15 - ν k g t entry) (raise (J k g t entry (backSide k g t entry)) (scaleBack k)) (t .back) (t .symbols)
-      ∙ ap (λ (z : ℤ). adapt z (t .back) (t .symbols)) (raise-raise (J k g t entry (backSide k g t entry)) (scaleBack k) (15 - ν k g t entry))
+      ∙ ap (λ (z : ℤ). adapt z (t .back) (t .symbols)) (raise-raise (J k g t entry (backSide k g t entry)) (scaleBack k) (15 - ν k g t entry) _ refl)
 
   -- ---- the two sides
 
@@ -137,22 +134,10 @@ module _ (k : Settings) (g : ℕ) (t : Taps) (entry : ℤ) (h : Fit k g t) where
   module _ (e : isEntry (k .r) entry ≡ true) where
     pub v-symbol : isSymbol (k .r) (v k g t entry) ≡ true
     unfolding v decision
-    v-symbol = go (eqb (natAbs entry) 0) e
-      where
-        go : (b : Bool) → (b || isSymbol (k .r) entry) ≡ true → isSymbol (k .r) (cond b (decision k g t entry) entry) ≡ true
-        go true s = decide-symbol (k .r) (Y k g t entry) (ξ k g t entry)
-        go false s = s
+    v-symbol = chosen-symbol (k .r) entry (decision k g t entry) e (decide-symbol (k .r) (Y k g t entry) (ξ k g t entry))
 
     pub v-below : natAbs (v k g t entry) < 2 ^ (k .r + 1)
     v-below = symbol-below (k .r) (v k g t entry) v-symbol
-
-    pub κ-least : 2 ≤ κ k g t entry
-    unfolding κ
-    κ-least = omega (
-      arith,
-      scaleBack-least,
-      exponent-lt 0 (bitLength (natAbs (v k g t entry))) (omega (arith, symbol-least (k .r) (v k g t entry) v-symbol, bit-length-above (natAbs (v k g t entry)))),
-    )
 
     pub κ-most : κ k g t entry ≤ 9
     unfolding κ

@@ -4,22 +4,20 @@ use mathlib.Core.Bool.{Bool, true, false}
 use mathlib.Core.List.{List, [], _∷_}
 use Prim.Native.Nat.{ℕ, _+_, _*_, _^_, _≤_, _<_}
 use native.Mathlib.Omega.{arith}
-use native.Mathlib.Nat.{le-refl, mul-le-mul-left, mul-le-mul-right, div-mul-le-self}
+use native.Mathlib.Nat.{mul-le-mul-left, mul-le-mul-right}
 use borrow.Author.Tests.{ltb-true}
-use lib.Dec.{ltb}
 use lib.ListN.{length}
 use lib.IntN.{ℤ, pos, natAbs, _*ℤ_}
 use Rattle.laws.specs.Integers.{abs-mul, abs-add}
-use Rattle.laws.specs.Lists.{and-left, and-right}
+use Rattle.laws.specs.Lists.{all-at}
 use Rattle.laws.specs.Powers.{split3, rises, cancel-le}
-use Rattle.laws.specs.Sums.{Each, each-map, dot-bound}
+use Rattle.laws.specs.Sums.{Each, each-map, each-of, each-weaken, dot-bound}
 use Rattle.numbers.specs.Cut.{cut, raise}
-use Rattle.numbers.proofs.CutLaws.{cut-abs, cut-lt}
-use Rattle.filter.specs.Settings.{halvingLimit}
-use Rattle.filter.specs.Side.{Side, sum, adapt, adapted, learnt, allSmall, halved, largest, magnitudes}
+use Rattle.numbers.proofs.CutLaws.{cut-lt, raise-abs}
+use Rattle.filter.specs.Side.{Side, sum, adapt, adapted, learnt, isSmall, allSmall, halved, largest, magnitudes}
 use Rattle.filter.specs.Sample.{settled}
 use Rattle.filter.specs.Sound.{Small, Summable, Adaptable}
-use Rattle.filter.proofs.ListBounds.{each-weaken, largest-magnitude, largest-above}
+use Rattle.filter.proofs.LargestLaws.{largest-magnitude, each-magnitude}
 
 -- the facts of a side of n taps
 pub record SideFit (r n : ℕ) (f : Side) : Type 0 where
@@ -29,13 +27,6 @@ pub record SideFit (r n : ℕ) (f : Side) : Type 0 where
   pub mantissas-small : Each (λ (a : ℤ). natAbs a * 2 ^ f .scale < 2 ^ 15) (f .mantissas)
   pub scale-enough : 2 * n ≤ 2 ^ f .scale
   pub exponent-most : f .exponent ≤ r + 31 + f .scale
-
--- |z·2^k| and |T(z / 2^k)|
-pub raise-abs : (z : ℤ) (k : ℕ) → natAbs (raise z k) ≡ natAbs z * 2 ^ k
-raise-abs z k = abs-mul z (pos (2 ^ k))
-
-pub cut-scaled : (z : ℤ) (k : ℕ) → natAbs (cut z k) * 2 ^ k ≤ natAbs z
-cut-scaled z k = omega (arith, div-mul-le-self (natAbs z) (2 ^ k), ap (λ (n : ℕ). n * 2 ^ k) (cut-abs z k))
 
 -- ---- new weights
 
@@ -53,19 +44,15 @@ adapt-each K m b (w ∷ ws) (x ∷ a) h g = (gained, adapt-each K m b ws a (h .1
     gained = omega (arith, abs-add w (cut (K *ℤ x) 30), gain, h .0)
 
 -- each gain is below 2^14, so each new weight is below 2^15
-pub adapt-small : (K : ℤ) (w a : List ℤ) → Adaptable K w a → Each (λ (x : ℤ). natAbs x < 2 ^ 15) (adapt K w a)
-adapt-small K w a f = adapt-each K (largest (magnitudes a)) (f .bound) w a (f .small) (largest-above (largest (magnitudes a)) a (le-refl (largest (magnitudes a))))
+adapt-small : (K : ℤ) (w a : List ℤ) → Adaptable K w a → Each (λ (x : ℤ). natAbs x < 2 ^ 15) (adapt K w a)
+adapt-small K w a f = adapt-each K (largest (magnitudes a)) (f .bound) w a (f .small) (each-magnitude a)
 
 -- one halving makes them small again
-pub halved-small : (w : List ℤ) → Each (λ (x : ℤ). natAbs x < 2 ^ 15) w → Each Small (halved w)
+halved-small : (w : List ℤ) → Each (λ (x : ℤ). natAbs x < 2 ^ 15) w → Each Small (halved w)
 halved-small w h = each-map (λ (x : ℤ). natAbs x < 2 ^ 15) Small (λ (x : ℤ). cut x 1) (λ x l. cut-lt x 15 14 1 refl l) w h
 
 pub all-small : (w : List ℤ) → allSmall w ≡ true → Each Small w
-all-small [] e = tt
-all-small (x ∷ w) e = (
-  ltb-true (natAbs x) halvingLimit (and-left (ltb (natAbs x) halvingLimit) (allSmall w) e),
-  all-small w (and-right (ltb (natAbs x) halvingLimit) (allSmall w) e),
-)
+all-small w e = each-of Small (pos 0) w (λ i h. ltb-true _ _ (all-at isSmall w i (pos 0) e h))
 
 -- new weights are kept if they are small, and halved if not
 pub settled-small : (b : Bool) (w : List ℤ) → (b ≡ true → Each Small w) → Each (λ (x : ℤ). natAbs x < 2 ^ 15) w → Each Small (settled b w)
@@ -75,7 +62,7 @@ settled-small false w h g = halved-small w g
 -- ---- the sum and the update of a side
 
 module _ {r n : ℕ} (f : Side) (h : SideFit r n f) where
-  pub mantissas-largest : largest (magnitudes (f .mantissas)) * 2 ^ f .scale < 2 ^ 15
+  mantissas-largest : largest (magnitudes (f .mantissas)) * 2 ^ f .scale < 2 ^ 15
   mantissas-largest = largest-magnitude (λ (m : ℕ). m * 2 ^ f .scale < 2 ^ 15) (omega arith) (f .mantissas) (h .mantissas-small)
 
   -- |sum|·2^s ≤ n·16383·(2^15 − 1)
@@ -83,12 +70,12 @@ module _ {r n : ℕ} (f : Side) (h : SideFit r n f) where
   sum-most = go (largest (magnitudes (f .mantissas))) mantissas-largest
       (dot-bound 16383 (largest (magnitudes (f .mantissas))) (f .weights) (f .mantissas)
       (each-weaken Small (λ (x : ℤ). natAbs x ≤ 16383) (λ x l. omega arith) (f .weights) (h .weights-small))
-      (largest-above (largest (magnitudes (f .mantissas))) (f .mantissas) (le-refl (largest (magnitudes (f .mantissas))))))
+      (each-magnitude (f .mantissas)))
     where
       go : (m : ℕ) → m * 2 ^ f .scale < 2 ^ 15 → natAbs (sum f) ≤ length (f .weights) * (16383 * m) → natAbs (sum f) * 2 ^ f .scale ≤ n * (16383 * 32767)
       go m b l = omega (arith, mul-le-mul-right (2 ^ f .scale) l, ap (λ (k : ℕ). k * (m * 2 ^ f .scale)) (h .weights-long), mul-le-mul-left n b)
 
-  pub sum-scaled : natAbs (sum f) * 2 ^ f .scale ≤ n * 2 ^ 29
+  sum-scaled : natAbs (sum f) * 2 ^ f .scale ≤ n * 2 ^ 29
   sum-scaled = omega (arith, sum-most)
 
   -- the same at a scale as high as the exponent may be

@@ -1,31 +1,30 @@
 -- Laws of the loops over a side.
 use mathlib.Core.Path.{_≡_, refl, sym, ap, ap₂, _∙_}
-use mathlib.Core.Bool.{Bool, true, false}
-use mathlib.Core.List.{List, [], _∷_}
+use mathlib.Core.Bool.{true, false}
+use mathlib.Core.List.{List, [], _∷_, map}
 use Prim.Native.Nat.{ℕ, zero, suc, _+_, _*_, _^_, _≤_, _<_}
 use native.Mathlib.Omega.{arith}
 use native.Mathlib.Nat.{le-of-lt, le-of-suc-le-suc, not-suc-le-zero, lt-of-le-of-lt, mul-le-mul-left, mul-le-mul-right, min-le-right}
 use native.Mathlib.Numerals.{add-one}
-use lib.ListN.{length, getD, take, set, length-take, length-set, List·getD-map}
-use lib.Seq.{take-all, length-take-le}
-use lib.IntN.{ℤ, pos, negsuc, natAbs, _+ℤ_, _*ℤ_}
+use lib.ListN.{length, getD, take, length-take, List·getD-map}
+use lib.Seq.{take-all, length-take-le, getD-take}
+use lib.IntN.{ℤ, pos, negsuc, natAbs, _+ℤ_, _*ℤ_, *ℤ-comm}
 use lib.Signed.{quotZ, _≤ℤ_, _<ℤ_}
-use lib.Dec.{ltb}
 use borrow.Author.Tests.{lt-ltb, le-ltb}
 use mir.Syntax.{w16, w32, w64}
 use mir.Val.{SFits}
 use mir.Facts.{sfits-widen}
-use Rattle.laws.specs.Lists.{overlay, overlay-next, overlay-later, overlay-all}
 use Rattle.laws.specs.Parts.{abs-parts}
+use Rattle.laws.specs.Integers.{*ℤ-assoc}
 use Rattle.laws.specs.Linear.{neg, nat, atom, of-le, of-lt, by-abs-lt}
-use Rattle.laws.specs.Sums.{dot, dot-next, dot-bound, Each, each-at, each-of, each-take}
+use Rattle.laws.specs.Sums.{dot, dot-next, dot-bound, Each, each-at, each-take, each-weaken}
 use Rattle.laws.specs.Machine.{fits-abs, abs-fits}
-use Rattle.numbers.specs.Cut.{cut}
+use Rattle.numbers.specs.Cut.{cut, raise}
 use Rattle.numbers.proofs.CutLaws.{cut-zero, cut-lt}
 use Rattle.filter.specs.Settings.{halvingLimit}
-use Rattle.filter.specs.Side.{adapted, adapt, halved, push, largest, magnitudes}
+use Rattle.filter.specs.Side.{adapted, adapt, isSmall, halved, push, largest, magnitudes}
 use Rattle.filter.specs.Sound.{Small, Summable, Adaptable}
-use Rattle.filter.proofs.LargestLaws.{magnitude-at}
+use Rattle.filter.proofs.LargestLaws.{magnitude-at, each-magnitude}
 
 -- ---- a number of 16 bits in a wider register
 
@@ -57,46 +56,15 @@ sum-bound w a j s =
     omega (
       arith,
       s .bound,
-      dot-bound (2 ^ 14) (largest (magnitudes a)) (take j w) (take j a) (each-take _ j w small) (each-take _ j a most),
+      dot-bound (2 ^ 14) (largest (magnitudes a)) (take j w) (take j a) (each-take _ j w small) (each-take _ j a (each-magnitude a)),
       mul-le-mul-right (2 ^ 14 * largest (magnitudes a)) shorter,
     )
   where
     small : Each (λ (x : ℤ). natAbs x ≤ 2 ^ 14) w
-    small = each-of (λ (x : ℤ). natAbs x ≤ 2 ^ 14) (pos 0) w (λ i k. le-of-lt (each-at Small w i (pos 0) (s .small) k))
-
-    most : Each (λ (x : ℤ). natAbs x ≤ largest (magnitudes a)) a
-    most = each-of (λ (x : ℤ). natAbs x ≤ largest (magnitudes a)) (pos 0) a (λ i k. magnitude-at a i)
+    small = each-weaken Small (λ (x : ℤ). natAbs x ≤ 2 ^ 14) (λ x l. le-of-lt l) w (s .small)
 
     shorter : length (take j w) ≤ length w
     shorter = rw length-take (min-le-right j (length w))
-
--- ---- a slice that a loop writes from the front
-
--- the first i elements are those of the new list, the others are still the old ones
-pub record Written (new old : List ℤ) (i : ℕ) (now : List ℤ) : Type 0 where
-  pub new-long : length new ≡ length old
-  pub now-long : length now ≡ length old
-  pub is : now ≡ overlay i new old
-
-pub written-none : (new old : List ℤ) → length new ≡ length old → Written new old 0 old
-written-none new old e = record { new-long = e; now-long = refl; is = refl }
-
-module _ {new old now : List ℤ} {i : ℕ} (h : Written new old i now) where
-  pub written-read : getD now i (pos 0) ≡ getD old i (pos 0)
-  written-read = ap (λ (l : List ℤ). getD l i (pos 0)) (h .is) ∙ overlay-later i i new old (pos 0) (omega arith)
-
-  pub written-next : (x : ℤ) → i < length now → x ≡ getD new i (pos 0) → Written new old (i + 1) (set now i x)
-  written-next x k e = record {
-    new-long = h .new-long;
-    now-long = length-set now i x ∙ h .now-long;
-    is =
-        ap₂ (λ (l : List ℤ) (z : ℤ). set l i z) (h .is) e
-        ∙ overlay-next i new old (pos 0) (omega arith) (omega arith)
-        ∙ ap (λ (j : ℕ). overlay j new old) (sym (add-one i));
-  }
-
-  pub written-all : length now ≤ i → now ≡ new
-  written-all k = h .is ∙ overlay-all i new old (h .new-long) (omega arith)
 
 -- ---- the new weights
 
@@ -112,6 +80,16 @@ adapt-at k [] a i h g = absurd (not-suc-le-zero h)
 adapt-at k (w ∷ ws) [] i h g = absurd (not-suc-le-zero g)
 adapt-at k (w ∷ ws) (a ∷ b) zero h g = refl
 adapt-at k (w ∷ ws) (a ∷ b) (suc i) h g = adapt-at k ws b i (le-of-suc-le-suc h) (le-of-suc-le-suc g)
+
+-- data raised by e places
+pub adapt-raise : (e : ℕ) (k : ℤ) (w a : List ℤ) → adapt k w (map (λ (x : ℤ). raise x e) a) ≡ adapt (raise k e) w a
+unfolding adapt
+adapt-raise e k [] a = refl
+adapt-raise e k (w ∷ ws) [] = refl
+adapt-raise e k (w ∷ ws) (a ∷ b) = ap₂ (λ (y : ℤ) (z : List ℤ). y ∷ z) (ap (λ (y : ℤ). w +ℤ cut y 30) turned) (adapt-raise e k ws b)
+  where
+    turned : k *ℤ raise a e ≡ raise k e *ℤ a
+    turned = ap (λ (y : ℤ). k *ℤ y) (*ℤ-comm a (pos (2 ^ e))) ∙ sym (*ℤ-assoc k (pos (2 ^ e)) a)
 
 -- what one weight asks
 pub adapt-room : (k : ℤ) (w a : List ℤ) (i : ℕ) → Adaptable k w a → i < length w →
@@ -136,10 +114,13 @@ halved-at w i = ap (λ (d : ℤ). getD (halved w) i d) (sym (cut-zero 1)) ∙ Li
 pub push-length : (x : ℤ) (xs : List ℤ) → length (push x xs) ≡ length xs
 push-length x xs = length-take-le (length xs) (x ∷ xs) (omega arith)
 
--- ---- whether each weight is below the halving limit
+pub push-at : (x : ℤ) (xs : List ℤ) (i : ℕ) → i < length xs → getD (push x xs) i (pos 0) ≡ getD (x ∷ xs) i (pos 0)
+push-at x xs i h = getD-take (length xs) (x ∷ xs) i (pos 0) h
 
-abbrev pub isSmall : ℤ → Bool
-isSmall x = ltb (natAbs x) halvingLimit
+pub push-each : (P : ℤ → Type 0) (x : ℤ) (xs : List ℤ) → P x → Each P xs → Each P (push x xs)
+push-each P x xs p h = each-take P (length xs) (x ∷ xs) (p, h)
+
+-- ---- whether each weight is below the halving limit
 
 pub low-large : (x : ℤ) → x ≤ℤ negsuc 16383 → isSmall x ≡ false
 low-large x h = le-ltb (natAbs x) halvingLimit (omega (arith, of-le (atom x) (neg (nat 16384)) h, abs-parts x))

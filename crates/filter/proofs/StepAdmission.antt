@@ -6,10 +6,10 @@ use native.Mathlib.Nat.{mul-le-mul-left, mul-le-mul-right}
 use lib.IntN.{ℤ, pos, natAbs, _*ℤ_}
 use Rattle.laws.specs.Integers.{abs-mul}
 use Rattle.laws.specs.Powers.{split, split3, below, cancel-le}
+use Rattle.numbers.proofs.CutLaws.{cut-scaled}
 use Rattle.filter.specs.Settings.{Settings, Admitted}
 use Rattle.filter.specs.Side.{Side, factor, factorPlaces}
 use Rattle.filter.proofs.Admission.{admission}
-use Rattle.filter.proofs.SideBounds.{cut-scaled}
 
 -- ---- over letters: a is 2^r, l is 2^L, and Ψ, Θ, Ξ are the powers of ψ, θ, ξ
 

@@ -1,24 +1,24 @@
 -- The functions of a sample, put together: each promise as the definition that it meets.
-use mathlib.Core.Path.{_≡_, refl, sym, ap, ap₂, _∙_}
-use mathlib.Core.Bool.{true}
+use mathlib.Core.Path.{_≡_, sym, ap, _∙_}
 use mathlib.Core.List.{List}
-use Prim.Native.Nat.{ℕ, _+_, _*_, _-_, _^_, _≤_, _<_}
+use Prim.Native.Nat.{ℕ, _+_, _-_, _^_, _≤_, _<_}
 use native.Mathlib.Omega.{arith}
 use native.Mathlib.Nat.{add-zero}
 use lib.IntN.{ℤ, natAbs}
-use Rattle.laws.specs.Powers.{rises}
 use Rattle.laws.specs.Sums.{dot}
 use Rattle.numbers.specs.Cut.{raise}
-use Rattle.filter.specs.Settings.{Settings, isEntry, scaleForward, scaleBack}
-use Rattle.filter.specs.Decision.{decide}
+use Rattle.numbers.proofs.CutLaws.{raise-abs}
+use Rattle.filter.specs.Settings.{Settings, scaleForward, scaleBack}
+use Rattle.filter.specs.Side.{Side}
 use Rattle.filter.specs.Sample.{Taps, longest, ν, F, H, Y, ξ, decision, v, κ, Z, θ, J, forwardSide, backSide, newForward, newBack, small, next}
-use Rattle.filter.specs.Sound.{Fit, Joinable}
-use Rattle.filter.specs.Calls.{Audible, Heard-is, Decidable, Judged-is, Teachable, Changeable, Changed-is, Settled-is, Ready, Taken-is, takenOf, taughtForward, taughtBack}
+use Rattle.filter.specs.Sound.{Adaptable}
+use Rattle.filter.specs.Calls.{Audible, Heard-is, Decidable, Judged-is, Teachable, Changeable, Changed-is, Ready, Taken-is, takenOf, taughtForward, taughtBack}
 use Rattle.filter.specs.declared.sample.Heard.{Heard}
 use Rattle.filter.specs.declared.sample.Judged.{Judged}
 use Rattle.filter.specs.declared.sample.Taken.{Taken}
-use Rattle.filter.proofs.SideBounds.{raise-abs}
 use Rattle.filter.proofs.SymbolLaws.{symbol-below, decide-symbol}
+use Rattle.filter.proofs.DecisionLaws.{symbol-most}
+use Rattle.filter.proofs.SideBounds.{SideFit}
 use Rattle.filter.proofs.SampleSides as S
 use Rattle.filter.proofs.SampleBounds as B
 use Rattle.filter.proofs.SampleLaws.{settled-of}
@@ -92,29 +92,28 @@ module _ (k : Settings) (s sb g : ℕ) (t : Taps) (entry : ℤ) (r : Ready k s s
 
   -- ---- steps 6 to 8
 
-  ahead : Teachable (k .M) (Z k g t entry) (t .ψ) (θ k g t entry) (scaleForward k) g 0 (t .forward) (t .samples)
+  teachable : {n : ℕ} (f : Side) → SideFit (k .r) n f → f .scale ≤ 5 → (more : ℕ) → more ≤ 15 → (w a : List ℤ) → Adaptable (raise (J k g t entry f) (f .scale + more)) w a →
+      Teachable (k .M) (Z k g t entry) (t .ψ) (θ k g t entry) (f .scale) (f .exponent) more w a
   unfolding J
-  ahead = record {
+  teachable f fit l more m w a h = record {
     z-small = B.Z-small k g t entry (r .fit) (r .entry-is);
     ψ-most = r .fit .ψ-most;
-    scale-most = S.scaleForward-most k g t entry (r .fit);
-    more-most = omega arith;
-    places = omega (arith, B.places k g t entry (r .fit) (r .entry-is) (forwardSide k g t entry) (S.forward-fit k g t entry (r .fit)));
-    factor-small = B.J-small k g t entry (r .fit) (r .entry-is) (forwardSide k g t entry) (S.forward-fit k g t entry (r .fit));
-    adaptable = rw add-zero (B.forward-adaptable k g t entry (r .fit) (r .entry-is));
+    scale-most = l;
+    more-most = m;
+    places = omega (arith, B.places k g t entry (r .fit) (r .entry-is) f fit);
+    factor-small = B.J-small k g t entry (r .fit) (r .entry-is) f fit;
+    adaptable = h;
   }
 
+  ahead : Teachable (k .M) (Z k g t entry) (t .ψ) (θ k g t entry) (scaleForward k) g 0 (t .forward) (t .samples)
+  ahead =
+      teachable (forwardSide k g t entry) (S.forward-fit k g t entry (r .fit)) (S.scaleForward-most k g t entry (r .fit)) 0 (omega arith) (t .forward) (t .samples)
+      (rw add-zero (B.forward-adaptable k g t entry (r .fit) (r .entry-is)))
+
   behind : Teachable (k .M) (Z k g t entry) (t .ψ) (θ k g t entry) (scaleBack k) (ν k g t entry + 30) (15 - ν k g t entry) (t .back) (t .symbols)
-  unfolding J
-  behind = record {
-    z-small = B.Z-small k g t entry (r .fit) (r .entry-is);
-    ψ-most = r .fit .ψ-most;
-    scale-most = S.scaleBack-most k g t entry (r .fit);
-    more-most = omega arith;
-    places = omega (arith, B.places k g t entry (r .fit) (r .entry-is) (backSide k g t entry) (S.back-fit k g t entry (r .fit)));
-    factor-small = B.J-small k g t entry (r .fit) (r .entry-is) (backSide k g t entry) (S.back-fit k g t entry (r .fit));
-    adaptable = B.back-adaptable k g t entry (r .fit) (r .entry-is);
-  }
+  behind =
+      teachable (backSide k g t entry) (S.back-fit k g t entry (r .fit)) (S.scaleBack-most k g t entry (r .fit)) (15 - ν k g t entry) (omega arith) (t .back) (t .symbols)
+      (B.back-adaptable k g t entry (r .fit) (r .entry-is))
 
   pub changeable : (h : Heard) (j : Judged) → Heard-as h → Judged-as j → Changeable (k .M) s sb g (t .ψ) h j (t .forward) (t .back) (t .samples) (t .symbols)
   changeable h j p q = record {
@@ -131,7 +130,7 @@ module _ (k : Settings) (s sb g : ℕ) (t : Taps) (entry : ℤ) (r : Ready k s s
     rw (q .decision-as) (omega (
       arith,
       symbol-below (k .r) (decision k g t entry) (decide-symbol (k .r) (Y k g t entry) (ξ k g t entry)),
-      rises {a = k .r + 1} {b = 4} (omega (arith, r .fit .within .r-most)),
+      symbol-most (k .r) (r .fit .within .r-most),
     )),
   )
 

@@ -9,23 +9,16 @@ use lib.Dec.{leb, eqb}
 use lib.IntN.{ℤ, pos, negsuc, negℤ, natAbs, _+ℤ_, _*ℤ_}
 use lib.Signed.{ltZ, _≤ℤ_}
 use Rattle.laws.specs.Integers.{abs-neg}
-use Rattle.laws.specs.Linear.{of-le, by-abs, atom, nat, neg}
-use Rattle.laws.specs.Lists.{and-left, and-right}
+use Rattle.laws.specs.Lists.{and-right}
 use Rattle.laws.specs.Machine.{lt-refuted}
 use Rattle.laws.specs.Powers.{split, positive}
 use Rattle.filter.specs.Settings.{isSymbol, isEntry}
 use Rattle.filter.specs.Decision.{floor, clip, topSymbol, decide}
+use Rattle.filter.proofs.DecisionLaws.{between-ends}
 
 -- a symbol is below 2^(r+1) in magnitude
 pub symbol-below : (r : ℕ) (v : ℤ) → isSymbol r v ≡ true → natAbs v < 2 ^ (r + 1)
 symbol-below r v e = omega (arith, leb-true (natAbs v) (2 ^ (r + 1) - 1) (and-right (eqb (natAbs v % 2) 1) (leb (natAbs v) (2 ^ (r + 1) - 1)) e), positive (r + 1))
-
--- and not 0
-pub symbol-odd : (r : ℕ) (v : ℤ) → isSymbol r v ≡ true → natAbs v % 2 ≡ 1
-symbol-odd r v e = eqb-true (natAbs v % 2) 1 (and-left (eqb (natAbs v % 2) 1) (leb (natAbs v) (2 ^ (r + 1) - 1)) e)
-
-pub symbol-least : (r : ℕ) (v : ℤ) → isSymbol r v ≡ true → 1 ≤ natAbs v
-symbol-least r v e = omega (arith, symbol-odd r v e)
 
 pub entry-below : (r : ℕ) (v : ℤ) → isEntry r v ≡ true → natAbs v < 2 ^ (r + 1)
 entry-below r v e = go (eqb (natAbs v) 0) refl e
@@ -53,13 +46,9 @@ odd (negsuc n) = omega (arith, negative (2 * suc n) (2 * n) (omega arith))
 clip-symbol : (r : ℕ) (d : ℤ) → natAbs d % 2 ≡ 1 → isSymbol r (clip (topSymbol r) d) ≡ true
 clip-symbol r d o = high (ltZ (topSymbol r) d) refl
   where
-    between : d ≤ℤ topSymbol r → negℤ (topSymbol r) ≤ℤ d → natAbs d ≤ 2 ^ (r + 1) - 1
-    between h l = by-abs d (atom d)
-        (omega (arith, of-le (atom d) (nat (2 ^ (r + 1) - 1)) h, of-le (neg (nat (2 ^ (r + 1) - 1))) (atom d) l))
-
     low : (b : Bool) → ltZ d (negℤ (topSymbol r)) ≡ b → d ≤ℤ topSymbol r → isSymbol r (cond b (negℤ (topSymbol r)) d) ≡ true
     low true e h = symbol-of r (negℤ (topSymbol r)) (rw (abs-neg (topSymbol r)) (top-odd r)) (omega (arith, abs-neg (topSymbol r)))
-    low false e h = symbol-of r d o (between h (lt-refuted e))
+    low false e h = symbol-of r d o (between-ends (topSymbol r) d h (lt-refuted e))
 
     high : (b : Bool) → ltZ (topSymbol r) d ≡ b → isSymbol r (cond b (topSymbol r) (cond (ltZ d (negℤ (topSymbol r))) (negℤ (topSymbol r)) d)) ≡ true
     high true e = symbol-of r (topSymbol r) (top-odd r) (le-refl (2 ^ (r + 1) - 1))
@@ -75,3 +64,11 @@ symbol-entry r v e = go (eqb (natAbs v) 0)
     go : (b : Bool) → (b || isSymbol r v) ≡ true
     go true = refl
     go false = e
+
+-- the entry, or else what was decided
+pub chosen-symbol : (r : ℕ) (entry d : ℤ) → isEntry r entry ≡ true → isSymbol r d ≡ true → isSymbol r (cond (eqb (natAbs entry) 0) d entry) ≡ true
+chosen-symbol r entry d e h = go (eqb (natAbs entry) 0) e
+  where
+    go : (b : Bool) → (b || isSymbol r entry) ≡ true → isSymbol r (cond b d entry) ≡ true
+    go true s = h
+    go false s = s

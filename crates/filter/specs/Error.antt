@@ -1,6 +1,6 @@
 -- The error (step 5), from v, Y, ξ and k = S′ plus the bit length of v, which is κ here.
 use mathlib.Core.Bool.{cond}
-use Prim.Native.Nat.{ℕ, _+_, _-_}
+use Prim.Native.Nat.{ℕ, _-_}
 use lib.Dec.{ltb}
 use lib.IntN.{ℤ, _-ℤ_}
 use Rattle.numbers.specs.Cut.{cut, raise}

@@ -1,7 +1,7 @@
 -- One side of the equaliser at a sample: the feed forward filter or the feedback filter. Both are one filter.
 use mathlib.Core.Bool.{Bool}
 use mathlib.Core.List.{List, [], _∷_, map}
-use Prim.Native.Nat.{ℕ, suc, _+_, _-_, max}
+use Prim.Native.Nat.{ℕ, _+_, _-_, max}
 use lib.IntN.{ℤ, pos, natAbs, _+ℤ_, _*ℤ_}
 use lib.Dec.{ltb}
 use lib.ListN.{length, take}
@@ -42,9 +42,13 @@ adapt K (w ∷ ws) (a ∷ b) = adapted K w a ∷ adapt K ws b
 abbrev pub learnt : ℤ → Side → List ℤ
 learnt J f = adapt (raise J (f .scale)) (f .weights) (f .mantissas)
 
--- step 7: no weight has reached the halving limit
+-- step 7: a weight has not reached the halving limit
+abbrev pub isSmall : ℤ → Bool
+isSmall w = ltb (natAbs w) halvingLimit
+
+-- step 7: none has
 abbrev pub allSmall : List ℤ → Bool
-allSmall w = all (λ (x : ℤ). ltb (natAbs x) halvingLimit) w
+allSmall w = all isSmall w
 
 -- step 7: half of each weight
 abbrev pub halved : List ℤ → List ℤ

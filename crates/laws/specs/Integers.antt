@@ -1,9 +1,9 @@
 -- The ring laws of ℤ and the laws of the magnitude that the toolchain's integers lack.
-use mathlib.Core.Path.{_≡_, refl, sym, ap, _∙_}
-use Prim.Native.Nat.{ℕ, zero, suc, _+_, _*_, _≤_, _<_}
+use mathlib.Core.Path.{_≡_, refl, ap, _∙_}
+use Prim.Native.Nat.{ℕ, suc, _+_, _*_, _≤_}
 use native.Mathlib.Omega.{arith}
 use lib.IntN.{ℤ, pos, negsuc, negℤ, natAbs, _+ℤ_, _-ℤ_, _*ℤ_, *ℤ-comm}
-use Rattle.laws.specs.Parts.{up, down, up-neg, down-neg, up-pos, down-pos, abs-parts, add-parts, sub-parts-of, mul-parts, same-parts, one-part}
+use Rattle.laws.specs.Parts.{up, down, up-neg, down-neg, up-pos, down-pos, abs-parts, add-parts, mul-parts, same-parts}
 
 -- ---- products
 

@@ -1,9 +1,9 @@
 -- A statement on ℤ as one on ℕ, for omega. An expression E x of x has two parts in ℕ that compute by its form, and their difference is x.
-use mathlib.Core.Path.{_≡_, refl, sym, ap, _∙_}
+use mathlib.Core.Path.{_≡_, ap}
 use mathlib.Core.Bool.{Bool, true, false, not}
-use Prim.Native.Nat.{ℕ, zero, suc, pred, _+_, _*_, _≤_, _<_}
+use Prim.Native.Nat.{ℕ, pred, _+_, _*_, _≤_, _<_}
 use native.Mathlib.Omega.{arith}
-use lib.IntN.{ℤ, pos, negsuc, negℤ, natAbs, _+ℤ_, _-ℤ_, _*ℤ_}
+use lib.IntN.{ℤ, pos, negℤ, natAbs, _+ℤ_, _-ℤ_, _*ℤ_}
 use lib.Signed.{_≤ℤ_, _<ℤ_}
 use Rattle.laws.specs.Parts.{up, down, up-neg, down-neg, up-pos, down-pos, abs-parts, add-parts, sub-parts-of, mul-parts, same-parts, parts-le, le-parts, parts-lt, lt-parts}
 use Rattle.laws.specs.Integers.{abs-bounds}

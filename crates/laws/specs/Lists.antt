@@ -1,13 +1,14 @@
 -- Lists that a loop has gone through in part.
-use mathlib.Core.Path.{_≡_, refl, sym, ap, _∙_, subst}
-use mathlib.Core.Bool.{Bool, true, false, cond, _&&_}
-use mathlib.Core.List.{List, [], _∷_, _++_, map}
-use Prim.Native.Nat.{ℕ, zero, suc, _+_, _*_, _-_, _≤_, _<_}
+use mathlib.Core.Path.{_≡_, refl, sym, ap, ap₂, _∙_, subst}
+use mathlib.Core.Bool.{Bool, true, false, _&&_}
+use mathlib.Core.List.{List, [], _∷_, map}
+use Prim.Native.Nat.{ℕ, zero, suc, _+_, _≤_, _<_}
 use native.Mathlib.Omega.{arith}
 use native.Mathlib.Nat.{le-of-suc-le-suc, not-suc-le-zero, le-refl}
+use native.Mathlib.Numerals.{add-one}
 use lib.Dec.{T}
-use lib.ListN.{length, getD, take, drop, set, replicate, length-map, List·getD-map, length-replicate, getD-replicate, drop-of-length-le}
-use lib.Seq.{drop-cons}
+use lib.ListN.{length, getD, take, drop, set, length-set, drop-of-length-le}
+use lib.Seq.{drop-cons, take-all}
 
 pub and-left : (a b : Bool) → (a && b) ≡ true → a ≡ true
 and-left true b e = refl
@@ -26,14 +27,8 @@ module _ {ℓ} {A : Type ℓ} where
   overlay (suc i) (x ∷ new) [] = []
   overlay (suc i) (x ∷ new) (y ∷ old) = x ∷ overlay i new old
 
-  pub overlay-length : (i : ℕ) (new old : List A) → length (overlay i new old) ≡ length old
-  overlay-length zero new old = refl
-  overlay-length (suc i) [] old = refl
-  overlay-length (suc i) (x ∷ new) [] = refl
-  overlay-length (suc i) (x ∷ new) (y ∷ old) = ap suc (overlay-length i new old)
-
   -- one store more
-  pub overlay-next : (i : ℕ) (new old : List A) (d : A) → i < length new → i < length old → set (overlay i new old) i (getD new i d) ≡ overlay (suc i) new old
+  overlay-next : (i : ℕ) (new old : List A) (d : A) → i < length new → i < length old → set (overlay i new old) i (getD new i d) ≡ overlay (suc i) new old
   overlay-next zero [] old d h k = absurd (not-suc-le-zero h)
   overlay-next zero (x ∷ new) [] d h k = absurd (not-suc-le-zero k)
   overlay-next zero (x ∷ new) (y ∷ old) d h k = refl
@@ -42,7 +37,7 @@ module _ {ℓ} {A : Type ℓ} where
   overlay-next (suc i) (x ∷ new) (y ∷ old) d h k = ap (λ l. x ∷ l) (overlay-next i new old d (le-of-suc-le-suc h) (le-of-suc-le-suc k))
 
   -- what lies at i or later is as it was
-  pub overlay-later : (i j : ℕ) (new old : List A) (d : A) → i ≤ j → getD (overlay i new old) j d ≡ getD old j d
+  overlay-later : (i j : ℕ) (new old : List A) (d : A) → i ≤ j → getD (overlay i new old) j d ≡ getD old j d
   overlay-later zero j new old d h = refl
   overlay-later (suc i) j [] old d h = refl
   overlay-later (suc i) j (x ∷ new) [] d h = refl
@@ -50,33 +45,49 @@ module _ {ℓ} {A : Type ℓ} where
   overlay-later (suc i) (suc j) (x ∷ new) (y ∷ old) d h = overlay-later i j new old d (le-of-suc-le-suc h)
 
   -- all of them
-  pub overlay-all : (i : ℕ) (new old : List A) → length new ≡ length old → length old ≤ i → overlay i new old ≡ new
-  overlay-all zero [] [] e h = refl
-  overlay-all zero [] (y ∷ old) e h = absurd (not-suc-le-zero h)
-  overlay-all zero (x ∷ new) [] e h = absurd (omega arith)
-  overlay-all zero (x ∷ new) (y ∷ old) e h = absurd (not-suc-le-zero h)
-  overlay-all (suc i) [] [] e h = refl
-  overlay-all (suc i) [] (y ∷ old) e h = absurd (omega arith)
-  overlay-all (suc i) (x ∷ new) [] e h = absurd (omega arith)
-  overlay-all (suc i) (x ∷ new) (y ∷ old) e h = ap (λ l. x ∷ l) (overlay-all i new old (omega arith) (le-of-suc-le-suc h))
+  front : (i : ℕ) (new old : List A) → length new ≤ i → length new ≤ length old → take (length new) (overlay i new old) ≡ new
+  front i [] old h k = refl
+  front zero (x ∷ new) old h k = absurd (not-suc-le-zero h)
+  front (suc i) (x ∷ new) [] h k = absurd (not-suc-le-zero k)
+  front (suc i) (x ∷ new) (y ∷ old) h k = ap (λ l. x ∷ l) (front i new old (le-of-suc-le-suc h) (le-of-suc-le-suc k))
 
--- the first i elements mapped
-pub mapped-next {ℓ} : {A : Type ℓ} (f : A → A) (i : ℕ) (l : List A) (d : A) → i < length l → set (overlay i (map f l) l) i (f (getD l i d)) ≡ overlay (suc i) (map f l) l
-mapped-next f i l d h =
-    ap (λ x. set (overlay i (map f l) l) i x) (sym (List·getD-map f l i d))
-    ∙ overlay-next i (map f l) l (f d) (rw length-map h) h
+-- ---- a list that a loop writes from the front
 
-pub mapped-all {ℓ} : {A : Type ℓ} (f : A → A) (i : ℕ) (l : List A) → length l ≤ i → overlay i (map f l) l ≡ map f l
-mapped-all f i l h = overlay-all i (map f l) l (length-map l f) h
+module _ {ℓ} {A : Type ℓ} where
+  -- the first i elements are those of the new list, the others are still the old ones
+  pub record Written (new old : List A) (i : ℕ) (now : List A) : Type ℓ where
+    pub long : length now ≡ length old
+    pub is : now ≡ overlay i new old
 
--- the first i elements filled with v
-pub filled-next {ℓ} : {A : Type ℓ} (v : A) (i : ℕ) (l : List A) → i < length l → set (overlay i (replicate (length l) v) l) i v ≡ overlay (suc i) (replicate (length l) v) l
-filled-next v i l h =
-    ap (λ x. set (overlay i (replicate (length l) v) l) i x) (sym (getD-replicate (length l) i v v h))
-    ∙ overlay-next i (replicate (length l) v) l v (rw length-replicate h) h
+  pub written-none : (new old : List A) → Written new old 0 old
+  written-none new old = record { long = refl; is = refl }
 
-pub filled-all {ℓ} : {A : Type ℓ} (v : A) (i : ℕ) (l : List A) → length l ≤ i → overlay i (replicate (length l) v) l ≡ replicate (length l) v
-filled-all v i l h = overlay-all i (replicate (length l) v) l (length-replicate (length l) v) h
+  module _ {new old now : List A} {i : ℕ} (w : Written new old i now) where
+    -- the element that is next is as it was
+    pub written-read : (d : A) → getD now i d ≡ getD old i d
+    written-read d = ap (λ l. getD l i d) (w .is) ∙ overlay-later i i new old d (le-refl i)
+
+    -- one store more, of the element that belongs there
+    pub written-next : (d x : A) → i < length new → i < length old → x ≡ getD new i d → Written new old (i + 1) (set now i x)
+    written-next d x h k e = record {
+      long = length-set now i x ∙ w .long;
+      is = ap₂ (λ l y. set l i y) (w .is) e ∙ overlay-next i new old d h k ∙ ap (λ j. overlay j new old) (sym (add-one i));
+    }
+
+    -- all of the new list is written
+    pub written-front : (n : ℕ) → n ≡ length new → n ≤ i → n ≤ length old → take n now ≡ new
+    written-front n e h k = ap₂ take e (w .is) ∙ front i new old (omega arith) (omega arith)
+
+    pub written-all : length new ≡ length old → length old ≤ i → now ≡ new
+    written-all e h = sym (take-all (length new) now (omega (arith, w .long))) ∙ written-front (length new) refl (omega arith) (omega arith)
+
+-- ---- a list with each element mapped
+
+-- inside the list any default will do
+pub map-at {ℓ ℓ′} : {A : Type ℓ} {B : Type ℓ′} (f : A → B) (l : List A) (i : ℕ) (d : A) (e : B) → i < length l → getD (map f l) i e ≡ f (getD l i d)
+map-at f [] i d e h = absurd (not-suc-le-zero h)
+map-at f (x ∷ l) zero d e h = refl
+map-at f (x ∷ l) (suc i) d e h = map-at f l i d e (le-of-suc-le-suc h)
 
 -- ---- a test over what is left of a list
 
@@ -85,7 +96,7 @@ module _ {ℓ} {A : Type ℓ} (p : A → Bool) where
   all [] = true
   all (x ∷ xs) = p x && all xs
 
-  pub all-step : (xs : List A) (i : ℕ) (d : A) → i < length xs → all (drop i xs) ≡ (p (getD xs i d) && all (drop (suc i) xs))
+  all-step : (xs : List A) (i : ℕ) (d : A) → i < length xs → all (drop i xs) ≡ (p (getD xs i d) && all (drop (suc i) xs))
   all-step xs i d h = rw (drop-cons xs i d)
 
   pub all-pass : (xs : List A) (i : ℕ) (d : A) → i < length xs → p (getD xs i d) ≡ true → all (drop i xs) ≡ all (drop (suc i) xs)

@@ -1,5 +1,5 @@
 -- The two parts of a whole number: z is up z − down z, and one of them is 0.
-use mathlib.Core.Path.{_≡_, refl, sym, ap, _∙_}
+use mathlib.Core.Path.{_≡_, refl, ap}
 use mathlib.Core.Bool.{Bool, true, false, not, cond}
 use Prim.Native.Nat.{ℕ, zero, suc, _+_, _*_, _-_, _≤_, _<_}
 use native.Mathlib.Omega.{arith}
@@ -41,7 +41,7 @@ abs-parts (pos n) = omega arith
 abs-parts (negsuc n) = omega arith
 
 -- where one part exceeds the other, the other is 0
-pub one-part : (z : ℤ) → up z * down z ≡ 0
+one-part : (z : ℤ) → up z * down z ≡ 0
 unfolding up down
 one-part (pos n) = omega arith
 one-part (negsuc n) = omega arith

@@ -1,8 +1,8 @@
 -- Powers of two at variable exponents: each law takes the equation or the order of the exponents.
-use mathlib.Core.Path.{_≡_, refl, sym, ap, _∙_, subst}
+use mathlib.Core.Path.{_≡_, refl, sym, ap, _∙_}
 use Prim.Native.Nat.{ℕ, zero, suc, _+_, _*_, _-_, _^_, _≤_, _<_}
 use native.Mathlib.Omega.{arith}
-use native.Mathlib.Nat.{le-trans, le-of-eq, lt-of-lt-of-le, lt-of-not-le, not-le-of-lt, le-of-mul-le-mul-right, lt-of-mul-lt-mul-right, eq-of-mul-eq-mul-right, mul-le-mul-right, mul-lt-mul-of-pos-right, two-pow-succ, sub-add-cancel}
+use native.Mathlib.Nat.{lt-of-not-le, not-le-of-lt, le-of-mul-le-mul-right, lt-of-mul-lt-mul-right, mul-le-mul-right, mul-lt-mul-of-pos-right, two-pow-succ, sub-add-cancel}
 use lib.Pow as P
 use lib.Pow.{pow-add, pow-pos, pow-mono}
 
@@ -62,9 +62,6 @@ cancel-le k h = le-of-mul-le-mul-right h (pow-pos k)
 
 pub cancel-lt : {m n : ℕ} (k : ℕ) → m * 2 ^ k < n * 2 ^ k → m < n
 cancel-lt k h = lt-of-mul-lt-mul-right (2 ^ k) h
-
-pub cancel-eq : {m n : ℕ} (k : ℕ) → m * 2 ^ k ≡ n * 2 ^ k → m ≡ n
-cancel-eq {m} {n} k h = eq-of-mul-eq-mul-right (2 ^ k) (pow-pos k) m n h
 
 -- a bound at a higher scale, taken down to one without it, and back
 pub lower : (m c a b : ℕ) → c ≡ a + b → m * 2 ^ b < 2 ^ c → m < 2 ^ a

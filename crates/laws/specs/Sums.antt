@@ -1,12 +1,12 @@
 -- The sum of the products of two lists, and facts that hold of each element.
 use mathlib.Core.Path.{_≡_, refl, sym, ap, ap₂, _∙_}
 use mathlib.Core.List.{List, [], _∷_, _++_, map}
-use Prim.Native.Nat.{ℕ, zero, suc, _+_, _*_, _≤_, _<_}
+use Prim.Native.Nat.{ℕ, zero, suc, _*_, _≤_, _<_}
 use native.Mathlib.Omega.{arith}
 use native.Mathlib.Nat.{le-of-suc-le-suc, not-suc-le-zero, mul-le-mul}
-use lib.ListN.{length, getD, take, drop}
-use lib.IntN.{ℤ, pos, negsuc, negℤ, natAbs, _+ℤ_, _*ℤ_, +ℤ-idl, +ℤ-idr, +ℤ-assoc, negℤ-+ℤ, negℤ-negℤ, *ℤ-zero}
-use Rattle.laws.specs.Integers.{neg-*ℤ, *ℤ-neg, *ℤ-add, *ℤ-assoc, abs-mul, abs-add}
+use lib.ListN.{length, getD, take}
+use lib.IntN.{ℤ, pos, negℤ, natAbs, _+ℤ_, _*ℤ_, zero-*ℤ, +ℤ-idl, +ℤ-idr, +ℤ-assoc, negℤ-+ℤ, negℤ-negℤ}
+use Rattle.laws.specs.Integers.{neg-*ℤ, *ℤ-neg, add-*ℤ, *ℤ-assoc, abs-mul, abs-add}
 
 -- ---- a fact of each element
 
@@ -33,10 +33,9 @@ module _ {ℓ} {A : Type ℓ} (P : A → Type 0) where
   each-take (suc i) [] h = tt
   each-take (suc i) (x ∷ xs) h = (h .0, each-take i xs (h .1))
 
-  pub each-drop : (i : ℕ) (xs : List A) → Each xs → Each (drop i xs)
-  each-drop zero xs h = h
-  each-drop (suc i) [] h = tt
-  each-drop (suc i) (x ∷ xs) h = each-drop i xs (h .1)
+pub each-weaken {ℓ} : {A : Type ℓ} (P Q : A → Type 0) → ((x : A) → P x → Q x) → (xs : List A) → Each P xs → Each Q xs
+each-weaken P Q f [] h = tt
+each-weaken P Q f (x ∷ xs) h = (f x (h .0), each-weaken P Q f xs (h .1))
 
 pub each-map {ℓ ℓ′} : {A : Type ℓ} {B : Type ℓ′} (P : A → Type 0) (Q : B → Type 0) (f : A → B) → ((x : A) → P x → Q (f x)) → (xs : List A) → Each P xs → Each Q (map f xs)
 each-map P Q f g [] h = tt
@@ -63,6 +62,14 @@ dot-neg-right (w ∷ ws) (a ∷ b) = ap₂ (λ (x y : ℤ). x +ℤ y) (*ℤ-neg 
 
 pub dot-neg-both : (w a : List ℤ) → dot (map negℤ w) (map negℤ a) ≡ dot w a
 dot-neg-both w a = dot-neg-left w (map negℤ a) ∙ ap negℤ (dot-neg-right w a) ∙ negℤ-negℤ (dot w a)
+
+-- the right list times a number
+pub dot-scale : (c : ℤ) (w a : List ℤ) → dot w (map (λ (x : ℤ). x *ℤ c) a) ≡ dot w a *ℤ c
+unfolding dot
+dot-scale c [] a = sym (zero-*ℤ c)
+dot-scale c (w ∷ ws) [] = sym (zero-*ℤ c)
+dot-scale c (w ∷ ws) (a ∷ b) =
+    ap₂ (λ (x y : ℤ). x +ℤ y) (sym (*ℤ-assoc w a c)) (dot-scale c ws b) ∙ sym (add-*ℤ (w *ℤ a) (dot ws b) c)
 
 -- one pair more, as a loop from the front adds it
 pub dot-next : (i : ℕ) (w a : List ℤ) → i < length w → i < length a →

@@ -1,12 +1,12 @@
 -- Laws of the bit length.
 use mathlib.Core.Path.{_≡_, refl, sym, ap, _∙_}
-use Prim.Native.Nat.{ℕ, zero, suc, _+_, _*_, _-_, _/_, _%_, _^_, _≤_, _<_}
+use Prim.Native.Nat.{ℕ, zero, suc, _+_, _*_, _/_, _^_, _≤_, _<_}
 use native.Mathlib.Omega.{arith}
-use native.Mathlib.Nat.{eq-zero-or-pos, le-refl, div-add-mod', mod-lt, lt-of-le-of-lt, le-antisymm}
+use native.Mathlib.Nat.{eq-zero-or-pos, le-refl, lt-of-le-of-lt, le-antisymm}
 use mathlib.Core.Logic.{_⊎_, inl, inr}
 use lib.Arith.{half-le}
 use lib.Count.{leadingZeros, leading-length}
-use Rattle.laws.specs.Powers.{double, positive, rises, exponent-lt, exponent-le}
+use Rattle.laws.specs.Powers.{double, rises, exponent-lt}
 use Rattle.numbers.specs.BitLength.{digits, bitLength}
 
 digits-above : (d n : ℕ) → n ≤ d → n < 2 ^ digits d n
@@ -45,9 +45,6 @@ bit-length-least n p = digits-least n n (le-refl n) p
 pub bit-length-zero : bitLength 0 ≡ 0
 unfolding bitLength
 bit-length-zero = refl
-
-pub bit-length-only-zero : (n : ℕ) → bitLength n ≡ 0 → n ≡ 0
-bit-length-only-zero n e = omega (arith, bit-length-above n, ap (λ (k : ℕ). 2 ^ k) e)
 
 -- a number below 2^k has at most k digits, and only such a number
 pub bit-length-le : (n k : ℕ) → n < 2 ^ k → bitLength n ≤ k

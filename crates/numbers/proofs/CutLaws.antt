@@ -1,16 +1,16 @@
 -- Laws of the cut T(z / 2^k), for every z and k.
 use mathlib.Core.Path.{_≡_, refl, sym, ap, _∙_, subst}
-use Prim.Native.Nat.{ℕ, zero, suc, _+_, _*_, _-_, _/_, _%_, _^_, _≤_, _<_}
+use Prim.Native.Nat.{ℕ, zero, suc, _+_, _*_, _-_, _/_, _^_, _≤_, _<_}
 use native.Mathlib.Omega.{arith}
-use native.Mathlib.Nat.{zero-div, div-one, div-le-self, div-add-mod', mod-lt, mul-div-mul-right, div-eq-of-lt, div-eq-sub-div, div-lt-iff-lt-mul, mul-div-cancel}
-use lib.Pow.{pow-pos, pow-add, shr-shr}
+use native.Mathlib.Nat.{zero-div, div-one, div-le-self, div-mul-le-self, div-add-mod', mod-lt, mul-div-mul-right, div-eq-of-lt, div-eq-sub-div, div-lt-iff-lt-mul, mul-div-cancel}
+use lib.Pow.{pow-pos}
 use lib.Dec.{ltb→lt}
 use borrow.Author.Tests.{lt-ltb, le-ltb}
 use native.Mathlib.Decide.{decLe}
 use native.Mathlib.Numerals.{add-one}
 use lib.Signed.{shrZ, _≤ℤ_, _<ℤ_}
-use lib.IntN.{ℤ, pos, negsuc, negℤ, natAbs, subℕ, _+ℤ_, _-ℤ_, _*ℤ_, negℤ-negℤ, negℤ-+ℤ}
-use Rattle.laws.specs.Integers.{neg-*ℤ, abs-neg}
+use lib.IntN.{ℤ, pos, negsuc, negℤ, natAbs, subℕ, _+ℤ_, _-ℤ_, _*ℤ_, zero-*ℤ, negℤ-negℤ, negℤ-+ℤ}
+use Rattle.laws.specs.Integers.{*ℤ-assoc, neg-*ℤ, abs-mul, abs-neg}
 use Rattle.laws.specs.Linear.{by-abs-lt, diff, nat}
 use Rattle.laws.specs.Powers.{split}
 use Rattle.numbers.specs.Cut.{cut, raise, rescale}
@@ -44,6 +44,9 @@ cut-none (negsuc n) = ap (λ (m : ℕ). negℤ (pos m)) (div-one (suc n))
 pub cut-le : (z : ℤ) (k : ℕ) → natAbs (cut z k) ≤ natAbs z
 cut-le z k = omega (arith, cut-abs z k, div-le-self (natAbs z) (2 ^ k))
 
+pub cut-scaled : (z : ℤ) (k : ℕ) → natAbs (cut z k) * 2 ^ k ≤ natAbs z
+cut-scaled z k = omega (arith, div-mul-le-self (natAbs z) (2 ^ k), ap (λ (n : ℕ). n * 2 ^ k) (cut-abs z k))
+
 pub cut-lt : (z : ℤ) (c j k : ℕ) → c ≡ j + k → natAbs z < 2 ^ c → natAbs (cut z k) < 2 ^ j
 cut-lt z c j k e h = rw (cut-abs) (div-lt-iff-lt-mul (pow-pos k) .1 (omega (arith, split c j k e)))
 
@@ -68,28 +71,36 @@ cut-error z k = by-sign (λ z. natAbs (z -ℤ raise (cut z k) k) < 2 ^ k) whole 
     negative : (z : ℤ) → natAbs (z -ℤ raise (cut z k) k) < 2 ^ k → natAbs (negℤ z -ℤ raise (cut (negℤ z) k) k) < 2 ^ k
     negative z h = subst (λ (m : ℕ). m < 2 ^ k) (sym (ap natAbs (turned z) ∙ abs-neg (z -ℤ raise (cut z k) k))) h
 
-pub cut-cut : (z : ℤ) (i j : ℕ) → cut (cut z i) j ≡ cut z (i + j)
-unfolding cut
-cut-cut z i j = by-sign (λ z. cut (cut z i) j ≡ cut z (i + j)) (λ n. ap pos (shr-shr n i j)) negative z
-  where
-    negative : (z : ℤ) → cut (cut z i) j ≡ cut z (i + j) → cut (cut (negℤ z) i) j ≡ cut (negℤ z) (i + j)
-    negative z h = ap (λ (c : ℤ). cut c j) (cut-neg z i) ∙ cut-neg (cut z i) j ∙ ap negℤ h ∙ sym (cut-neg z (i + j))
+-- ---- a number raised
+
+pub raise-abs : (z : ℤ) (k : ℕ) → natAbs (raise z k) ≡ natAbs z * 2 ^ k
+raise-abs z k = abs-mul z (pos (2 ^ k))
+
+pub raise-raise : (z : ℤ) (i j k : ℕ) → k ≡ i + j → raise (raise z i) j ≡ raise z k
+raise-raise z i j k e = *ℤ-assoc z (pos (2 ^ i)) (pos (2 ^ j)) ∙ ap (λ (n : ℕ). z *ℤ pos n) (sym (split k i j e))
 
 -- ---- a number raised and then cut
 
-raise-neg : (z : ℤ) (j k : ℕ) → cut (raise (negℤ z) j) k ≡ negℤ (cut (raise z j) k)
-raise-neg z j k = ap (λ (c : ℤ). cut c k) (neg-*ℤ z (pos (2 ^ j))) ∙ cut-neg (raise z j) k
+pub rescale-zero : (i j : ℕ) → rescale (pos 0) i j ≡ pos 0
+rescale-zero i j = ap (λ (z : ℤ). cut z j) (zero-*ℤ (pos (2 ^ i))) ∙ cut-zero j
+
+-- no larger in value
+pub rescale-most : (z : ℤ) (i j : ℕ) → natAbs (rescale z i j) * 2 ^ j ≤ natAbs z * 2 ^ i
+rescale-most z i j = omega (arith, cut-scaled (raise z i) j, raise-abs z i)
+
+rescale-neg : (z : ℤ) (j k : ℕ) → cut (raise (negℤ z) j) k ≡ negℤ (cut (raise z j) k)
+rescale-neg z j k = ap (λ (c : ℤ). cut c k) (neg-*ℤ z (pos (2 ^ j))) ∙ cut-neg (raise z j) k
 
 pub rescale-down : (z : ℤ) (i j k : ℕ) → j ≡ i + k → rescale z i j ≡ cut z k
 unfolding cut
-rescale-down z i j k e = by-sign (λ z. rescale z i j ≡ cut z k) whole (λ z h. raise-neg z i j ∙ ap negℤ h ∙ sym (cut-neg z k)) z
+rescale-down z i j k e = by-sign (λ z. rescale z i j ≡ cut z k) whole (λ z h. rescale-neg z i j ∙ ap negℤ h ∙ sym (cut-neg z k)) z
   where
     whole : (n : ℕ) → pos (n * 2 ^ i / 2 ^ j) ≡ pos (n / 2 ^ k)
     whole n = ap pos (ap (λ (m : ℕ). n * 2 ^ i / m) (omega (arith, split j i k e)) ∙ mul-div-mul-right n (2 ^ k) (pow-pos i))
 
 pub rescale-up : (z : ℤ) (i j k : ℕ) → i ≡ j + k → rescale z i j ≡ raise z k
 unfolding cut
-rescale-up z i j k e = by-sign (λ z. rescale z i j ≡ raise z k) whole (λ z h. raise-neg z i j ∙ ap negℤ h ∙ sym (neg-*ℤ z (pos (2 ^ k)))) z
+rescale-up z i j k e = by-sign (λ z. rescale z i j ≡ raise z k) whole (λ z h. rescale-neg z i j ∙ ap negℤ h ∙ sym (neg-*ℤ z (pos (2 ^ k)))) z
   where
     whole : (n : ℕ) → pos (n * 2 ^ i / 2 ^ j) ≡ pos (n * 2 ^ k)
     whole n = ap pos (ap (λ (m : ℕ). m / 2 ^ j) (omega (arith, ap (λ (m : ℕ). n * m) (split i j k e))) ∙ mul-div-cancel (n * 2 ^ k) (pow-pos j))

@@ -12,7 +12,7 @@ use lib.Arith.{lt-of-le-ne}
 use borrow.Author.Tests.{le-leb, leb-true, ltb-true}
 use Rattle.laws.specs.Lists.{and-left, and-right}
 use Rattle.laws.specs.Tables.{tested, tested-at}
-use Rattle.laws.specs.Powers.{above, double, rises, exponent-lt}
+use Rattle.laws.specs.Powers.{above, double, exponent-lt}
 use Rattle.numbers.specs.ScaleCount.{first, scaleCount}
 
 -- ---- the first that passes a test

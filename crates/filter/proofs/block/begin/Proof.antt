@@ -1,12 +1,11 @@
 -- The scale counts, the bit length of the loudest sample, and the larger of it and the one before.
 use mathlib.Core.Path.{_≡_, ap, ap₂, _∙_}
-use Prim.Native.Nat.{ℕ, _+_, _≤_, _<_, max}
+use Prim.Native.Nat.{ℕ, _+_, _≤_, max}
 use native.Mathlib.Omega.{arith}
-use native.Mathlib.Nat.{max-le}
 use borrow.Author.Needs.{needs}
 use Rattle.numbers.specs.BitLength.{bitLength}
 use Rattle.numbers.proofs.BitLengthLaws.{bit-length-le}
-use Rattle.filter.specs.Calls.{blockLength, settingsOf}
+use Rattle.filter.specs.Calls.{blockLength}
 use Rattle.filter.proofs.SampleSides.{scale-most}
 use Rattle.filter.proofs.block.begin.Statement.{statement}
 use Rattle.filter.proofs.block.begin.Tie as tie

@@ -1,29 +1,21 @@
 -- The run of a block: when n samples are done, everything is as the definitions have it.
-use mathlib.Core.Path.{_≡_, refl, sym, ap, ap₂, _∙_, subst, subst₂}
-use mathlib.Core.Bool.{true, false}
+use mathlib.Core.Path.{_≡_, refl, sym, _∙_, subst}
 use mathlib.Core.List.{List, map}
-use Prim.Native.Nat.{ℕ, _+_, _-_, _≤_, _<_}
+use Prim.Native.Nat.{ℕ, _-_, _<_}
 use native.Mathlib.Omega.{arith}
-use lib.Dec.{T}
-use lib.ListN.{length, getD, take}
+use native.Mathlib.Nat.{lt-of-lt-of-le}
+use lib.Dec.{lit<}
+use lib.ListN.{length, getD}
 use lib.IntN.{ℤ, pos}
 use mir.Syntax.{w8, w16, w32}
 use mir.Val.{toZ, ofZ}
-use mir.Facts.{toZ-ofZ}
-use borrow.Author.Needs.{needs}
 use Rattle.laws.specs.Machine.{kept}
-use Rattle.laws.specs.Sums.{Each}
 use Rattle.numbers.specs.Cut.{rescale}
-use Rattle.filter.specs.Settings.{Settings, scaleForward, scaleBack}
-use Rattle.filter.specs.Block.{Block, Memory, receivedAll, newb, newB, g, stored, at, entryAt}
-use Rattle.filter.specs.Sound.{Storable}
-use Rattle.filter.specs.Side.{push}
-use Rattle.filter.specs.Calls.{settingsOf, blockOf, memoryOf, tapsOf, Ready, Advanced-is, Runnable}
-use Rattle.filter.proofs.SampleSides.{scale-most}
-use Rattle.filter.proofs.BlockExponents.{newB-most}
-use Rattle.filter.proofs.BlockStored.{receivable, received-storable}
-use Rattle.filter.proofs.RunLaws as R
-use Rattle.filter.proofs.RunLaws.{Passed}
+use Rattle.filter.specs.Settings.{Settings}
+use Rattle.filter.specs.Block.{Block, Memory}
+use Rattle.filter.specs.Calls.{settingsOf, blockOf, memoryOf, tapsOf, Runnable}
+use Rattle.filter.proofs.RunStart.{Begun-as, begun-as, startable, window-storable, window-rescaled, places-most, block-storable, stored-in, place-fits, next-fits, fewer}
+use Rattle.filter.proofs.RunLaws.{Work, Passed, Given, passed-none, passed-next, same-lengths, ready, stopped, ran}
 use Rattle.filter.proofs.block.run.Statement.{statement}
 use Rattle.filter.proofs.block.run.Tie as tie
 
@@ -31,8 +23,9 @@ use Rattle.filter.proofs.block.run.Tie as tie
 abbrev Inv-loop : tie.InvT-loop
 Inv-loop k psi b big m gains entries forward₀ back₀ samples₀ symbols₀ e stored y₀ xi₀ decision₀ z₀ theta₀ at₀ n₀ forward back samples symbols y xi decision z theta at n =
     (window : List ℤ) → Runnable (settingsOf k) (memoryOf forward₀ back₀ window symbols₀ psi b big) (blockOf m gains entries) window →
-    samples₀ ≡ map (λ (a : ℤ). rescale a big (newB (settingsOf k) (memoryOf forward₀ back₀ window symbols₀ psi b big) (blockOf m gains entries))) window →
-    Passed (settingsOf k) (memoryOf forward₀ back₀ window symbols₀ psi b big) (blockOf m gains entries) n at forward back samples symbols y xi decision z theta
+    samples₀ ≡ map (λ (a : ℤ). rescale a big (e .big)) window →
+    Passed (settingsOf k) (memoryOf forward₀ back₀ window symbols₀ psi b big) (blockOf m gains entries)
+    (record { n = n; taps = tapsOf forward back samples symbols at; y = y; xi = xi; decisions = decision; z = z; theta = theta })
 
 abbrev μ-loop : tie.MeasureT-loop
 μ-loop k psi b big m gains entries forward₀ back₀ samples₀ symbols₀ e stored y₀ xi₀ decision₀ z₀ theta₀ at₀ n₀ forward back samples symbols y xi decision z theta at n =
@@ -54,216 +47,155 @@ lent c = c .args .samples .now
 -- ---- before the first sample
 
 begin-requires : tie.Need-begin-requires Inv-loop μ-loop
-begin-requires c κs = let s = c .before in R.startable (settings s) (memory s (lent s)) (block s) (lent s) (s .pre)
+begin-requires c κs = startable (c .before .pre)
 
 abbrev start : tie.After-begin Inv-loop μ-loop → tie.Start Inv-loop μ-loop
 start c = c .before .before
 
-length-is : (c : tie.After-begin Inv-loop μ-loop) (w : List ℤ) → c .begin .result .b ≡ newb (settings (start c)) (memory (start c) w) (block (start c))
-unfolding newb
-length-is c w = c .begin .ensures .b
-
-big-is : (c : tie.After-begin Inv-loop μ-loop) (w : List ℤ) → c .begin .result .big ≡ newB (settings (start c)) (memory (start c) w) (block (start c))
-unfolding newB newb
-big-is c w = c .begin .ensures .big
-
-g-is : (c : tie.After-begin Inv-loop μ-loop) (w : List ℤ) → c .begin .result .g ≡ g (settings (start c)) (memory (start c) w) (block (start c))
-unfolding g newB newb
-g-is c w = c .begin .ensures .exponent
-
--- B + S, by which the samples are stored
-places : (c : tie.After-begin Inv-loop μ-loop) (w : List ℤ) → c .begin .result .big + c .begin .result .s ≡ newB (settings (start c)) (memory (start c) w) (block (start c)) + scaleForward (settings (start c))
-places c w = ap₂ (λ (x y : ℕ). x + y) (big-is c w) (c .begin .ensures .s)
+begun : (c : tie.After-begin Inv-loop μ-loop) (w : List ℤ) → Begun-as (settings (start c)) (memory (start c) w) (block (start c)) (c .begin .result)
+begun c w = begun-as (memory (start c) w) (c .begin .ensures)
 
 rescale-all-requires : tie.Need-rescale-all-requires Inv-loop μ-loop
-rescale-all-requires c κs =
-    let s = start (c .before) in
-    subst (λ (n : ℕ). Each (Storable (s .args .big) n) (lent s)) (sym (big-is (c .before) (lent s)))
-    (R.window-storable (settings s) (memory s (lent s)) (block s) (lent s) (s .pre))
+rescale-all-requires c κs = let s = start (c .before) in window-storable (begun (c .before) (lent s)) (s .pre)
 
 add-store : tie.Need-add-store Inv-loop μ-loop
 add-store c =
     let b = c .before .before .before .before in
-    let s = start b in
-    record {
-      fits = omega (
-        arith,
-        places b (lent s),
-        newB-most (settings s) (memory s (lent s)) (block s) (s .pre .sound) (s .pre .acceptable),
-        scale-most (s .args .k .p) (s .pre .sound .within .p-most),
-      );
-    }
+    record { fits = omega (arith, places-most (begun b (lent (start b))) (start b .pre)) }
 
 store-requires : tie.Need-store-requires Inv-loop μ-loop
 store-requires c κs =
     let b = c .before .before .before .before in
-    let s = start b in (
-      receivable (settings s) (memory s (lent s)) (block s) (s .pre .acceptable),
-      omega (arith, s .pre .acceptable .samples-long, s .pre .sound .within .N-most),
-      subst (λ (n : ℕ). Each (Storable 15 n) (receivedAll (s .args .m .now) (s .args .gains .now))) (sym (places b (lent s)))
-          (received-storable (settings s) (memory s (lent s)) (block s) (s .pre .sound) (s .pre .acceptable)),
-    )
+    block-storable (begun b (lent (start b))) (start b .pre)
 
 -- the place where the block began
-abbrev begun : tie.After-store Inv-loop μ-loop → tie.After-begin Inv-loop μ-loop
-begun c = c .before .before .before .before .before
-
-rescaled : (c : tie.After-store Inv-loop μ-loop) → let s = start (begun c) in
-    c .before .before .before .rescale-all .last .0 ≡ map (λ (a : ℤ). rescale a (s .args .big) (newB (settings s) (memory s (lent s)) (block s))) (lent s)
-rescaled c =
-    let s = start (begun c) in
-    c .before .before .before .rescale-all .ensures ∙ ap (λ (n : ℕ). map (λ (a : ℤ). rescale a (s .args .big) n) (lent s)) (big-is (begun c) (lent s))
-
-stored-is : (c : tie.After-store Inv-loop μ-loop) (w : List ℤ) → let s = start (begun c) in take (s .args .k .n) (c .store .result) ≡ stored (settings s) (memory s w) (block s)
-unfolding stored
-stored-is c w =
-    let s = start (begun c) in
-    ap (λ (n : ℕ). take n (c .store .result)) (sym (s .pre .acceptable .samples-long)) ∙ c .store .ensures
-    ∙ ap (λ (n : ℕ). map (λ (x : ℤ). rescale x 15 n) (receivedAll (s .args .m .now) (s .args .gains .now))) (places (begun c) w)
+abbrev opening : tie.After-store Inv-loop μ-loop → tie.After-begin Inv-loop μ-loop
+opening c = c .before .before .before .before .before
 
 loop-holds : tie.Need-loop-holds Inv-loop μ-loop
-loop-holds c window run e = R.passed-none _ _ _ window run _ e
+loop-holds c window run e = passed-none _ _ _ _ (window-rescaled (begun (opening c) window) run _ e)
 
 -- ---- a turn
 
-abbrev origin : tie.In-loop Inv-loop μ-loop → tie.Start Inv-loop μ-loop
-origin c = start (begun (c .before .before))
+abbrev origin : tie.At-loop Inv-loop μ-loop → tie.Start Inv-loop μ-loop
+origin c = start (opening (c .before))
 
-more : (c : tie.In-loop Inv-loop μ-loop) → c .before .loop .n < origin c .args .k .n
-more c = omega (arith, c .loop-test .taken, origin c .pre .acceptable .samples-long)
+abbrev work : tie.At-loop Inv-loop μ-loop → Work
+work c =
+    let l = c .loop in
+    record { n = l .n; taps = tapsOf (l .forward) (l .back) (l .samples) (l .symbols) (l .at); y = l .y; xi = l .xi; decisions = l .decision; z = l .z; theta = l .theta }
+
+-- on the window that was lent
+passed : (c : tie.At-loop Inv-loop μ-loop) → let s = origin c in Passed (settings s) (memory s (lent s)) (block s) (work c)
+passed c = c .loop .inv (lent (origin c)) (origin c .pre) (c .before .before .before .before .rescale-all .ensures)
+
+more : (c : tie.In-loop Inv-loop μ-loop) → c .before .loop .n < origin (c .before) .args .k .n
+more c = subst (λ (m : ℕ). c .before .loop .n < m) (origin (c .before) .pre .acceptable .samples-long) (c .loop-test .taken)
 
 room : (c : tie.In-loop Inv-loop μ-loop) → c .before .loop .n < 128
-room c = omega (arith, more c, origin c .pre .sound .within .N-most)
+room c = lt-of-lt-of-le (more c) (origin (c .before) .pre .sound .within .N-most)
 
 mul-advance : tie.Need-mul-advance Inv-loop μ-loop
-mul-advance c = record { fits = omega (arith, room c) }
+mul-advance c = place-fits (c .before .loop .n) 2 (room c) (lit< tt)
 
 array-copy-out-advance : tie.Need-array-copy-out-advance Inv-loop μ-loop
 array-copy-out-advance c = room c
 
 shared-slice-copy-out-advance : tie.Need-shared-slice-copy-out-advance Inv-loop μ-loop
-shared-slice-copy-out-advance c = omega (arith, more (c .before), origin (c .before) .pre .acceptable .entries-long)
+shared-slice-copy-out-advance c =
+    subst (λ (m : ℕ). c .before .before .loop .n < m) (sym (origin (c .before .before) .pre .acceptable .entries-long)) (more (c .before))
 
-sample-is : (c : tie.After-advance-arg Inv-loop μ-loop) (w : List ℤ) → let s = origin (c .before) in
-    let n = c .before .before .loop .n in
-    toZ w16 (ofZ w16 (getD (c .before .before .before .store .result) n (pos 0))) ≡ getD (stored (settings s) (memory s w) (block s)) n (pos 0)
-sample-is c w =
-    kept w16 (getD (c .before .before .before .store .result) (c .before .before .loop .n) (pos 0)) (c .advance-arg .given)
-    ∙ R.stored-in _ _ _ (c .before .before .before .store .result) (stored-is (c .before .before .before) w) (c .before .before .loop .n) (more (c .before))
+-- the two elements that are read
+given : (c : tie.After-advance-arg2 Inv-loop μ-loop) (w : List ℤ) → let l = c .before .before .before in let s = origin l in let r = opening (l .before) .begin .result in
+    Runnable (settings s) (memory s w) (block s) w →
+    Given (settings s) (memory s w) (block s) (l .loop .n) (r .s) (r .sb) (r .g)
+    (toZ w16 (ofZ w16 (getD (l .before .store .result) (l .loop .n) (pos 0)))) (toZ w8 (ofZ w8 (getD (s .args .entries .now) (l .loop .n) (pos 0))))
+given c w run =
+    let l = c .before .before .before in
+    let b = begun (opening (l .before)) w in
+    record {
+      forward-scale = b .s-as;
+      back-scale = b .sb-as;
+      exponent = b .g-as;
+      sample = kept w16 (getD (l .before .store .result) (l .loop .n) (pos 0)) (c .before .advance-arg .given)
+          ∙ stored-in b run (l .before .store .result) (l .before .store .ensures) (l .loop .n) (more (c .before .before));
+      entry = kept w8 (getD (origin l .args .entries .now) (l .loop .n) (pos 0)) (c .advance-arg2 .given);
+    }
 
-entry-is : (c : tie.After-advance-arg2 Inv-loop μ-loop) → let x = getD (origin (c .before .before) .args .entries .now) (c .before .before .before .loop .n) (pos 0) in
-    toZ w8 (ofZ w8 x) ≡ x
-entry-is c = kept w8 (getD (origin (c .before .before) .args .entries .now) (c .before .before .before .loop .n) (pos 0)) (c .advance-arg2 .given)
-
--- the places of the two elements that are read
 abbrev read : tie.After-advance-arg6 Inv-loop μ-loop → tie.After-advance-arg2 Inv-loop μ-loop
 read c = c .before .before .before .before
 
-abbrev turn : tie.After-advance-arg2 Inv-loop μ-loop → tie.In-loop Inv-loop μ-loop
-turn c = c .before .before
-
--- the run is on the window that was lent
-passed : (c : tie.In-loop Inv-loop μ-loop) → let s = origin c in let l = c .before .loop in
-    Passed (settings s) (memory s (lent s)) (block s) (l .n) (l .at) (l .forward) (l .back) (l .samples) (l .symbols) (l .y) (l .xi) (l .decision) (l .z) (l .theta)
-passed c = c .before .loop .inv (lent (origin c)) (origin c .pre) (rescaled (c .before .before))
+abbrev turn : tie.After-advance-arg6 Inv-loop μ-loop → tie.In-loop Inv-loop μ-loop
+turn c = read c .before .before
 
 advance-requires : tie.Need-advance-requires Inv-loop μ-loop
 advance-requires c κs =
-    let d = turn (read c) in
-    let l = d .before .loop in
-    let b = begun (d .before .before) in
-    let s = start b in
-    subst₂ (λ (a e : ℤ). Ready (settings s) (b .begin .result .s) (b .begin .result .sb) (b .begin .result .g) (tapsOf (l .forward) (l .back) (push a (l .samples)) (l .symbols) (l .at)) e)
-    (sym (sample-is (read c .before) (lent s))) (sym (entry-is (read c)))
-    (R.ready (settings s) (memory s (lent s)) (block s) (lent s) (s .pre) _ _ _ _ _ _ _ _ _ _ _ (passed d) (more d) _ _ _ _
-    (b .begin .ensures .s) (b .begin .ensures .sb) (g-is b (lent s)) refl)
+    let s = origin (turn c .before) in
+    ready (s .pre) (passed (turn c .before)) (more (turn c)) (given (read c) (lent s) (s .pre))
 
-abbrev turned : tie.After-advance Inv-loop μ-loop → tie.In-loop Inv-loop μ-loop
-turned c = turn (read (c .before))
-
--- what the call promises, by the definitions
-advanced : (c : tie.After-advance Inv-loop μ-loop) (w : List ℤ) (run : let s = origin (turned c) in Runnable (settings s) (memory s w) (block s) w) →
-    let s = origin (turned c) in let l = turned c .before .loop in
-    Passed (settings s) (memory s w) (block s) (l .n) (l .at) (l .forward) (l .back) (l .samples) (l .symbols) (l .y) (l .xi) (l .decision) (l .z) (l .theta) →
-    Advanced-is (settings s) (g (settings s) (memory s w) (block s)) (at (settings s) (memory s w) (block s) (l .n)) (entryAt (settings s) (memory s w) (block s) (l .n))
-    (c .advance .result) (c .advance .last .1 .1 .1 .1 .1 .0) (c .advance .last .1 .1 .1 .1 .1 .1 .0) (c .advance .last .1 .1 .1 .1 .1 .1 .1 .0) (c .advance .last .1 .1 .1 .1 .1 .1 .1 .1 .0)
-advanced c w run p =
-    let s = origin (turned c) in
-    R.taken-at (settings s) (memory s w) (block s) w run _ _ _ _ _ _ _ _ _ _ _ p (more (turned c)) _ _ _ _ _ _ _ _
-    (g-is (begun (turned c .before .before)) w) (sample-is (read (c .before) .before) w) (entry-is (read (c .before))) (c .advance .ensures)
+-- each list is as long as it was lent
+lengths : (c : tie.At-loop Inv-loop μ-loop) → let s = origin c in let l = c .loop in
+    (length (l .forward) ≡ length (s .args .forward .now)) × (length (l .back) ≡ length (s .args .back .now)) × (length (l .samples) ≡ length (lent s)) × (length (l .symbols) ≡ length (s .args .symbols .now))
+lengths c = same-lengths (origin c .pre) (passed c)
 
 same-length : tie.Need-same-length Inv-loop μ-loop
-same-length c =
-    let a = c .before .before .before .before .before in
-    let s = origin (turned a) in
-    a .advance .kept .1 .1 .1 .1 .1 .0 ∙ R.forward-long (settings s) (memory s (lent s)) (block s) (lent s) (s .pre) _ _ _ _ _ _ _ _ _ _ _ (passed (turned a)) ∙ sym (s .pre .sound .forward-long)
+same-length c = let a = c .before .before .before .before .before in a .advance .kept .1 .1 .1 .1 .1 .0 ∙ lengths (turn (a .before) .before) .0
 
 same-length-2 : tie.Need-same-length-2 Inv-loop μ-loop
-same-length-2 c =
-    let a = c .before .before .before .before .before in
-    let s = origin (turned a) in
-    a .advance .kept .1 .1 .1 .1 .1 .1 .0 ∙ R.back-long (settings s) (memory s (lent s)) (block s) (lent s) (s .pre) _ _ _ _ _ _ _ _ _ _ _ (passed (turned a)) ∙ sym (s .pre .sound .back-long)
+same-length-2 c = let a = c .before .before .before .before .before in a .advance .kept .1 .1 .1 .1 .1 .1 .0 ∙ lengths (turn (a .before) .before) .1
 
 same-length-3 : tie.Need-same-length-3 Inv-loop μ-loop
-same-length-3 c =
-    let a = c .before .before .before .before .before in
-    let s = origin (turned a) in
-    a .advance .kept .1 .1 .1 .1 .1 .1 .1 .0 ∙ R.window-long (settings s) (memory s (lent s)) (block s) (lent s) (s .pre) _ _ _ _ _ _ _ _ _ _ _ (passed (turned a))
-    ∙ sym (R.lent-long (settings s) (memory s (lent s)) (block s) (lent s) (s .pre))
+same-length-3 c = let a = c .before .before .before .before .before in a .advance .kept .1 .1 .1 .1 .1 .1 .1 .0 ∙ lengths (turn (a .before) .before) .2
 
 same-length-4 : tie.Need-same-length-4 Inv-loop μ-loop
-same-length-4 c =
-    let a = c .before .before .before .before .before in
-    let s = origin (turned a) in
-    a .advance .kept .1 .1 .1 .1 .1 .1 .1 .1 .0 ∙ R.symbols-long (settings s) (memory s (lent s)) (block s) (lent s) (s .pre) _ _ _ _ _ _ _ _ _ _ _ (passed (turned a)) ∙ sym (s .pre .sound .symbols-long)
+same-length-4 c = let a = c .before .before .before .before .before in a .advance .kept .1 .1 .1 .1 .1 .1 .1 .1 .0 ∙ lengths (turn (a .before) .before) .3
 
 returns : tie.Need-returns Inv-loop μ-loop
 returns c =
     let a = c .before .before .before .before .before in
-    let s = origin (turned a) in
-    let f = R.stopped (settings s) (memory s (lent s)) (block s) (lent s) (s .pre) _ _ _ _ _ _ _ _ _ _ _ (passed (turned a)) (more (turned a))
-    (a .advance .result) _ _ _ _ (advanced a (lent s) (s .pre) (passed (turned a))) (c .if1 .taken) in
-    record { done = sym f; finished = λ e. absurd (subst T (sym e ∙ f) tt) }
+    let t = turn (a .before) in
+    let s = origin (t .before) in
+    stopped (s .pre) (passed (t .before)) (more t) (given (read (a .before)) (lent s) (s .pre)) (a .advance .ensures) (c .if1 .taken) _ refl _ _ _ _
 
 -- the place of the call from the stores
 abbrev called : tie.After-struct-told3 Inv-loop μ-loop → tie.After-advance Inv-loop μ-loop
 called c = c .before .before .before .before .before .before .before .before
 
+abbrev turned : tie.After-struct-told3 Inv-loop μ-loop → tie.In-loop Inv-loop μ-loop
+turned c = turn (called c .before)
+
 mul-y : tie.Need-mul-y Inv-loop μ-loop
-mul-y c = record { fits = omega (arith, room (turned (called c))) }
+mul-y c = place-fits (turned c .before .loop .n) 4 (room (turned c)) (lit< tt)
 
 array-set-from-y : tie.Need-array-set-from-y Inv-loop μ-loop
-array-set-from-y c = omega (arith, room (turned (called c)), passed (turned (called c)) .y-filled .long)
+array-set-from-y c = room (turned c)
 
 array-write-xi : tie.Need-array-write-xi Inv-loop μ-loop
-array-write-xi c = omega (arith, room (turned (called c)), passed (turned (called c)) .xi-filled .long)
+array-write-xi c = room (turned c)
 
 array-set-from-decision : tie.Need-array-set-from-decision Inv-loop μ-loop
-array-set-from-decision c = omega (arith, room (turned (called c)), passed (turned (called c)) .decision-filled .long)
+array-set-from-decision c = room (turned c)
 
 mul-z : tie.Need-mul-z Inv-loop μ-loop
-mul-z c = record { fits = omega (arith, room (turned (called c))) }
+mul-z c = place-fits (turned c .before .loop .n) 4 (room (turned c)) (lit< tt)
 
 array-set-from-z : tie.Need-array-set-from-z Inv-loop μ-loop
-array-set-from-z c = omega (arith, room (turned (called c)), passed (turned (called c)) .z-filled .long)
+array-set-from-z c = room (turned c)
 
 array-write-theta : tie.Need-array-write-theta Inv-loop μ-loop
-array-write-theta c = omega (arith, room (turned (called c)), passed (turned (called c)) .theta-filled .long)
+array-write-theta c = room (turned c)
 
 add-n : tie.Need-add-n Inv-loop μ-loop
-add-n c = record { fits = omega (arith, room (turned (called c))) }
+add-n c = next-fits (turned c .before .loop .n) (room (turned c))
 
 loop-less : tie.Need-loop-less Inv-loop μ-loop
-loop-less c = omega (arith, turned (called c) .loop-test .taken)
+loop-less c = fewer (length (origin (turned c .before) .args .m .now)) (turned c .before .loop .n) (turned c .loop-test .taken)
 
 loop-again : tie.Need-loop-again Inv-loop μ-loop
 loop-again c w run e =
     let a = called c in
-    let t = turned a in
-    let s = origin t in
-    let p = t .before .loop .inv w run e in
     let r = a .advance .result in
-    R.passed-next (settings s) (memory s w) (block s) w run _ _ _ _ _ _ _ _ _ _ _ p (more t) r _ _ _ _ (advanced a w run p) _ _ _
+    passed-next run (turned c .before .loop .inv w run e) (more (turned c)) (given (read (a .before)) w run) (a .advance .ensures)
     (kept w32 (r .y) (omega (arith, c .before .before .struct-told .given)))
     (kept w8 (r .decision) (omega (arith, c .before .struct-told2 .given)))
     (kept w32 (r .z) (omega (arith, c .struct-told3 .given)))
@@ -271,43 +203,23 @@ loop-again c w run e =
 
 -- ---- after the last sample
 
-abbrev first : tie.After-loop Inv-loop μ-loop → tie.Start Inv-loop μ-loop
-first c = start (begun (c .before .before))
-
-all-passed : (c : tie.After-loop Inv-loop μ-loop) → let s = first c in let l = c .before .loop in
-    Passed (settings s) (memory s (lent s)) (block s) (l .n) (l .at) (l .forward) (l .back) (l .samples) (l .symbols) (l .y) (l .xi) (l .decision) (l .z) (l .theta)
-all-passed c = c .before .loop .inv (lent (first c)) (first c .pre) (rescaled (c .before .before))
-
 same-length-5 : tie.Need-same-length-5 Inv-loop μ-loop
-same-length-5 c =
-    let s = first c in
-    R.forward-long (settings s) (memory s (lent s)) (block s) (lent s) (s .pre) _ _ _ _ _ _ _ _ _ _ _ (all-passed c) ∙ sym (s .pre .sound .forward-long)
+same-length-5 c = lengths (c .before) .0
 
 same-length-6 : tie.Need-same-length-6 Inv-loop μ-loop
-same-length-6 c =
-    let s = first c in
-    R.back-long (settings s) (memory s (lent s)) (block s) (lent s) (s .pre) _ _ _ _ _ _ _ _ _ _ _ (all-passed c) ∙ sym (s .pre .sound .back-long)
+same-length-6 c = lengths (c .before) .1
 
 same-length-7 : tie.Need-same-length-7 Inv-loop μ-loop
-same-length-7 c =
-    let s = first c in
-    R.window-long (settings s) (memory s (lent s)) (block s) (lent s) (s .pre) _ _ _ _ _ _ _ _ _ _ _ (all-passed c) ∙ sym (R.lent-long (settings s) (memory s (lent s)) (block s) (lent s) (s .pre))
+same-length-7 c = lengths (c .before) .2
 
 same-length-8 : tie.Need-same-length-8 Inv-loop μ-loop
-same-length-8 c =
-    let s = first c in
-    R.symbols-long (settings s) (memory s (lent s)) (block s) (lent s) (s .pre) _ _ _ _ _ _ _ _ _ _ _ (all-passed c) ∙ sym (s .pre .sound .symbols-long)
+same-length-8 c = lengths (c .before) .3
 
 returns-2 : tie.Need-returns-2 Inv-loop μ-loop
 returns-2 c =
-    let s = first c in
-    let b = begun (c .before .before) in
-    let all : s .args .k .n ≤ c .before .loop .n = omega (arith, c .loop-test .left, s .pre .acceptable .samples-long) in
-    record {
-      done = sym (R.all-go (settings s) (memory s (lent s)) (block s) (lent s) (s .pre) _ _ _ _ _ _ _ _ _ _ _ (all-passed c) all);
-      finished = λ e. R.finished (settings s) (memory s (lent s)) (block s) (lent s) (s .pre) _ _ _ _ _ _ _ _ _ _ _ (all-passed c) all _
-          refl (length-is b (lent s)) (big-is b (lent s)) refl refl refl refl refl;
-    }
+    let s = origin (c .before) in
+    let b = begun (opening (c .before .before)) (lent s) in
+    ran (s .pre) (passed (c .before)) (omega (arith, c .loop-test .left, s .pre .acceptable .samples-long)) (b .b-as) (b .big-as)
 
 pub run-spec : {M : Type 1} → statement M
 run-spec =

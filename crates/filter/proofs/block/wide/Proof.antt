@@ -1,6 +1,5 @@
 -- Eight bits fit sixteen.
-use mathlib.Core.Path.{_≡_}
-use mir.Syntax.{w8, w16}
+use mir.Syntax.{w16}
 use mir.Val.{SFits}
 use mir.Facts.{toZ-ofZ, sfits-widen}
 use Rattle.filter.proofs.block.wide.Statement.{statement}

@@ -28,15 +28,6 @@ settle-requires c κs = search needs
 push-requires : tie.Need-push-requires
 push-requires c κs = search needs
 
-same-length : tie.Need-same-length
-same-length c = search needs
-
-same-length-2 : tie.Need-same-length-2
-same-length-2 c = search needs
-
-same-length-3 : tie.Need-same-length-3
-same-length-3 c = search needs
-
 -- the places of the calls, from the end
 abbrev first : tie.After-learn2 → tie.After-learn
 first c = c .before .before .before .before
@@ -46,6 +37,15 @@ second c = c .before .before .before .before .before .before .before .before .be
 
 abbrev start : tie.After-learn → tie.Start
 start c = c .before .before .before
+
+same-length : tie.Need-same-length
+same-length c = c .before .before .before .before .before .before .settle .kept .0 ∙ first (second c) .learn .kept .0
+
+same-length-2 : tie.Need-same-length-2
+same-length-2 c = c .before .before .before .before .before .before .settle .kept .1 .0 ∙ second c .learn2 .kept .0
+
+same-length-3 : tie.Need-same-length-3
+same-length-3 c = c .before .push .kept .0
 
 error-kept : (c : tie.After-learn) → toZ w32 (ofZ w32 (start c .args .j .z)) ≡ start c .args .j .z
 error-kept c = kept w32 (start c .args .j .z) (omega (arith, c .before .before .struct-told .given))

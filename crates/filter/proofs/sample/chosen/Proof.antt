@@ -1,6 +1,6 @@
 -- By the test of the entry.
-use mathlib.Core.Path.{_≡_, _∙_, ap, sym}
-use lib.IntN.{natAbs, pos}
+use mathlib.Core.Path.{_∙_, ap}
+use lib.IntN.{natAbs}
 use mir.Syntax.{w16}
 use mir.Facts.{toZ-ofZ}
 use borrow.Author.Tests.{eq-eqb, ne-eqb}

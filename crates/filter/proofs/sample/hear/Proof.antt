@@ -1,8 +1,8 @@
 -- Each number is what the call before it promises.
-use mathlib.Core.Path.{_≡_, ap, ap₂, sym, _∙_, subst}
-use Prim.Native.Nat.{ℕ, _+_, _-_, _*_, _^_, _<_}
+use mathlib.Core.Path.{_≡_, ap, ap₂, _∙_}
+use Prim.Native.Nat.{ℕ, _+_, _-_}
 use native.Mathlib.Omega.{arith}
-use lib.IntN.{ℤ, natAbs}
+use lib.IntN.{ℤ}
 use mir.Syntax.{w32}
 use mir.Val.{toZ, ofZ}
 use borrow.Author.Needs.{needs}
@@ -10,8 +10,7 @@ use Rattle.laws.specs.Machine.{kept}
 use Rattle.laws.specs.Sums.{dot}
 use Rattle.numbers.specs.Cut.{raise}
 use Rattle.filter.specs.Sample.{longest}
-use Rattle.filter.specs.Output.{output, outputExponent}
-use Rattle.filter.specs.Sound.{Joinable}
+use Rattle.filter.specs.Output.{output}
 use Rattle.filter.proofs.sample.hear.Statement.{statement}
 use Rattle.filter.proofs.sample.hear.Tie as tie
 

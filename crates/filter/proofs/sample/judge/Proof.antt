@@ -1,6 +1,6 @@
 -- Each number is what the call before it promises.
-use mathlib.Core.Path.{_≡_, ap, ap₂, sym, _∙_}
-use Prim.Native.Nat.{ℕ, _+_, _-_, _*_, _^_, _≤_, _<_}
+use mathlib.Core.Path.{_≡_, ap, ap₂, _∙_}
+use Prim.Native.Nat.{_^_, _<_}
 use native.Mathlib.Omega.{arith}
 use lib.IntN.{ℤ, natAbs}
 use mir.Syntax.{w16, w32, w64}
@@ -11,7 +11,7 @@ use Rattle.laws.specs.Machine.{kept}
 use Rattle.numbers.specs.BitLength.{bitLength}
 use Rattle.numbers.proofs.BitLengthLaws.{bit-length-le}
 use Rattle.filter.specs.Decision.{decide}
-use Rattle.filter.specs.Error.{error, errorExponent}
+use Rattle.filter.specs.Error.{error}
 use Rattle.filter.specs.Calls.{chosen}
 use Rattle.filter.proofs.SampleLaws.{chosen-below, missable}
 use Rattle.filter.proofs.sample.judge.Statement.{statement}

@@ -1,15 +1,12 @@
 -- The four parts of a step, each met by what the part before it promised.
-use mathlib.Core.Path.{_≡_, _∙_}
 use native.Mathlib.Omega.{arith}
-use lib.IntN.{ℤ}
-use mir.Syntax.{w16, w32}
-use mir.Val.{toZ, ofZ}
+use mir.Syntax.{w32}
 use mir.Facts.{toZ-ofZ}
 use borrow.Author.Needs.{needs}
 use Rattle.laws.specs.Machine.{kept}
 use Rattle.filter.specs.Settings.{Settings}
 use Rattle.filter.specs.Sample.{Taps}
-use Rattle.filter.specs.Calls.{Ready, settingsOf, tapsOf}
+use Rattle.filter.specs.Calls.{settingsOf, tapsOf}
 use Rattle.filter.proofs.StepLaws as L
 use Rattle.filter.proofs.sample.step.Statement.{statement}
 use Rattle.filter.proofs.sample.step.Tie as tie

@@ -8,9 +8,10 @@ use mir.Syntax.{w16, w64}
 use mir.Val.{toZ, ofZ}
 use mir.Facts.{toZ-ofZ}
 use borrow.Author.Needs.{needs, sfits-of}
+use Rattle.laws.specs.Lists.{Written, written-none, written-read, written-next, written-all}
 use Rattle.laws.specs.Machine.{kept}
 use Rattle.filter.specs.Side.{adapt}
-use Rattle.filter.proofs.SideLaws.{Written, written-none, written-read, written-next, written-all, adapt-length, adapt-at, adapt-room}
+use Rattle.filter.proofs.SideLaws.{adapt-length, adapt-at, adapt-room}
 use Rattle.filter.proofs.side.adapt.Statement.{statement}
 use Rattle.filter.proofs.side.adapt.Tie as tie
 
@@ -21,7 +22,7 @@ abbrev μ-loop : tie.MeasureT-loop
 μ-loop w₀ a k i₀ w i = length w₀ - i
 
 loop-holds : tie.Need-loop-holds Inv-loop μ-loop
-loop-holds c = written-none _ _ (adapt-length _ _ _)
+loop-holds c = written-none _ _
 
 mul-adapted : tie.Need-mul-adapted Inv-loop μ-loop
 mul-adapted c = search needs
@@ -40,7 +41,7 @@ weight : (c : tie.After-adapted-arg Inv-loop μ-loop) →
     toZ w16 (ofZ w16 (getD (l .w) (l .i) (pos 0))) ≡ getD (c .before .before .before .args .w .now) (l .i) (pos 0)
 weight c =
     let l = c .before .before .loop in
-    kept w16 (getD (l .w) (l .i) (pos 0)) (c .adapted-arg .given) ∙ written-read (l .inv)
+    kept w16 (getD (l .w) (l .i) (pos 0)) (c .adapted-arg .given) ∙ written-read (l .inv) (pos 0)
 
 datum : (c : tie.After-adapted-arg2 Inv-loop μ-loop) →
     let x = getD (c .before .before .before .before .args .a .now) (c .before .before .before .loop .i) (pos 0) in
@@ -70,17 +71,17 @@ loop-again : tie.Need-loop-again Inv-loop μ-loop
 loop-again c =
     let s = c .before .before .before .before .before .args in
     let l = c .before .before .before .before .loop in
-    written-next (l .inv) (toZ w16 (ofZ w16 (c .adapted .result))) (c .before .before .before .loop-test .taken)
+    written-next (l .inv) (pos 0) (toZ w16 (ofZ w16 (c .adapted .result))) (rw adapt-length (omega arith)) (omega arith)
     (kept w16 (c .adapted .result) (c .adapted .ok) ∙ c .adapted .ensures
     ∙ simp (weight (c .before .before), datum (c .before))
     (sym (adapt-at (toZ w64 (ofZ w64 (s .k))) (s .w .now) (s .a .now) (l .i) (omega arith) (omega arith))))
 
 same-length : tie.Need-same-length Inv-loop μ-loop
-same-length c = c .before .loop .inv .now-long
+same-length c = c .before .loop .inv .long
 
 returns : tie.Need-returns Inv-loop μ-loop
 returns c =
-    written-all (c .before .loop .inv) (c .loop-test .left)
+    written-all (c .before .loop .inv) (adapt-length _ (c .before .before .args .w .now) _) (omega arith)
     ∙ ap (λ (z : ℤ). adapt z (c .before .before .args .w .now) (c .before .before .args .a .now)) (toZ-ofZ (c .before .before .fits .k))
 
 pub adapt-spec : {M : Type 1} → statement M

@@ -12,8 +12,8 @@ use mir.Facts.{toZ-ofZ}
 use borrow.Author.Needs.{needs, sfits-of}
 use Rattle.laws.specs.Lists.{all-pass, all-fail, all-end}
 use Rattle.laws.specs.Machine.{le-tested, le-refuted}
-use Rattle.filter.specs.Side.{allSmall}
-use Rattle.filter.proofs.SideLaws.{low-large, high-large, between-small, isSmall}
+use Rattle.filter.specs.Side.{isSmall, allSmall}
+use Rattle.filter.proofs.SideLaws.{low-large, high-large, between-small}
 use Rattle.filter.proofs.side.all_small.Statement.{statement}
 use Rattle.filter.proofs.side.all_small.Tie as tie
 

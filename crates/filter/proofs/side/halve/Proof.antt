@@ -9,9 +9,10 @@ use mir.Syntax.{w16}
 use mir.Val.{SFits}
 use mir.Facts.{toZ-ofZ}
 use borrow.Author.Needs.{needs, sfits-of}
+use Rattle.laws.specs.Lists.{Written, written-none, written-read, written-next, written-all}
 use Rattle.numbers.specs.Cut.{cut}
 use Rattle.filter.specs.Side.{halved}
-use Rattle.filter.proofs.SideLaws.{Written, written-none, written-read, written-next, written-all, half, half-fits, halved-at}
+use Rattle.filter.proofs.SideLaws.{half, half-fits, halved-at}
 use Rattle.filter.proofs.side.halve.Statement.{statement}
 use Rattle.filter.proofs.side.halve.Tie as tie
 
@@ -22,7 +23,7 @@ abbrev μ-loop : tie.MeasureT-loop
 μ-loop w₀ i₀ w i = length w₀ - i
 
 loop-holds : tie.Need-loop-holds Inv-loop μ-loop
-loop-holds c = written-none _ _ (length-map (c .args .w .now) (λ (x : ℤ). cut x 1))
+loop-holds c = written-none _ _
 
 mul-w : tie.Need-mul-w Inv-loop μ-loop
 mul-w c = search needs
@@ -53,15 +54,15 @@ loop-again : tie.Need-loop-again Inv-loop μ-loop
 loop-again c =
     let s = c .before .before .before .args in
     let l = c .before .before .loop in
-    written-next (l .inv) _ (c .before .loop-test .taken)
+    written-next (l .inv) (pos 0) _ (rw length-map (omega arith)) (omega arith)
     (simp (toZ-ofZ (element c), toZ-ofZ (half-fits (getD (l .w) (l .i) (pos 0)) (element c)))
-    (half (getD (l .w) (l .i) (pos 0)) ∙ ap (λ (z : ℤ). cut z 1) (written-read (l .inv)) ∙ sym (halved-at (s .w .now) (l .i))))
+    (half (getD (l .w) (l .i) (pos 0)) ∙ ap (λ (z : ℤ). cut z 1) (written-read (l .inv) (pos 0)) ∙ sym (halved-at (s .w .now) (l .i))))
 
 same-length : tie.Need-same-length Inv-loop μ-loop
-same-length c = c .before .loop .inv .now-long
+same-length c = c .before .loop .inv .long
 
 returns : tie.Need-returns Inv-loop μ-loop
-returns c = written-all (c .before .loop .inv) (c .loop-test .left)
+returns c = written-all (c .before .loop .inv) (length-map (c .before .before .args .w .now) _) (omega arith)
 
 pub halve-spec : {M : Type 1} → statement M
 halve-spec =

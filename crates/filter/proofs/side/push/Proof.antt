@@ -5,14 +5,14 @@ use Prim.Native.Nat.{ℕ, _-_}
 use native.Mathlib.Omega.{arith}
 use native.Mathlib.Numerals.{add-one}
 use lib.ListN.{length, getD}
-use lib.Seq.{getD-take}
 use lib.IntN.{ℤ, pos}
 use mir.Syntax.{w16}
 use mir.Val.{toZ, ofZ}
 use mir.Facts.{toZ-ofZ}
 use borrow.Author.Needs.{needs, sfits-of}
+use Rattle.laws.specs.Lists.{Written, written-none, written-read, written-next, written-all}
 use Rattle.filter.specs.Side.{push}
-use Rattle.filter.proofs.SideLaws.{Written, written-none, written-read, written-next, written-all, push-length}
+use Rattle.filter.proofs.SideLaws.{push-length, push-at}
 use Rattle.filter.proofs.side.push.Statement.{statement}
 use Rattle.filter.proofs.side.push.Tie as tie
 
@@ -23,7 +23,7 @@ abbrev μ-loop : tie.MeasureT-loop
 μ-loop xs₀ x carried₀ i₀ xs carried i = length xs₀ - i
 
 loop-holds : tie.Need-loop-holds Inv-loop μ-loop
-loop-holds c = (written-none _ _ (push-length (toZ w16 (ofZ w16 (c .args .x))) (c .args .xs .now)), refl)
+loop-holds c = (written-none _ _, refl)
 
 mul-was : tie.Need-mul-was Inv-loop μ-loop
 mul-was c = search needs
@@ -48,16 +48,16 @@ loop-again c =
     let s = c .before .before .before .args in
     let x = toZ w16 (ofZ w16 (s .x)) in
     let l = c .before .before .loop in (
-      written-next (l .inv .0) (toZ w16 (l .carried)) (c .before .loop-test .taken) (l .inv .1 ∙ sym (getD-take (length (s .xs .now)) (x ∷ s .xs .now) (l .i) (pos 0) (omega arith))),
-      toZ-ofZ (sfits-of (c .was .given)) ∙ written-read (l .inv .0) ∙ ap (λ (j : ℕ). getD (x ∷ s .xs .now) j (pos 0)) (sym (add-one (l .i))),
+      written-next (l .inv .0) (pos 0) (toZ w16 (l .carried)) (rw push-length (omega arith)) (omega arith) (l .inv .1 ∙ sym (push-at x (s .xs .now) (l .i) (omega arith))),
+      toZ-ofZ (sfits-of (c .was .given)) ∙ written-read (l .inv .0) (pos 0) ∙ ap (λ (j : ℕ). getD (x ∷ s .xs .now) j (pos 0)) (sym (add-one (l .i))),
     )
 
 same-length : tie.Need-same-length Inv-loop μ-loop
-same-length c = c .before .loop .inv .0 .now-long
+same-length c = c .before .loop .inv .0 .long
 
 returns : tie.Need-returns Inv-loop μ-loop
 returns c =
-    written-all (c .before .loop .inv .0) (c .loop-test .left)
+    written-all (c .before .loop .inv .0) (push-length _ (c .before .before .args .xs .now)) (omega arith)
     ∙ ap (λ (z : ℤ). push z (c .before .before .args .xs .now)) (toZ-ofZ (c .before .before .fits .x))
 
 pub push-spec : {M : Type 1} → statement M

@@ -11,7 +11,7 @@ use Rattle.laws.specs.Machine.{kept}
 use Rattle.filter.specs.Side.{largest, magnitudes}
 use Rattle.filter.specs.Block.{receivedAll}
 use Rattle.filter.proofs.LargestLaws.{largest-none, largest-rises, largest-stays, largest-end}
-use Rattle.filter.proofs.StoredLaws.{received-length}
+use Rattle.filter.proofs.ReceivedLaws.{received-length}
 use Rattle.filter.proofs.stored.loudest.Statement.{statement}
 use Rattle.filter.proofs.stored.loudest.Tie as tie
 

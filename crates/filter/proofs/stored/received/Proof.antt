@@ -1,11 +1,12 @@
 -- The sample, widened, times a power of two of at most 2^15.
 use mathlib.Core.Path.{_∙_}
 use native.Mathlib.Omega.{arith}
+use lib.IntN.{natAbs}
 use mir.Syntax.{w64}
 use mir.Facts.{toZ-ofZ, sfits-widen}
 use borrow.Author.Needs.{needs}
 use Rattle.laws.specs.Machine.{kept, abs-fits}
-use Rattle.filter.proofs.StoredLaws.{received-most}
+use Rattle.filter.proofs.ReceivedLaws.{received-most}
 use Rattle.filter.proofs.stored.received.Statement.{statement}
 use Rattle.filter.proofs.stored.received.Tie as tie
 
@@ -18,7 +19,7 @@ sub-raise c = search needs
 raise-requires : tie.Need-raise-requires
 raise-requires c κs =
     simp (toZ-ofZ (c .fits .m), toZ-ofZ {w = w64} (sfits-widen tt (c .fits .m)))
-    (omega (arith, received-most (c .args .m) (c .args .g) (abs-fits (c .fits .m))))
+    (omega (arith, received-most 0 (c .args .g) (natAbs (c .args .m)) (omega arith) (omega arith) (abs-fits (c .fits .m))))
 
 returns : tie.Need-returns
 returns c =

@@ -9,7 +9,7 @@ use borrow.Author.Needs.{needs}
 use Rattle.laws.specs.Machine.{kept}
 use Rattle.laws.specs.Sums.{each-at}
 use Rattle.filter.specs.Block.{received}
-use Rattle.filter.proofs.StoredLaws.{received-at}
+use Rattle.filter.proofs.ReceivedLaws.{received-at}
 use Rattle.filter.proofs.stored.received_at.Statement.{statement}
 use Rattle.filter.proofs.stored.received_at.Tie as tie
 

@@ -9,22 +9,22 @@ use mir.Syntax.{w16, w64}
 use mir.Val.{SFits, toZ, ofZ}
 use mir.Facts.{toZ-ofZ, sfits-widen}
 use borrow.Author.Needs.{needs, sfits-of}
+use Rattle.laws.specs.Lists.{Written, written-none, written-read, written-next, written-all}
 use Rattle.laws.specs.Machine.{kept}
 use Rattle.laws.specs.Sums.{each-at}
 use Rattle.numbers.specs.Cut.{rescale}
 use Rattle.filter.specs.Sound.{Storable}
-use Rattle.filter.proofs.StoredLaws.{Replaced, replaced-none, replaced-next, replaced-at, replaced-all}
 use Rattle.filter.proofs.stored.rescale_all.Statement.{statement}
 use Rattle.filter.proofs.stored.rescale_all.Tie as tie
 
 abbrev Inv-loop : tie.InvT-loop
-Inv-loop xs₀ i j n₀ xs n = Replaced (map (λ (a : ℤ). rescale a i j) xs₀) xs₀ xs n
+Inv-loop xs₀ i j n₀ xs n = Written (map (λ (a : ℤ). rescale a i j) xs₀) xs₀ n xs
 
 abbrev μ-loop : tie.MeasureT-loop
 μ-loop xs₀ i j n₀ xs n = length xs₀ - n
 
 loop-holds : tie.Need-loop-holds Inv-loop μ-loop
-loop-holds c = replaced-none _ _
+loop-holds c = written-none _ _
 
 mul-restored : tie.Need-mul-restored Inv-loop μ-loop
 mul-restored c = omega arith
@@ -41,7 +41,7 @@ sample : (c : tie.After-restored-arg Inv-loop μ-loop) →
     ≡ getD (c .before .before .before .args .xs .now) (c .before .before .loop .n) (pos 0)
 sample c =
     simp (toZ-ofZ (held c), toZ-ofZ {w = w64} (sfits-widen tt (held c)))
-    (replaced-at _ _ _ (c .before .before .loop .n) (pos 0) (c .before .before .loop .inv))
+    (written-read (c .before .before .loop .inv) (pos 0))
 
 cast-restored : tie.Need-cast-restored Inv-loop μ-loop
 cast-restored c = simp (toZ-ofZ (held c)) (sfits-widen tt (held c))
@@ -67,7 +67,7 @@ loop-again : tie.Need-loop-again Inv-loop μ-loop
 loop-again c =
     let a = c .before .before .before .before .args in
     let l = c .before .before .before .loop in
-    replaced-next _ _ (l .xs) (l .n) (rescale (pos 0) (a .i) (a .j)) _ (l .inv) (rw length-map (omega arith)) (omega arith)
+    written-next (l .inv) (rescale (pos 0) (a .i) (a .j)) _ (rw length-map (omega arith)) (omega arith)
     (kept w16 (c .restored .result) (c .restored .ok) ∙ c .restored .ensures ∙ ap (λ (x : ℤ). rescale x (a .i) (a .j)) (sample (c .before))
     ∙ sym (List·getD-map (λ (x : ℤ). rescale x (a .i) (a .j)) (a .xs .now) (l .n) (pos 0)))
 
@@ -75,7 +75,7 @@ same-length : tie.Need-same-length Inv-loop μ-loop
 same-length c = c .before .loop .inv .long
 
 returns : tie.Need-returns Inv-loop μ-loop
-returns c = replaced-all _ _ _ (c .before .loop .n) (c .before .loop .inv) (length-map (c .before .before .args .xs .now) _) (omega arith)
+returns c = written-all (c .before .loop .inv) (length-map (c .before .before .args .xs .now) _) (omega arith)
 
 pub rescale-all-spec : {M : Type 1} → statement M
 rescale-all-spec =

@@ -7,17 +7,18 @@ use lib.ListN.{length, getD, length-map, List·getD-map}
 use lib.IntN.{ℤ, pos}
 use mir.Syntax.{w16, w64}
 use mir.Val.{toZ, ofZ}
+use Rattle.laws.specs.Lists.{Written, written-none, written-next, written-front}
 use Rattle.laws.specs.Machine.{kept}
 use Rattle.laws.specs.Sums.{each-at}
 use Rattle.numbers.specs.Cut.{rescale}
 use Rattle.filter.specs.Block.{receivedAll}
 use Rattle.filter.specs.Sound.{Storable}
-use Rattle.filter.proofs.StoredLaws.{received-length, Replaced, replaced-none, replaced-next, replaced-front}
+use Rattle.filter.proofs.ReceivedLaws.{received-length}
 use Rattle.filter.proofs.stored.store.Statement.{statement}
 use Rattle.filter.proofs.stored.store.Tie as tie
 
 abbrev Inv-loop : tie.InvT-loop
-Inv-loop m gains places out₀ i₀ out i = Replaced (map (λ (x : ℤ). rescale x 15 places) (receivedAll m gains)) out₀ out i
+Inv-loop m gains places out₀ i₀ out i = Written (map (λ (x : ℤ). rescale x 15 places) (receivedAll m gains)) out₀ i out
 
 abbrev μ-loop : tie.MeasureT-loop
 μ-loop m gains places out₀ i₀ out i = length m - i
@@ -32,7 +33,7 @@ stored-long : (s : tie.Start Inv-loop μ-loop) → length (map (λ (x : ℤ). re
 stored-long s = length-map (samples s) (λ (x : ℤ). rescale x 15 (s .args .places)) ∙ samples-long s
 
 loop-holds : tie.Need-loop-holds Inv-loop μ-loop
-loop-holds c = replaced-none _ _
+loop-holds c = written-none _ _
 
 received-at-requires : tie.Need-received-at-requires Inv-loop μ-loop
 received-at-requires c κs = (c .before .before .before .pre .0, c .loop-test .taken)
@@ -63,13 +64,13 @@ loop-again : tie.Need-loop-again Inv-loop μ-loop
 loop-again c =
     let s = c .before .before .before .before .before in
     let l = c .before .before .before .loop in
-    replaced-next _ _ (l .out) (l .i) (rescale (pos 0) 15 (s .args .places)) _ (l .inv) (rw (stored-long s) (omega arith)) (omega arith)
+    written-next (l .inv) (rescale (pos 0) 15 (s .args .places)) _ (rw (stored-long s) (omega arith)) (omega arith)
     (kept w16 (c .restored .result) (c .restored .ok) ∙ c .restored .ensures ∙ ap (λ (x : ℤ). rescale x 15 (s .args .places)) (sample (c .before))
     ∙ sym (List·getD-map (λ (x : ℤ). rescale x 15 (s .args .places)) (samples s) (l .i) (pos 0)))
 
 returns : tie.Need-returns Inv-loop μ-loop
 returns c =
-    replaced-front _ _ _ (c .before .loop .i) _ (c .before .loop .inv) (sym (stored-long (c .before .before .before))) (omega arith) (omega arith)
+    written-front (c .before .loop .inv) _ (sym (stored-long (c .before .before .before))) (omega arith) (omega arith)
 
 pub store-spec : {M : Type 1} → statement M
 store-spec =

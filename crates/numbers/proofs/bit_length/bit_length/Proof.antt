@@ -1,7 +1,6 @@
 -- The leading zeros and the digits make up the width.
 use native.Mathlib.Omega.{arith}
 use lib.Count.{leading-le}
-use borrow.Author.Needs.{needs}
 use Rattle.numbers.proofs.BitLengthLaws.{bit-length-leading}
 use Rattle.numbers.proofs.bit_length.bit_length.Statement.{statement}
 use Rattle.numbers.proofs.bit_length.bit_length.Tie as tie

@@ -1,14 +1,13 @@
 -- A negative number is turned by −1 − z, which fits even at the lowest, and 1 is added without a sign.
-use mathlib.Core.Path.{_≡_, sym, ap, _∙_}
+use mathlib.Core.Path.{_≡_}
 use Prim.Native.Nat.{_+_, _^_, _<_}
 use native.Mathlib.Omega.{arith}
 use lib.IntN.{pos, negsuc, natAbs, _-ℤ_}
-use lib.Signed.{_≤ℤ_, _<ℤ_, mag, yes-nonNeg}
+use lib.Signed.{_≤ℤ_, mag, yes-nonNeg}
 use mir.Syntax.{w64}
-use mir.Val.{toZ, ofZ}
 use mir.Facts.{toZ-ofZ, toZ-pos, fits-natAbs}
 use borrow.Author.Needs.{needs}
-use Rattle.laws.specs.Machine.{complement, le-tested, le-refuted, abs-fits}
+use Rattle.laws.specs.Machine.{complement, le-tested, le-refuted}
 use Rattle.numbers.proofs.bit_length.magnitude.Statement.{statement}
 use Rattle.numbers.proofs.bit_length.magnitude.Tie as tie
 

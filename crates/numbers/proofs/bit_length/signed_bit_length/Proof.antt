@@ -1,6 +1,5 @@
 -- The bit length of the magnitude.
-use mathlib.Core.Path.{_≡_, ap, _∙_}
-use lib.IntN.{natAbs}
+use mathlib.Core.Path.{ap, _∙_}
 use mir.Facts.{toZ-ofZ}
 use borrow.Author.Needs.{needs}
 use Rattle.numbers.specs.BitLength.{bitLength}

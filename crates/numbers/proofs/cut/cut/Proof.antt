@@ -1,7 +1,6 @@
 -- A k below 64 is a shift's; at 64 and more the magnitude is below 2^k.
-use mathlib.Core.Path.{_≡_, sym, _∙_}
+use mathlib.Core.Path.{sym, _∙_}
 use native.Mathlib.Omega.{arith}
-use mir.Syntax.{w64}
 use mir.Facts.{toZ-ofZ}
 use borrow.Author.Needs.{needs, sfits-of}
 use Rattle.laws.specs.Machine.{abs-fits}

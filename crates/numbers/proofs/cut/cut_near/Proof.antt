@@ -12,8 +12,6 @@ use Rattle.laws.specs.Powers.{positive, rises}
 use Rattle.numbers.proofs.CutLaws.{shift-whole, shift-negative}
 use Rattle.numbers.proofs.cut.cut_near.Statement.{statement}
 use Rattle.numbers.proofs.cut.cut_near.Tie as tie
-use Rattle.numbers.proofs.cut.cut_near.Reads as reads
-use Rattle.numbers.proofs.cut.cut_near.Lts as lts
 
 cast-result : tie.Need-cast-result
 cast-result c = search needs

@@ -2,7 +2,6 @@
 use mathlib.Core.Path.{_≡_, ap, _∙_}
 use Prim.Native.Nat.{_*_, _-_, _%_, _^_, _<_, ℕ}
 use native.Mathlib.Omega.{arith}
-use native.Mathlib.Nat.{le-pred-of-lt}
 use lib.IntN.{pos}
 use mir.Syntax.{w64}
 use mir.Facts.{toZ-pos}

@@ -1,5 +1,5 @@
 -- The rule at each entry, from one test over the whole table.
-use mathlib.Core.Path.{_≡_, refl}
+use mathlib.Core.Path.{refl}
 use mathlib.Core.List.{[], _∷_}
 use borrow.Author.Needs.{needs}
 use Rattle.numbers.proofs.ScaleCountLaws.{table-entry}

@@ -6,18 +6,18 @@ use lib.IntN.{pos}
 use mir.Syntax.{w32}
 use borrow.Author.Needs.{needs}
 use Rattle.laws.specs.Machine.{kept}
-use Rattle.filter.proofs.StoredLaws.{Replaced, replaced-none, replaced-next, replaced-all}
+use Rattle.laws.specs.Lists.{Written, written-none, written-next, written-all}
 use Rattle.station.proofs.copies.copy32.Statement.{statement}
 use Rattle.station.proofs.copies.copy32.Tie as tie
 
 abbrev Inv-loop : tie.InvT-loop
-Inv-loop src dst₀ i₀ dst i = Replaced src dst₀ dst i
+Inv-loop src dst₀ i₀ dst i = Written src dst₀ i dst
 
 abbrev μ-loop : tie.MeasureT-loop
 μ-loop src dst₀ i₀ dst i = length src - i
 
 loop-holds : tie.Need-loop-holds Inv-loop μ-loop
-loop-holds c = replaced-none _ _
+loop-holds c = written-none _ _
 
 mul-dst : tie.Need-mul-dst Inv-loop μ-loop
 mul-dst c = omega arith
@@ -41,13 +41,13 @@ loop-again : tie.Need-loop-again Inv-loop μ-loop
 loop-again c =
     let l = c .before .before .loop in
     let a = c .before .before .before .args in
-    replaced-next _ _ (l .dst) (l .i) (pos 0) _ (l .inv) (omega arith) (omega arith) (kept w32 (getD (a .src .now) (l .i) (pos 0)) (c .dst .given))
+    written-next (l .inv) (pos 0) _ (omega arith) (omega arith) (kept w32 (getD (a .src .now) (l .i) (pos 0)) (c .dst .given))
 
 same-length : tie.Need-same-length Inv-loop μ-loop
 same-length c = c .before .loop .inv .long
 
 returns : tie.Need-returns Inv-loop μ-loop
-returns c = replaced-all _ _ _ (c .before .loop .i) (c .before .loop .inv) (c .before .before .pre) (omega arith)
+returns c = written-all (c .before .loop .inv) (c .before .before .pre) (omega arith)
 
 pub copy32-spec : {M : Type 1} → statement M
 copy32-spec =

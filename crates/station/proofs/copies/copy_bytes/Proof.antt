@@ -4,18 +4,18 @@ use Prim.Native.Nat.{_-_}
 use native.Mathlib.Omega.{arith}
 use lib.ListN.{length}
 use borrow.Author.Needs.{needs}
-use Rattle.filter.proofs.StoredLaws.{Replaced, replaced-none, replaced-next, replaced-all}
+use Rattle.laws.specs.Lists.{Written, written-none, written-next, written-all}
 use Rattle.station.proofs.copies.copy_bytes.Statement.{statement}
 use Rattle.station.proofs.copies.copy_bytes.Tie as tie
 
 abbrev Inv-loop : tie.InvT-loop
-Inv-loop src dst₀ i₀ dst i = Replaced src dst₀ dst i
+Inv-loop src dst₀ i₀ dst i = Written src dst₀ i dst
 
 abbrev μ-loop : tie.MeasureT-loop
 μ-loop src dst₀ i₀ dst i = length src - i
 
 loop-holds : tie.Need-loop-holds Inv-loop μ-loop
-loop-holds c = replaced-none _ _
+loop-holds c = written-none _ _
 
 shared-slice-read-dst : tie.Need-shared-slice-read-dst Inv-loop μ-loop
 shared-slice-read-dst c = omega arith
@@ -30,13 +30,13 @@ loop-less : tie.Need-loop-less Inv-loop μ-loop
 loop-less c = omega arith
 
 loop-again : tie.Need-loop-again Inv-loop μ-loop
-loop-again c = replaced-next _ _ _ (c .before .before .loop .i) 0 _ (c .before .before .loop .inv) (omega arith) (omega arith) refl
+loop-again c = written-next (c .before .before .loop .inv) 0 _ (omega arith) (omega arith) refl
 
 same-length : tie.Need-same-length Inv-loop μ-loop
 same-length c = c .before .loop .inv .long
 
 returns : tie.Need-returns Inv-loop μ-loop
-returns c = replaced-all _ _ _ (c .before .loop .i) (c .before .loop .inv) (c .before .before .pre) (omega arith)
+returns c = written-all (c .before .loop .inv) (c .before .before .pre) (omega arith)
 
 pub copy-bytes-spec : {M : Type 1} → statement M
 copy-bytes-spec =
