@@ -9,3 +9,4 @@ pub mod CopyLaws
 pub mod CheckLaws
 pub mod RunLaws
 pub mod AnswerLaws
+pub mod StarredCases

@@ -1,0 +1,81 @@
+-- Document 01's starred cases: a table of what the definitions give and what document 01 says.
+use mathlib.Core.Path.{_≡_, refl}
+use mathlib.Core.List.{List, [], _∷_, _++_, map}
+use Prim.Native.Nat.{ℕ, _-_}
+use lib.IntN.{ℤ, pos, negsuc}
+use Rattle.laws.specs.Sums.{dot}
+use Rattle.numbers.specs.ScaleCount.{scaleCount}
+use Rattle.numbers.specs.BitLength.{bitLength}
+use Rattle.numbers.specs.Cut.{cut}
+use Rattle.filter.specs.Settings.{Settings, stepBound}
+use Rattle.filter.specs.Side.{largest, adapt, allSmall}
+use Rattle.filter.specs.Output.{output, outputExponent}
+use Rattle.filter.specs.Decision.{decide}
+use Rattle.filter.specs.Error.{error, errorExponent}
+use Rattle.filter.specs.Sample.{longest, settled, ν, F, H, Y, ξ, decision, v, κ, Z, θ, J, newForward, newBack, small, next}
+use Rattle.filter.specs.Block.{Block, Memory, receivedAll, newb, newB, g, stored, old, start, after, at, left}
+use Rattle.station.specs.Sizes.{settingsNumber, given}
+use Rattle.station.specs.State.{memory, fresh}
+
+pub record Case : Type 0 where
+  pub gives : List ℤ
+  pub says : List ℤ
+
+-- ---- blocks of one sample
+
+smallest : Settings
+smallest = given 1 1 1 0 0 67108864
+
+one : ℤ → ℤ → Block
+one m entry = record { samples = m ∷ []; gains = 0 ∷ []; entries = entry ∷ [] }
+
+begun : Memory
+begun = memory (fresh smallest)
+
+-- all definitions, opened
+steps : Unit {0}
+unfolding scaleCount bitLength cut dot largest adapt longest output outputExponent decide error errorExponent ν F H Y ξ decision v κ Z θ J newForward newBack small next receivedAll newb newB g stored old start after at left settingsNumber fresh smallest one begun
+steps = tt
+
+trained : Memory
+unfolding steps
+trained = left smallest begun (one (pos 16384) (pos 1))
+
+decided : Memory
+unfolding steps trained
+decided = left smallest trained (one (pos 16384) (pos 0))
+
+weights : Memory → List ℤ
+weights o = o .forward ++ o .back
+
+-- step 7 on new weights
+kept : List ℤ → List ℤ
+kept w = settled (allSmall w) w
+
+answers : ℕ → ℕ → ℕ → ℕ → ℕ → List ℤ
+answers p N r L M = pos (settingsNumber (given p p N r L M)) ∷ []
+
+-- ---- the table
+
+pub cases : List Case
+unfolding steps
+cases =
+    record { gives = answers 1 1 0 0 67108864; says = pos 0 ∷ [] }
+    ∷ record { gives = answers 1 1 0 0 67108865; says = pos 2 ∷ [] }
+    ∷ record { gives = pos (stepBound (given 3 3 2 2 1 0)) ∷ []; says = pos 832 ∷ [] }
+    ∷ record { gives = answers 3 2 2 1 2581110; says = pos 0 ∷ [] }
+    ∷ record { gives = answers 3 2 2 1 2581111; says = pos 2 ∷ [] }
+    ∷ record { gives = pos (newb smallest begun (one (negsuc 32767) (pos 0))) ∷ []; says = pos 31 ∷ [] }
+    ∷ record { gives = stored smallest begun (one (negsuc 32767) (pos 0)); says = negsuc 8191 ∷ [] }
+    ∷ record { gives = pos (g smallest begun (one (negsuc 32767) (pos 0)) - 30) ∷ []; says = pos 2 ∷ [] }
+    ∷ record { gives = cut (negsuc 2) 1 ∷ []; says = negsuc 0 ∷ [] }
+    ∷ record { gives = decide 1 (pos 268435456) 3 ∷ decide 1 (negsuc 268435455) 3 ∷ []; says = pos 3 ∷ negsuc 0 ∷ [] }
+    ∷ record { gives = kept (pos 16383 ∷ negsuc 2 ∷ []); says = pos 16383 ∷ negsuc 2 ∷ [] }
+    ∷ record { gives = kept (pos 16384 ∷ negsuc 2 ∷ []); says = pos 8192 ∷ negsuc 0 ∷ [] }
+    ∷ record { gives = kept (negsuc 16384 ∷ []); says = negsuc 8191 ∷ [] }
+    ∷ record { gives = weights trained; says = pos 1024 ∷ pos 0 ∷ [] }
+    ∷ record { gives = weights decided; says = pos 2032 ∷ pos 2016 ∷ [] } ∷ []
+
+pub starred : map (λ (c : Case). c .gives) cases ≡ map (λ (c : Case). c .says) cases
+unfolding cases steps trained decided weights kept answers
+starred = refl
