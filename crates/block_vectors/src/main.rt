@@ -17,6 +17,7 @@ fn read_rest(fd: i32, buf: &mut [u8]) -> usize {
     end
 }
 
+// The next vector. It has to be the same, and with its last byte changed it must not be.
 fn next(fd: i32, buf: &mut [u8]) -> Turn {
     let got = read_piece(fd, buf, 0, LISTS);
     if got == 0 {
@@ -30,10 +31,16 @@ fn next(fd: i32, buf: &mut [u8]) -> Turn {
         return Turn::Other;
     }
     let step = vectors::block::block_vector(&buf[0..end]);
-    if step.size != end {
+    if step.size != end || !step.same {
         return Turn::Other;
     }
-    if step.same { Turn::Same } else { Turn::Other }
+    vector_files::change_last(buf, end);
+    let changed = vectors::block::block_vector(&buf[0..end]);
+    if changed.same {
+        Turn::Other
+    } else {
+        Turn::Same
+    }
 }
 
 // Runs the next vector, and answers whether to go on. Where there is no next one or it differs, it says so.

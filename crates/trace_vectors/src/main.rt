@@ -16,6 +16,7 @@ fn read_rest(fd: i32, buf: &mut [u8]) -> usize {
     end
 }
 
+// The next vector. It has to be the same, and with its last byte changed it must not be.
 fn next(fd: i32, buf: &mut [u8], out: &mut [u8]) -> Turn {
     let got = read_piece(fd, buf, 0, 4);
     if got == 0 {
@@ -29,10 +30,16 @@ fn next(fd: i32, buf: &mut [u8], out: &mut [u8]) -> Turn {
         return Turn::Other;
     }
     let step = vectors::trace::trace_vector(&buf[0..end], out);
-    if step.size != end {
+    if step.size != end || !step.same {
         return Turn::Other;
     }
-    if step.same { Turn::Same } else { Turn::Other }
+    vector_files::change_last(buf, end);
+    let changed = vectors::trace::trace_vector(&buf[0..end], out);
+    if changed.same {
+        Turn::Other
+    } else {
+        Turn::Same
+    }
 }
 
 // Runs the next vector, and answers whether to go on. Where there is no next one or it differs, it says so.

@@ -1,6 +1,7 @@
 // A file of vectors read a piece at a time, and the line that says how the vectors went.
 ghost use mathlib.Core.Path.{_≡_};
 ghost use lib.ListN.{length};
+ghost use Rattle.vector_files.specs.Changed.{changed};
 use libc::STDOUT_FILENO;
 
 // How a vector went: the file had none any more, the product gave what is expected, or it did not.
@@ -34,6 +35,20 @@ pub fn read_whole(fd: i32, buf: &mut [u8], from: usize, to: usize) -> bool {
         return false;
     }
     read_piece(fd, buf, from, to) == to - from
+}
+
+// Another last byte in a vector of this size, so that it is to be told apart from what is expected.
+pub fn change_last(buf: &mut [u8], size: usize)
+    ensures { λ r. ⌜ now (buf .exit) ≡ changed (now (buf .entry)) size ⌝ }
+{
+    if size < 1 {
+        return;
+    }
+    if buf.len() < size {
+        return;
+    }
+    let last = size - 1;
+    buf[last] = 255 - buf[last];
 }
 
 pub fn say_same(count: u64, kinds: &[u8]) {
