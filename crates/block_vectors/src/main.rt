@@ -2,15 +2,15 @@
 use vector_files::Turn;
 use vector_files::read_piece;
 use vector_files::read_whole;
-use vectors::block::LISTS;
+use vectors::blocks::LISTS;
 
 // Reads the rest of a vector whose record and lengths are in buf, and answers its size, 0 where the file breaks off.
 fn read_rest(fd: i32, buf: &mut [u8]) -> usize {
-    let answer = vectors::block::answer_place(buf);
+    let answer = vectors::blocks::answer_place(buf);
     if !read_whole(fd, buf, LISTS, answer + 1) {
         return 0;
     }
-    let end = vectors::block::size(buf);
+    let end = vectors::blocks::size(buf);
     if !read_whole(fd, buf, answer + 1, end) {
         return 0;
     }
@@ -30,12 +30,12 @@ fn next(fd: i32, buf: &mut [u8]) -> Turn {
     if end > buf.len() {
         return Turn::Other;
     }
-    let step = vectors::block::block_vector(&buf[0..end]);
+    let step = vectors::blocks::block_vector(&buf[0..end]);
     if step.size != end || !step.same {
         return Turn::Other;
     }
     vector_files::change_last(buf, end);
-    let changed = vectors::block::block_vector(&buf[0..end]);
+    let changed = vectors::blocks::block_vector(&buf[0..end]);
     if changed.same {
         Turn::Other
     } else {

@@ -1,7 +1,5 @@
-pub mod WorkedExample
 pub mod LargestLaws
 pub mod SideLaws
-pub mod ReceivedLaws
 pub mod DecisionLaws
 pub mod OutputLaws
 pub mod SideBounds
@@ -17,11 +15,3 @@ pub mod DistanceSide
 pub mod Distance
 pub mod SampleLaws
 pub mod StepLaws
-pub mod BlockExponents
-pub mod BlockStored
-pub mod BlockWindow
-pub mod BlockNear
-pub mod BlockSound
-pub mod RunStart
-pub mod RunLaws
-pub mod BlockHolds

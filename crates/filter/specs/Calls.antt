@@ -15,14 +15,11 @@ use Rattle.filter.specs.Output.{output, outputExponent}
 use Rattle.filter.specs.Decision.{decide}
 use Rattle.filter.specs.Error.{error, errorExponent}
 use Rattle.filter.specs.Sample.{Taps, longest, settled, settledExponent, Y, ξ, decision, Z, θ, next}
-use Rattle.filter.specs.Block.{Block, Memory, receivedAll, newb, newB, after, goes, handedY, handedξ, handedDecision, handedZ, handedθ}
-use Rattle.filter.specs.Sound.{Fit, Sound, Acceptable, Summable, Adaptable, Joinable, Receivable}
+use Rattle.filter.specs.Sound.{Fit, Summable, Adaptable, Joinable}
 use Rattle.filter.specs.declared.sample.Settings as Declared
 use Rattle.filter.specs.declared.sample.Heard.{Heard}
 use Rattle.filter.specs.declared.sample.Judged.{Judged}
 use Rattle.filter.specs.declared.sample.Taken.{Taken}
-use Rattle.filter.specs.declared.block.Begun.{Begun}
-use Rattle.filter.specs.declared.block.Ran.{Ran}
 
 abbrev pub settingsOf : Declared.Settings → Settings
 settingsOf k = record { p = k .p; q = k .q; N = k .n; r = k .r; L = k .l; M = k .m }
@@ -134,51 +131,3 @@ pub record Taken-is (k : Settings) (g : ℕ) (t : Taps) (entry : ℤ) (r : Taken
 pub record Advanced-is (k : Settings) (g : ℕ) (t : Taps) (entry : ℤ) (r : Taken) (forward back samples symbols : List ℤ) : Type 0 where
   pub taken : Taken-is k g t entry r forward back symbols
   pub window : samples ≡ t .samples
-
--- ---- the block
-
-abbrev pub blockOf : List ℤ → List ℕ → List ℤ → Block
-blockOf m gains entries = record { samples = m; gains = gains; entries = entries }
-
--- the window has the last p − 1 stored samples and a place for the next
-abbrev pub memoryOf : List ℤ → List ℤ → List ℤ → List ℤ → ℕ → ℕ → ℕ → Memory
-memoryOf forward back window symbols ψ b B = record { forward = forward; back = back; samples = take (length window - 1) window; symbols = symbols; ψ = ψ; b = b; B = B }
-
--- 1: b
-abbrev pub blockLength : List ℤ → List ℕ → ℕ
-blockLength m gains = bitLength (largest (magnitudes (receivedAll m gains)))
-
-pub record Startable (k : Settings) (was : ℕ) (m : List ℤ) (gains : List ℕ) : Type 0 where
-  pub within : Within k
-  pub was-most : was ≤ 31
-  pub receivable : Receivable m gains
-
-pub record Begun-is (k : Settings) (was : ℕ) (m : List ℤ) (gains : List ℕ) (r : Begun) : Type 0 where
-  pub s : r .s ≡ scaleForward k
-  pub sb : r .sb ≡ scaleBack k
-  pub b : r .b ≡ blockLength m gains
-  pub big : r .big ≡ max (blockLength m gains) was
-  pub exponent : r .g ≡ k .r + max (blockLength m gains) was + scaleForward k
-
-pub record Runnable (k : Settings) (o : Memory) (i : Block) (window : List ℤ) : Type 0 where
-  pub sound : Sound k o
-  pub acceptable : Acceptable k i
-  pub window-is : window ≡ o .samples ++ (pos 0 ∷ [])
-
-pub record Finished (k : Settings) (o : Memory) (i : Block) (r : Ran) (forward back window symbols : List ℤ) : Type 0 where
-  pub forward-is : forward ≡ after k o i (k .N) .forward
-  pub back-is : back ≡ after k o i (k .N) .back
-  pub window-is : window ≡ after k o i (k .N) .samples
-  pub symbols-are : symbols ≡ after k o i (k .N) .symbols
-  pub psi : r .psi ≡ after k o i (k .N) .ψ
-  pub b : r .b ≡ newb k o i
-  pub big : r .big ≡ newB k o i
-  pub y : take (k .N) (r .y) ≡ handedY k o i
-  pub xi : take (k .N) (r .xi) ≡ handedξ k o i
-  pub decision-is : take (k .N) (r .decision) ≡ handedDecision k o i
-  pub z : take (k .N) (r .z) ≡ handedZ k o i
-  pub theta : take (k .N) (r .theta) ≡ handedθ k o i
-
-pub record Ran-is (k : Settings) (o : Memory) (i : Block) (r : Ran) (forward back window symbols : List ℤ) : Type 0 where
-  pub done : r .done ≡ goes k o i (k .N)
-  pub finished : goes k o i (k .N) ≡ true → Finished k o i r forward back window symbols

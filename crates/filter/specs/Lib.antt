@@ -4,8 +4,6 @@ pub mod Output
 pub mod Decision
 pub mod Error
 pub mod Sample
-pub mod Block
 pub mod Sound
 pub mod Exact
-pub mod Stored
 pub mod Calls

@@ -1,4 +1,4 @@
--- What is sound at a sample, and at the end of a block.
+-- What is sound at a sample.
 use mathlib.Core.Path.{_≡_}
 use mathlib.Core.Bool.{true}
 use Prim.Native.Nat.{ℕ, _+_, _*_, _-_, _^_, _≤_, _<_}
@@ -11,7 +11,6 @@ use Rattle.filter.specs.Settings.{Settings, Within, Admitted, isEntry, s
 use Rattle.filter.specs.Side.{largest, magnitudes}
 use Rattle.filter.specs.Error.{errorExponent}
 use Rattle.filter.specs.Sample.{Taps}
-use Rattle.filter.specs.Block.{Block, Memory}
 
 -- weights: |W| ≤ 16383
 abbrev pub Small : ℤ → Type 0
@@ -33,32 +32,6 @@ pub record Fit (k : Settings) (g : ℕ) (t : Taps) : Type 0 where
   pub g-least : scaleForward k ≤ g
   pub g-most : g + k .L ≤ k .r + 31 + scaleForward k
 
--- the soundness facts between blocks
-pub record Sound (k : Settings) (o : Memory) : Type 0 where
-  pub within : Within k
-  pub admitted : Admitted k
-  pub forward-long : length (o .forward) ≡ k .p
-  pub back-long : length (o .back) ≡ k .q
-  pub samples-long : length (o .samples) ≡ k .p - 1
-  pub symbols-long : length (o .symbols) ≡ k .q
-  pub forward-small : Each Small (o .forward)
-  pub back-small : Each Small (o .back)
-  pub samples-small : Each (λ (a : ℤ). natAbs a * 2 ^ (o .B + scaleForward k) < 2 ^ (15 + o .b)) (o .samples)
-  pub symbols-are : Each (λ (v : ℤ). isEntry (k .r) v ≡ true) (o .symbols)
-  pub ψ-most : o .ψ ≤ exponentLimit
-  pub b-most : o .b ≤ o .B
-  pub B-most : o .B + k .L ≤ 31
-
--- a block whose lists are N long, whose samples have 16 bits, and whose gains and entries are within limits
-pub record Acceptable (k : Settings) (i : Block) : Type 0 where
-  pub samples-long : length (i .samples) ≡ k .N
-  pub gains-long : length (i .gains) ≡ k .N
-  pub entries-long : length (i .entries) ≡ k .N
-  pub samples-are : Each (λ (m : ℤ). natAbs m ≤ 2 ^ 15) (i .samples)
-  pub gains-least : Each (λ (g : ℕ). k .L ≤ g) (i .gains)
-  pub gains-most : Each (λ (g : ℕ). g ≤ 15) (i .gains)
-  pub entries-are : Each (λ (e : ℤ). isEntry (k .r) e ≡ true) (i .entries)
-
 -- ---- what the loops over a side ask, as plain bounds
 
 -- a sum of products whose partial sums fit 32 bits
@@ -72,17 +45,6 @@ pub record Adaptable (K : ℤ) (w a : List ℤ) : Type 0 where
   pub same-length : length w ≡ length a
   pub small : Each Small w
   pub bound : natAbs K * largest (magnitudes a) < 2 ^ 44
-
--- samples with their gains
-pub record Receivable (m : List ℤ) (gains : List ℕ) : Type 0 where
-  pub same-length : length m ≡ length gains
-  pub gains-most : Each (λ (g : ℕ). g ≤ 15) gains
-
--- a number whose T(z·2^(i−j)) fits 16 bits
-pub record Storable (i j : ℕ) (z : ℤ) : Type 0 where
-  pub shift : i < 63
-  pub room : natAbs z * 2 ^ i < 2 ^ 63
-  pub bound : natAbs (rescale z i j) < 2 ^ 15
 
 -- the two sums of a sample and their exponents
 pub record Joinable (f h : ℤ) (g ν ψ : ℕ) : Type 0 where

@@ -1,7 +1,7 @@
 -- Whole numbers in machine registers: ranges as bounds on magnitudes, tests as orders, a one that is shifted.
-use mathlib.Core.Path.{_≡_, sym, ap, _∙_, subst}
+use mathlib.Core.Path.{_≡_, refl, sym, ap, _∙_, subst}
 use mathlib.Core.Bool.{true, false, not}
-use Prim.Native.Nat.{ℕ, suc, _+_, _*_, _-_, _%_, _^_, _≤_, _<_}
+use Prim.Native.Nat.{ℕ, zero, suc, _+_, _*_, _-_, _%_, _^_, _≤_, _<_}
 use native.Mathlib.Omega.{arith}
 use native.Mathlib.Nat.{one-mul, mod-eq-of-lt, lt-of-le-of-lt, lt-trans}
 use lib.Dec.{T, ltb, ltb→lt, lt→ltb, nleb→lt, lit<}
@@ -11,7 +11,7 @@ use lib.IntN.{ℤ, pos, negsuc, natAbs, _+ℤ_, _-ℤ_, subℕ}
 use lib.Signed.{mag, shrZ, mag-shr, leZ, ltZ, _≤ℤ_, _<ℤ_, leZ-yes, ltZ-yes, ltZ-no, natAbs-le}
 use mir.Syntax.{Width, w8, w16, w32, w64, w128}
 use mir.Val.{SFits, bits, hbits, toZ, ofZ}
-use mir.Facts.{toZ-pos, toZ-ofZ}
+use mir.Facts.{toZ-pos, toZ-neg, toZ-ofZ}
 use Rattle.laws.specs.Parts.{choose}
 
 -- ---- ranges
@@ -97,3 +97,15 @@ zero-bits w (negsuc n) e = absurd (omega arith)
 
 pub zero-of-bits : {w : Width} {z : ℤ} → SFits w z → ofZ w z ≡ 0 → z ≡ pos 0
 zero-of-bits {w} {z} f e = sym (toZ-ofZ f) ∙ ap (toZ w) e ∙ toZ-pos w (pow-pos (hbits w))
+
+-- ---- the upper half of the bits
+
+minus-one : (m : ℕ) → negsuc 0 -ℤ pos m ≡ negsuc m
+minus-one zero = refl
+minus-one (suc m) = ap negsuc (omega arith)
+
+-- −1 − m, where m and n are one less than 2^w together
+pub upper : (w : Width) (n m : ℕ) → m < 2 ^ hbits w → m + suc n ≡ 2 ^ bits w → negsuc 0 -ℤ toZ w m ≡ toZ w n
+upper w n m h e =
+    ap (λ (z : ℤ). negsuc 0 -ℤ z) (toZ-pos w h) ∙ minus-one m ∙ sym (toZ-neg w m h)
+    ∙ ap (toZ w) (omega arith)

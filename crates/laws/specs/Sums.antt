@@ -4,7 +4,7 @@ use mathlib.Core.List.{List, [], _∷_, _++_, map}
 use Prim.Native.Nat.{ℕ, zero, suc, _*_, _≤_, _<_}
 use native.Mathlib.Omega.{arith}
 use native.Mathlib.Nat.{le-of-suc-le-suc, not-suc-le-zero, mul-le-mul}
-use lib.ListN.{length, getD, take}
+use lib.ListN.{length, getD, take, drop}
 use lib.IntN.{ℤ, pos, negℤ, natAbs, _+ℤ_, _*ℤ_, zero-*ℤ, +ℤ-idl, +ℤ-idr, +ℤ-assoc, negℤ-+ℤ, negℤ-negℤ}
 use Rattle.laws.specs.Integers.{neg-*ℤ, *ℤ-neg, add-*ℤ, *ℤ-assoc, abs-mul, abs-add}
 
@@ -32,6 +32,11 @@ module _ {ℓ} {A : Type ℓ} (P : A → Type 0) where
   each-take zero xs h = tt
   each-take (suc i) [] h = tt
   each-take (suc i) (x ∷ xs) h = (h .0, each-take i xs (h .1))
+
+  pub each-drop : (i : ℕ) (xs : List A) → Each xs → Each (drop i xs)
+  each-drop zero xs h = h
+  each-drop (suc i) [] h = tt
+  each-drop (suc i) (x ∷ xs) h = each-drop i xs (h .1)
 
 pub each-weaken {ℓ} : {A : Type ℓ} (P Q : A → Type 0) → ((x : A) → P x → Q x) → (xs : List A) → Each P xs → Each Q xs
 each-weaken P Q f [] h = tt

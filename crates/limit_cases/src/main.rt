@@ -1,7 +1,7 @@
 // The cases beside the limits that a set-up, a block and a save can show, a line each with what comes of it.
 use libc::STDOUT_FILENO;
 use numbers::bit_length::magnitude;
-use station::equaliser::Equaliser;
+use state::equaliser::Equaliser;
 
 fn text(s: &[u8]) {
     io::write_all(STDOUT_FILENO, s);
@@ -94,7 +94,8 @@ fn block(about: &[u8], e: Equaliser, sample: i16, entry: i8) -> Equaliser {
     let mut decision = [0i8];
     let mut z = [0i32];
     let mut theta = [0u8];
-    let r = e.run(
+    let r = station::run::run(
+        e,
         &samples,
         &gains,
         &entries,

@@ -5,10 +5,10 @@ use mathlib.Core.List.{List}
 use Prim.Native.Nat.{ℕ}
 use lib.IntN.{ℤ}
 use borrow.Author.Tests.{ne-eqb, eq-eqb}
-use Rattle.filter.specs.Block.{goes, left, handedY, handedξ, handedDecision, handedZ, handedθ}
-use Rattle.station.specs.State.{settings, memory, stateOf}
+use Rattle.block.specs.Block.{goes, left, handedY, handedξ, handedDecision, handedZ, handedθ}
+use Rattle.state.specs.State.{settings, memory, stateOf}
 use Rattle.station.specs.Answers.{Lent, block, checkNumber, runNumber, runState, accepted, Run}
-use Rattle.station.specs.declared.equaliser.Equaliser.{Equaliser}
+use Rattle.state.specs.declared.equaliser.Equaliser.{Equaliser}
 
 module _ (e : Equaliser) (l : Lent) where
   -- ---- the number

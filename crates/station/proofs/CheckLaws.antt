@@ -8,11 +8,12 @@ use lib.ListN.{length}
 use borrow.Author.Tests.{leb-true, eqb-true, eqb-false, ne-eqb}
 use Rattle.laws.specs.Lists.{and-left, and-right, all}
 use Rattle.filter.specs.Settings.{isEntry}
-use Rattle.station.specs.Answers.{Lent, block, examined, lengthsFit, gainFits, checkNumber}
+use Rattle.station.specs.Answers.{Lent, block, lengthsFit, gainFits, checkNumber}
+use Rattle.state.specs.Answers.{examined}
 use Rattle.station.specs.Calls.{Sampled, Checked}
-use Rattle.station.specs.declared.equaliser.Equaliser.{Equaliser}
-use Rattle.station.proofs.ListTests.{each-tested}
-use Rattle.station.proofs.SoundLaws.{examined-tests, examined-sound}
+use Rattle.state.specs.declared.equaliser.Equaliser.{Equaliser}
+use Rattle.state.proofs.ListTests.{each-tested}
+use Rattle.state.proofs.SoundLaws.{examined-tests, examined-sound}
 
 -- the last of several comparisons, and those before it
 last-eq : (t : Bool) (a b : ℕ) → (t && eqb a b) ≡ true → (t ≡ true) × (a ≡ b)

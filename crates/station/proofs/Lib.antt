@@ -1,10 +1,4 @@
-pub mod ListTests
-pub mod ElementTests
-pub mod SizesLaws
-pub mod SoundLaws
-pub mod StateTests
-pub mod SetUpLaws
-pub mod ImageLaws
+pub mod GainLaws
 pub mod CopyLaws
 pub mod CheckLaws
 pub mod RunLaws

@@ -13,17 +13,17 @@ use borrow.Author.Tests.{eqb-true}
 use Rattle.laws.specs.Integers.{abs-zero}
 use Rattle.laws.specs.Lists.{and-left, and-right, all}
 use Rattle.filter.specs.Settings.{scaleForward, isEntry}
-use Rattle.filter.specs.Block.{Block, after, left}
-use Rattle.filter.specs.Sound.{Sound}
-use Rattle.filter.specs.Calls.{memoryOf, Runnable, Ran-is}
-use Rattle.filter.specs.Calls as Filter
-use Rattle.filter.specs.declared.block.Ran.{Ran}
-use Rattle.filter.proofs.BlockSound.{left-sound}
-use Rattle.station.specs.State.{settings, memory, taps, samples, symbols, filler, isZero, isStored, padded, stateOf}
+use Rattle.block.specs.Block.{Block, after, left}
+use Rattle.block.specs.Sound.{Sound}
+use Rattle.block.specs.Calls.{memoryOf, Runnable, Ran-is}
+use Rattle.block.specs.Calls as Filter
+use Rattle.block.specs.declared.run.Ran.{Ran}
+use Rattle.block.proofs.BlockSound.{left-sound}
+use Rattle.state.specs.State.{settings, memory, taps, samples, symbols, filler, isZero, isStored, padded, stateOf}
 use Rattle.station.specs.Calls.{Checked, Parts, Finished, Done-is, Ended, doneOf}
-use Rattle.station.specs.declared.equaliser.Equaliser.{Equaliser}
-use Rattle.station.specs.declared.block.Done.{Done}
-use Rattle.station.proofs.SoundLaws.{sound-tests}
+use Rattle.state.specs.declared.equaliser.Equaliser.{Equaliser}
+use Rattle.station.specs.declared.run.Done.{Done}
+use Rattle.state.proofs.SoundLaws.{sound-tests}
 
 -- ---- parts of a list
 

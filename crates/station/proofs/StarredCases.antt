@@ -13,9 +13,9 @@ use Rattle.filter.specs.Output.{output, outputExponent}
 use Rattle.filter.specs.Decision.{decide}
 use Rattle.filter.specs.Error.{error, errorExponent}
 use Rattle.filter.specs.Sample.{longest, settled, ν, F, H, Y, ξ, decision, v, κ, Z, θ, J, newForward, newBack, small, next}
-use Rattle.filter.specs.Block.{Block, Memory, receivedAll, newb, newB, g, stored, old, start, after, at, left}
-use Rattle.station.specs.Sizes.{settingsNumber, given}
-use Rattle.station.specs.State.{memory, fresh}
+use Rattle.block.specs.Block.{Block, Memory, receivedAll, newb, newB, g, stored, old, start, after, at, left}
+use Rattle.state.specs.Sizes.{settingsNumber, given}
+use Rattle.state.specs.State.{memory, fresh}
 
 pub record Case : Type 0 where
   pub gives : List ℤ

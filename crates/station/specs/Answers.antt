@@ -1,4 +1,4 @@
--- What set-up and running a block answer.
+-- What running a block answers.
 use mathlib.Core.Bool.{Bool, _&&_, cond}
 use mathlib.Core.List.{List}
 use mathlib.Core.Path.{_≡_}
@@ -7,23 +7,12 @@ use lib.Dec.{leb, eqb}
 use lib.ListN.{length}
 use lib.IntN.{ℤ}
 use Rattle.laws.specs.Lists.{all}
-use Rattle.filter.specs.Settings.{Settings, isEntry}
-use Rattle.filter.specs.Block.{Block, goes, left, handedY, handedξ, handedDecision, handedZ, handedθ}
-use Rattle.station.specs.Sizes.{sizesFit, admits, settingsNumber}
-use Rattle.station.specs.State.{settings, memory, isSound, stateOf, fresh, refused}
-use Rattle.station.specs.declared.equaliser.Equaliser.{Equaliser}
-use Rattle.station.specs.declared.equaliser.Answer.{Answer}
-
--- ---- set-up
-
-pub record SetUp (k : Settings) (a : Answer) : Type 0 where
-  pub number : a .number ≡ settingsNumber k
-  pub state : a .state ≡ cond (eqb (settingsNumber k) 0) (fresh k) refused
-
--- ---- the state that an operation is given: 1, 2, 9, or 0
-
-unfoldable pub examined : Equaliser → ℕ
-examined e = cond (sizesFit (settings e)) (cond (admits (settings e)) (cond (isSound e) 0 9) 2) 1
+use Rattle.filter.specs.Settings.{isEntry}
+use Rattle.block.specs.Block.{Block, goes, left, handedY, handedξ, handedDecision, handedZ, handedθ}
+use Rattle.state.specs.State.{settings, memory, stateOf}
+use Rattle.state.specs.Answers.{examined}
+use Rattle.state.specs.declared.equaliser.Equaliser.{Equaliser}
+use Rattle.state.specs.declared.equaliser.Answer.{Answer}
 
 -- ---- running a block
 

@@ -6,14 +6,14 @@ use Prim.Native.Nat.{ℕ, _^_, _≤_, _<_}
 use lib.ListN.{take}
 use lib.IntN.{ℤ, pos, natAbs}
 use Rattle.laws.specs.Sums.{Each}
-use Rattle.filter.specs.Block.{Block, goes, left, handedY, handedξ, handedDecision, handedZ, handedθ}
-use Rattle.filter.specs.Sound.{Sound, Acceptable}
-use Rattle.station.specs.Sizes.{sizesFit}
-use Rattle.station.specs.State.{settings, memory, forward, back, samples, symbols, isSound, stateOf}
+use Rattle.block.specs.Block.{Block, goes, left, handedY, handedξ, handedDecision, handedZ, handedθ}
+use Rattle.block.specs.Sound.{Sound, Acceptable}
+use Rattle.state.specs.Sizes.{sizesFit}
+use Rattle.state.specs.State.{settings, memory, forward, back, samples, symbols, isSound, stateOf}
 use Rattle.station.specs.Answers.{Lent}
-use Rattle.station.specs.declared.equaliser.Equaliser.{Equaliser}
-use Rattle.station.specs.declared.block.Done.{Done}
-use Rattle.filter.specs.declared.block.Ran.{Ran}
+use Rattle.state.specs.declared.equaliser.Equaliser.{Equaliser}
+use Rattle.station.specs.declared.run.Done.{Done}
+use Rattle.block.specs.declared.run.Ran.{Ran}
 
 abbrev pub lentOf : List ℤ → List ℕ → List ℤ → List ℤ → List ℕ → List ℤ → List ℤ → List ℕ → Lent
 lentOf m gains entries y xi decision z theta = record { m = m; gains = gains; entries = entries; y = y; xi = xi; decision = decision; z = z; theta = theta }

@@ -1,5 +1,2 @@
-pub mod Sizes
-pub mod State
 pub mod Answers
-pub mod Image
 pub mod Calls

@@ -4,7 +4,7 @@ ghost use mathlib.Core.List.{_++_};
 ghost use Prim.Native.Nat.{_+_, _-_, _≤_};
 ghost use lib.ListN.{length, replicate};
 ghost use lib.IntN.{pos};
-ghost use Rattle.station.specs.State.{padded};
+ghost use Rattle.state.specs.State.{padded};
 
 pub fn copy16(src: &[i16], dst: &mut [i16])
     requires { ⌜ length (now src) ≡ length (now dst) ⌝ }

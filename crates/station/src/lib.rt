@@ -1,7 +1,4 @@
-// The station equaliser: set-up, running a block, saving.
-pub mod block;
+// The station: running a block on the state of an equaliser.
+pub mod run;
 pub mod copies;
-pub mod equaliser;
-pub mod image;
-pub mod sizes;
-pub mod sound;
+pub mod lists;

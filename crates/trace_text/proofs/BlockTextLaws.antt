@@ -16,14 +16,15 @@ use Rattle.laws.specs.Lists.{all}
 use Rattle.laws.specs.Powers.{rises}
 use Rattle.filter.specs.Settings.{isEntry}
 use Rattle.filter.specs.Sample.{Y, ξ, decision}
-use Rattle.filter.specs.Block.{Block, Memory, g, at, goes, entryAt, values, handedY, handedξ, handedDecision}
+use Rattle.block.specs.Block.{Block, Memory, g, at, goes, entryAt, values, handedY, handedξ, handedDecision}
 use Rattle.filter.proofs.SymbolLaws.{symbol-below, decide-symbol}
-use Rattle.filter.proofs.BlockHolds.{bounded-at}
-use Rattle.station.specs.Sizes.{sizesFit, admits}
-use Rattle.station.specs.State.{settings, memory, isSound}
-use Rattle.station.specs.Answers.{Lent, block, examined, lengthsFit, gainFits, checkNumber, runNumber, runState}
+use Rattle.block.proofs.BlockHolds.{bounded-at}
+use Rattle.state.specs.Sizes.{sizesFit, admits}
+use Rattle.state.specs.State.{settings, memory, isSound}
+use Rattle.station.specs.Answers.{Lent, block, lengthsFit, gainFits, checkNumber, runNumber, runState}
+use Rattle.state.specs.Answers.{examined}
 use Rattle.station.specs.Calls.{Checked, Sampled}
-use Rattle.station.specs.declared.equaliser.Equaliser.{Equaliser}
+use Rattle.state.specs.declared.equaliser.Equaliser.{Equaliser}
 use Rattle.station.proofs.CheckLaws.{checked-is}
 use Rattle.trace_text.specs.Calls.{Printable, AllPrintable}
 

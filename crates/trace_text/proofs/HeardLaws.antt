@@ -15,12 +15,12 @@ use mir.Facts.{sfits-toZ}
 use borrow.Author.Tests.{eq-eqb, ne-eqb}
 use Rattle.laws.specs.Sums.{each-of}
 use Rattle.laws.specs.Machine.{abs-fits}
-use Rattle.filter.specs.Block.{values, handedY, handedξ, handedDecision}
-use Rattle.station.specs.State.{settings, memory}
+use Rattle.block.specs.Block.{values, handedY, handedξ, handedDecision}
+use Rattle.state.specs.State.{settings, memory}
 use Rattle.station.specs.Answers.{Lent, block, runNumber, runState, Run}
 use Rattle.station.specs.Calls.{lentOf, Sampled}
-use Rattle.station.specs.declared.equaliser.Equaliser.{Equaliser}
-use Rattle.station.specs.declared.equaliser.Answer.{Answer}
+use Rattle.state.specs.declared.equaliser.Equaliser.{Equaliser}
+use Rattle.state.specs.declared.equaliser.Answer.{Answer}
 use Rattle.trace_text.specs.Trace.{byteAt, number16, settingsIn, countIn, samplesIn, sampleAt, gainAt, entryAt, lentAt}
 use Rattle.trace_text.specs.Text.{lines, blockLines, stopLine}
 use Rattle.trace_text.specs.Written.{Fronted}

@@ -13,21 +13,9 @@ use mir.Syntax.{Width}
 use mir.Val.{bits, hbits, toZ}
 use mir.Facts.{toZ-pos, toZ-neg}
 use borrow.Author.Tests.{le-leb, lt-leb}
-use Rattle.filter.specs.Block.{values}
-use Rattle.filter.proofs.RunLaws.{Filled, filled-none, filled-next}
+use Rattle.block.specs.Block.{values}
+use Rattle.block.proofs.RunLaws.{Filled, filled-none, filled-next}
 use Rattle.trace_text.specs.Trace.{traceLimit, byteAt, samplesIn, wellFormed}
-
--- ---- the upper half of the bits
-
-minus-one : (m : ℕ) → negsuc 0 -ℤ pos m ≡ negsuc m
-minus-one zero = refl
-minus-one (suc m) = ap negsuc (omega arith)
-
--- −1 − m, where m and n are one less than 2^w together
-pub upper : (w : Width) (n m : ℕ) → m < 2 ^ hbits w → m + suc n ≡ 2 ^ bits w → negsuc 0 -ℤ toZ w m ≡ toZ w n
-upper w n m h e =
-    ap (λ (z : ℤ). negsuc 0 -ℤ z) (toZ-pos w h) ∙ minus-one m ∙ sym (toZ-neg w m h)
-    ∙ ap (toZ w) (omega arith)
 
 -- ---- the first i of n places hold the values of f
 

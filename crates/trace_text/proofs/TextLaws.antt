@@ -11,10 +11,10 @@ use lib.ListN.{length, drop, length-append}
 use borrow.Author.Tests.{leb-true, eqb-true, eq-eqb, ne-eqb}
 use borrow.Rule.Slice.PartMut.{midOf, putMid}
 use Rattle.laws.specs.Lists.{and-left, and-right}
-use Rattle.filter.specs.Block.{left}
-use Rattle.station.specs.State.{settings, memory, stateOf}
+use Rattle.block.specs.Block.{left}
+use Rattle.state.specs.State.{settings, memory, stateOf}
 use Rattle.station.specs.Answers.{Lent, block, runNumber, runState}
-use Rattle.station.specs.declared.equaliser.Equaliser.{Equaliser}
+use Rattle.state.specs.declared.equaliser.Equaliser.{Equaliser}
 use Rattle.trace_text.specs.Trace.{traceLimit, byteAt, settingsIn, countIn, samplesIn, wellFormed, lentAt}
 use Rattle.trace_text.specs.Text.{stopLine, blockLines, textFrom, textLimit}
 use Rattle.trace_text.specs.Written.{Fronted}

@@ -9,12 +9,12 @@ use lib.ListN.{length, drop}
 use borrow.Author.Tests.{leb-true, le-leb, lt-leb, eq-eqb, ne-eqb}
 use Rattle.laws.specs.Lists.{and-left}
 use Rattle.filter.specs.Settings.{Settings}
-use Rattle.station.specs.Sizes.{sizesFit, admits, settingsNumber}
-use Rattle.station.specs.State.{fresh, refused}
-use Rattle.station.specs.Answers.{SetUp}
-use Rattle.station.specs.declared.equaliser.Equaliser.{Equaliser}
-use Rattle.station.specs.declared.equaliser.Answer.{Answer}
-use Rattle.station.proofs.SizesLaws.{settings-tests, fit-within}
+use Rattle.state.specs.Sizes.{sizesFit, admits, settingsNumber}
+use Rattle.state.specs.State.{fresh, refused}
+use Rattle.state.specs.Answers.{SetUp}
+use Rattle.state.specs.declared.equaliser.Equaliser.{Equaliser}
+use Rattle.state.specs.declared.equaliser.Answer.{Answer}
+use Rattle.state.proofs.SizesLaws.{settings-tests, fit-within}
 use Rattle.trace_text.specs.Trace.{traceLimit, byteAt, settingsIn, samplesIn, countIn, wellFormed}
 use Rattle.trace_text.specs.Text.{stopLine, textFrom, traceText, textLimit}
 use Rattle.trace_text.specs.Written.{Fronted}

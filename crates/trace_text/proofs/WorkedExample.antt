@@ -12,10 +12,11 @@ use Rattle.filter.specs.Output.{output, outputExponent}
 use Rattle.filter.specs.Decision.{decide}
 use Rattle.filter.specs.Error.{error, errorExponent}
 use Rattle.filter.specs.Sample.{longest, ν, F, H, Y, ξ, decision, v, κ, Z, θ, J, newForward, newBack, small, next}
-use Rattle.filter.specs.Block.{receivedAll, values, newb, newB, g, stored, old, start, after, at, goes, handedY, handedξ, handedDecision, left}
-use Rattle.station.specs.Sizes.{settingsNumber}
-use Rattle.station.specs.State.{isSound, stateOf, fresh}
-use Rattle.station.specs.Answers.{examined, checkNumber, runNumber, runState}
+use Rattle.block.specs.Block.{receivedAll, values, newb, newB, g, stored, old, start, after, at, goes, handedY, handedξ, handedDecision, left}
+use Rattle.state.specs.Sizes.{settingsNumber}
+use Rattle.state.specs.State.{isSound, stateOf, fresh}
+use Rattle.station.specs.Answers.{checkNumber, runNumber, runState}
+use Rattle.state.specs.Answers.{examined}
 use Rattle.trace_text.specs.Decimal.{digits, decimal, signedDecimal}
 use Rattle.trace_text.specs.Trace.{wellFormed, lentAt}
 use Rattle.trace_text.specs.Text.{line, stopLine, lines, blockLines, textFrom, traceText}

@@ -6,10 +6,10 @@ use Prim.Native.Nat.{ℕ, _+_, _*_, _^_, _≤_, _<_}
 use lib.Dec.{leb, eqb}
 use lib.ListN.{length, getD, take, drop}
 use lib.IntN.{ℤ, pos, natAbs}
-use Rattle.filter.specs.Block.{Block, handedY, handedξ, handedDecision}
-use Rattle.station.specs.State.{settings, memory}
+use Rattle.block.specs.Block.{Block, handedY, handedξ, handedDecision}
+use Rattle.state.specs.State.{settings, memory}
 use Rattle.station.specs.Answers.{Lent, block, runNumber, runState}
-use Rattle.station.specs.declared.equaliser.Equaliser.{Equaliser}
+use Rattle.state.specs.declared.equaliser.Equaliser.{Equaliser}
 use Rattle.trace_text.specs.Trace.{traceLimit, settingsIn, countIn, samplesIn, wellFormed, lentAt}
 use Rattle.trace_text.specs.Text.{blockLines, stopLine, traceText, textLimit}
 use Rattle.trace_text.specs.Written.{Fronted}

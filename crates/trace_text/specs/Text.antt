@@ -5,11 +5,11 @@ use Prim.Native.Nat.{ℕ, zero, suc, _+_, _*_}
 use lib.Dec.{eqb}
 use lib.ListN.{getD}
 use lib.IntN.{ℤ, pos}
-use Rattle.filter.specs.Block.{handedY, handedξ, handedDecision}
-use Rattle.station.specs.Sizes.{settingsNumber}
-use Rattle.station.specs.State.{settings, memory, fresh}
+use Rattle.block.specs.Block.{handedY, handedξ, handedDecision}
+use Rattle.state.specs.Sizes.{settingsNumber}
+use Rattle.state.specs.State.{settings, memory, fresh}
 use Rattle.station.specs.Answers.{Lent, block, runNumber, runState}
-use Rattle.station.specs.declared.equaliser.Equaliser.{Equaliser}
+use Rattle.state.specs.declared.equaliser.Equaliser.{Equaliser}
 use Rattle.trace_text.specs.Decimal.{decimal, signedDecimal}
 use Rattle.trace_text.specs.Trace.{settingsIn, countIn, wellFormed, lentAt}
 

@@ -8,7 +8,7 @@ use lib.IntN.{ℤ, pos}
 use mir.Syntax.{w8, w16}
 use mir.Val.{toZ}
 use Rattle.filter.specs.Settings.{Settings}
-use Rattle.filter.specs.Block.{values}
+use Rattle.block.specs.Block.{values}
 use Rattle.station.specs.Answers.{Lent}
 
 abbrev pub traceLimit : ℕ

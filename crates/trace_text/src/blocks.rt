@@ -3,7 +3,7 @@ ghost use Rattle.trace_text.specs.Text.{textFrom};
 ghost use Rattle.trace_text.specs.Trace.{countIn, lentAt};
 ghost use Rattle.trace_text.specs.Written.{Fronted};
 ghost use Rattle.trace_text.specs.Calls.{Runnable, Heard-is, Blockable, Added-is, Traceable};
-use station::equaliser::Equaliser;
+use state::equaliser::Equaliser;
 
 // A block that was run: the number and the state it answers, and Y, ξ and decision at the front of work areas.
 pub struct Heard {
@@ -35,7 +35,8 @@ pub fn run_block(t: &[u8], e: Equaliser, first: usize, start: usize) -> Heard
     let mut decision = [0i8; 128];
     let mut z = [0i32; 128];
     let mut theta = [0u8; 128];
-    let a = e.run(
+    let a = station::run::run(
+        e,
         &m[..n],
         &gains[..n],
         &entries[..n],
@@ -91,7 +92,7 @@ pub fn all_blocks(t: &[u8], e: Equaliser, out: &mut [u8]) -> usize
     requires { ⌜ Traceable (now t) e (now out) ⌝ }
     ensures { λ r. ⌜ Fronted (textFrom (now (t .entry)) (countIn (now (t .entry))) 0 e) (now (out .entry)) r (now (out .exit)) ⌝ }
 {
-    let count = super::read::number16(t[6], t[7]) as usize;
+    let count = state::bytes::number16(t[6], t[7]) as usize;
     let start = 12 + 3 * ((t[2] as usize) * count);
     let mut state = e;
     let mut at: usize = 0;

@@ -1,6 +1,6 @@
 // The text of a trace.
 ghost use Rattle.trace_text.specs.Calls.{Text-is};
-use station::equaliser::Equaliser;
+use state::equaliser::Equaliser;
 
 pub mod blocks;
 pub mod decimal;
@@ -35,7 +35,7 @@ pub fn text(trace: &[u8], out: &mut [u8]) -> Written
         trace[2],
         trace[3],
         trace[4],
-        read::number32(trace[8], trace[9], trace[10], trace[11]),
+        state::bytes::number32(trace[8], trace[9], trace[10], trace[11]),
     );
     let number = a.number;
     if number != 0 {

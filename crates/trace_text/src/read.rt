@@ -2,35 +2,10 @@
 ghost use mathlib.Core.Path.{_≡_};
 ghost use Prim.Native.Nat.{_+_, _*_, _≤_};
 ghost use lib.ListN.{length, take};
-ghost use mir.Syntax.{w8, w16};
+ghost use mir.Syntax.{w8};
 ghost use mir.Val.{toZ};
-ghost use Rattle.filter.specs.Block.{values};
+ghost use Rattle.block.specs.Block.{values};
 ghost use Rattle.trace_text.specs.Trace.{samplesIn, sampleAt, gainAt, entryAt, wellFormed};
-
-// A number of two bytes, the lower first.
-pub fn number16(lo: u8, hi: u8) -> u32
-    ensures { λ r. ⌜ r ≡ lo + 256 * hi ⌝ }
-{
-    lo as u32 + 256 * (hi as u32)
-}
-
-// A number of four bytes, the lowest first.
-pub fn number32(a: u8, b: u8, c: u8, d: u8) -> u32
-    ensures { λ r. ⌜ r ≡ a + 256 * b + 65536 * (c + 256 * d) ⌝ }
-{
-    number16(a, b) + 65536 * number16(c, d)
-}
-
-pub fn signed16(lo: u8, hi: u8) -> i16
-    ensures { λ r. ⌜ r ≡ toZ w16 (lo + 256 * hi) ⌝ }
-{
-    let n = number16(lo, hi);
-    if n < 32768 {
-        n as i16
-    } else {
-        -1 - ((65535 - n) as i16)
-    }
-}
 
 pub fn signed8(b: u8) -> i8
     ensures { λ r. ⌜ r ≡ toZ w8 b ⌝ }
@@ -51,7 +26,7 @@ pub fn samples(t: &[u8], first: usize, n: usize) -> [i16; 128]
     let mut i: usize = 0;
     while i < n {
         let at = 12 + 3 * (first + i);
-        out[i] = signed16(t[at], t[at + 1]);
+        out[i] = state::bytes::signed16(t[at], t[at + 1]);
         i += 1;
     }
     out
@@ -94,7 +69,7 @@ pub fn well_formed(t: &[u8]) -> bool
     } else if 65536 < t.len() {
         false
     } else {
-        let count = number16(t[6], t[7]) as usize;
+        let count = state::bytes::number16(t[6], t[7]) as usize;
         t.len() == 12 + 4 * (t[2] as usize * count) && t[5] == 0
     }
 }

@@ -1,5 +1,5 @@
 // Vectors of a second implementation, one at the front of some bytes: what the product gives for it, held to what is expected.
-pub mod block;
+pub mod blocks;
 mod compare;
 mod record;
 pub mod trace;

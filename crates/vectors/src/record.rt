@@ -7,7 +7,7 @@ use super::values::byte_at;
 use super::values::fill_signed_shorts;
 use super::values::long_at;
 use super::values::rest;
-use station::equaliser::Equaliser;
+use state::equaliser::Equaliser;
 
 // The state that it says.
 pub fn state(v: &[u8]) -> Equaliser {

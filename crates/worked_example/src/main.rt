@@ -1,7 +1,7 @@
 // Sets a station up, runs two blocks and writes the image of the state in hexadecimal.
 ghost use Prim.Native.Nat.{_<_};
 use libc::STDOUT_FILENO;
-use station::equaliser::Equaliser;
+use state::equaliser::Equaliser;
 
 // A block of one sample.
 fn block(e: Equaliser, entry: i8) -> Equaliser {
@@ -13,7 +13,8 @@ fn block(e: Equaliser, entry: i8) -> Equaliser {
     let mut decision = [0i8];
     let mut z = [0i32];
     let mut theta = [0u8];
-    let r = e.run(
+    let r = station::run::run(
+        e,
         &samples,
         &gains,
         &entries,

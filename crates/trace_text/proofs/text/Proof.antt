@@ -7,8 +7,8 @@ use native.Mathlib.Omega.{arith}
 use lib.ListN.{length, getD}
 use borrow.Author.Needs.{needs}
 use borrow.Author.Tests.{not-true, not-false}
-use Rattle.station.specs.Sizes.{given}
-use Rattle.station.specs.Answers.{SetUp}
+use Rattle.state.specs.Sizes.{given}
+use Rattle.state.specs.Answers.{SetUp}
 use Rattle.trace_text.specs.Trace.{settingsIn, wellFormed}
 use Rattle.trace_text.specs.Text.{textLimit}
 use Rattle.trace_text.proofs.FrontLaws.{front-text}

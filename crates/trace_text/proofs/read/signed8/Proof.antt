@@ -7,7 +7,7 @@ use mir.Syntax.{w8}
 use mir.Val.{toZ}
 use mir.Facts.{toZ-ofZ, sfits-toZ}
 use borrow.Author.Needs.{needs}
-use Rattle.trace_text.proofs.ReadLaws.{upper}
+use Rattle.laws.specs.Machine.{upper}
 use Rattle.trace_text.proofs.read.signed8.Statement.{statement}
 use Rattle.trace_text.proofs.read.signed8.Tie as tie
 

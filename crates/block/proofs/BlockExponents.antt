@@ -1,0 +1,54 @@
+-- The exponents of a block.
+use Prim.Native.Nat.{ℕ, _+_, _-_, _^_, _≤_, _<_}
+use native.Mathlib.Omega.{arith}
+use native.Mathlib.Nat.{le-max-left, le-max-right, max-le, lt-of-le-of-lt}
+use lib.IntN.{ℤ, natAbs}
+use Rattle.laws.specs.Powers.{rises-strictly}
+use Rattle.laws.specs.Sums.{Each, each-weaken}
+use Rattle.numbers.proofs.BitLengthLaws.{bit-length-above, bit-length-le}
+use Rattle.filter.specs.Settings.{Settings, scaleForward}
+use Rattle.filter.specs.Side.{largest, magnitudes}
+use Rattle.block.specs.Block.{Block, Memory, receivedAll, newb, newB, g}
+use Rattle.block.specs.Sound.{Sound, Acceptable}
+use Rattle.filter.proofs.LargestLaws.{largest-magnitude, each-magnitude}
+use Rattle.block.proofs.ReceivedLaws.{received-each}
+
+module _ (k : Settings) (o : Memory) (i : Block) where
+  pub received-below : Each (λ (x : ℤ). natAbs x < 2 ^ newb k o i) (receivedAll (i .samples) (i .gains))
+  unfolding newb
+  received-below =
+      each-weaken (λ (x : ℤ). natAbs x ≤ largest (magnitudes (receivedAll (i .samples) (i .gains)))) (λ (x : ℤ). natAbs x < 2 ^ newb k o i)
+      (λ x l. lt-of-le-of-lt l (bit-length-above (largest (magnitudes (receivedAll (i .samples) (i .gains)))))) (receivedAll (i .samples) (i .gains))
+      (each-magnitude (receivedAll (i .samples) (i .gains)))
+
+  pub newb-newB : newb k o i ≤ newB k o i
+  unfolding newB
+  newb-newB = le-max-left (newb k o i) (o .b)
+
+  pub oldb-newB : o .b ≤ newB k o i
+  unfolding newB
+  oldb-newB = le-max-right (newb k o i) (o .b)
+
+  pub newb-most : k .L ≤ 15 → Acceptable k i → newb k o i + k .L ≤ 31
+  unfolding newb
+  newb-most l a = omega (
+    arith,
+    bit-length-le (largest (magnitudes (receivedAll (i .samples) (i .gains)))) (31 - k .L) (omega (
+      arith,
+      largest-magnitude (λ (n : ℕ). n ≤ 2 ^ (30 - k .L)) (omega arith) (receivedAll (i .samples) (i .gains))
+          (received-each (k .L) (i .samples) (i .gains) l (a .samples-are) (a .gains-least)),
+      rises-strictly {a = 30 - k .L} {b = 31 - k .L} (omega arith),
+    )),
+  )
+
+  pub newB-most : Sound k o → Acceptable k i → newB k o i + k .L ≤ 31
+  unfolding newB
+  newB-most s a = omega (arith, max-le {a = newb k o i} {b = o .b} {k = 31 - k .L} (omega (arith, newb-most (s .within .L-most) a)) (omega (arith, s .b-most, s .B-most)), s .within .L-most)
+
+  pub g-least : scaleForward k ≤ g k o i
+  unfolding g
+  g-least = omega arith
+
+  pub g-most : Sound k o → Acceptable k i → g k o i + k .L ≤ k .r + 31 + scaleForward k
+  unfolding g
+  g-most s a = omega (arith, newB-most s a)

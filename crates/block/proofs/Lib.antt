@@ -1,0 +1,10 @@
+pub mod WorkedExample
+pub mod ReceivedLaws
+pub mod BlockExponents
+pub mod BlockStored
+pub mod BlockWindow
+pub mod BlockNear
+pub mod BlockSound
+pub mod RunStart
+pub mod RunLaws
+pub mod BlockHolds

@@ -1,0 +1,95 @@
+-- The scale counts, the bit length of the loudest sample, and the larger of it and the one before.
+use mathlib.Core.Path.{_≡_, ap, ap₂, _∙_}
+use Prim.Native.Nat.{ℕ, _+_, _≤_, max}
+use native.Mathlib.Omega.{arith}
+use borrow.Author.Needs.{needs}
+use Rattle.numbers.specs.BitLength.{bitLength}
+use Rattle.numbers.proofs.BitLengthLaws.{bit-length-le}
+use Rattle.block.specs.Calls.{blockLength}
+use Rattle.filter.proofs.SampleSides.{scale-most}
+use Rattle.block.proofs.run.begin.Statement.{statement}
+use Rattle.block.proofs.run.begin.Tie as tie
+
+cast-scale-count : tie.Need-cast-scale-count
+cast-scale-count c = search needs
+
+scale-count-requires : tie.Need-scale-count-requires
+scale-count-requires c κs = search needs
+
+cast-scale-count-2 : tie.Need-cast-scale-count-2
+cast-scale-count-2 c = search needs
+
+scale-count-requires-2 : tie.Need-scale-count-requires-2
+scale-count-requires-2 c κs = search needs
+
+loudest-requires : tie.Need-loudest-requires
+loudest-requires c κs = search needs
+
+bit-length-requires : tie.Need-bit-length-requires
+bit-length-requires c κs = search needs
+
+larger-requires : tie.Need-larger-requires
+larger-requires c κs = search needs
+
+-- the places of the calls
+abbrev loud : tie.After-larger → tie.After-loudest
+loud c = c .before .before
+
+abbrev scaled : tie.After-loudest → tie.After-scale-count
+scaled c = c .before .before .before
+
+abbrev start : tie.After-loudest → tie.Start
+start c = scaled c .before .before .before
+
+length-is : (c : tie.After-larger) → c .before .bit-length .result ≡ blockLength (start (loud c) .args .m .now) (start (loud c) .args .gains .now)
+length-is c = c .before .bit-length .ensures ∙ ap bitLength (loud c .loudest .ensures)
+
+length-most : (c : tie.After-larger) → c .before .bit-length .result ≤ 64
+length-most c = omega (arith, c .before .bit-length .ensures, bit-length-le (loud c .loudest .result) 64 (omega (arith, loud c .loudest .ok)))
+
+larger-most : (c : tie.After-larger) → c .larger .result ≤ 64
+larger-most c = omega (arith, c .larger .ensures, length-most c, start (loud c) .pre .was-most)
+
+add-t11 : tie.Need-add-t11
+add-t11 c = record { fits = omega (arith, larger-most (c .before), start (loud (c .before)) .pre .within .r-most) }
+
+add-t12 : tie.Need-add-t12
+add-t12 c =
+    let s = start (loud (c .before)) in
+    record {
+      fits = omega (
+        arith,
+        larger-most (c .before),
+        s .pre .within .r-most,
+        scaled (loud (c .before)) .scale-count .ensures,
+        scale-most (s .args .k .p) (s .pre .within .p-most),
+      );
+    }
+
+returns : tie.Need-returns
+returns c =
+    let d = c .before in
+    let a = start (loud d) .args in
+    let big = d .larger .ensures ∙ ap (λ (n : ℕ). max n (a .was)) (length-is d) in
+    record {
+      s = scaled (loud d) .scale-count .ensures;
+      sb = loud d .before .scale-count2 .ensures;
+      b = length-is d;
+      big = big;
+      exponent = ap₂ (λ (x y : ℕ). a .k .r + x + y) big (scaled (loud d) .scale-count .ensures);
+    }
+
+pub begin-spec : {M : Type 1} → statement M
+begin-spec =
+    tie.close
+    (tie.spec
+    cast-scale-count
+    scale-count-requires
+    cast-scale-count-2
+    scale-count-requires-2
+    loudest-requires
+    bit-length-requires
+    larger-requires
+    add-t11
+    add-t12
+    returns)

@@ -1,0 +1,4 @@
+pub mod Block
+pub mod Sound
+pub mod Stored
+pub mod Calls

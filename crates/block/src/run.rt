@@ -1,0 +1,166 @@
+// One block.
+ghost use mathlib.Core.Path.{_≡_};
+ghost use Prim.Native.Nat.{max};
+ghost use Rattle.filter.specs.Side.{push};
+ghost use Rattle.filter.specs.Calls.{settingsOf, Ready, Advanced-is, tapsOf};
+ghost use Rattle.block.specs.Calls.{blockOf, memoryOf, Begun-is, Startable, Runnable, Ran-is};
+use filter::sample::Settings;
+use filter::sample::Taken;
+
+// The scale counts of a block, its b and B, and γ + 30.
+pub struct Begun {
+    pub s: u32,
+    pub sb: u32,
+    pub b: u32,
+    pub big: u32,
+    pub g: u32,
+}
+
+// Whether ψ kept its limit, and then what the block hands out and leaves.
+pub struct Ran {
+    pub done: bool,
+    pub psi: u32,
+    pub b: u32,
+    pub big: u32,
+    pub y: [i32; 128],
+    pub xi: [u8; 128],
+    pub decision: [i8; 128],
+    pub z: [i32; 128],
+    pub theta: [u8; 128],
+}
+
+// Step 1 of a block.
+pub fn begin(k: Settings, was: u32, m: &[i16], gains: &[u8]) -> Begun
+    requires { ⌜ Startable (settingsOf k) was (now m) (now gains) ⌝ }
+    ensures { λ r. ⌜ Begun-is (settingsOf k) was (now (m .entry)) (now (gains .entry)) r ⌝ }
+{
+    let s = numbers::scale_count::scale_count(k.p as usize);
+    let sb = numbers::scale_count::scale_count(k.q as usize);
+    let b = numbers::bit_length::bit_length(super::stored::loudest(m, gains));
+    let big = larger(b, was);
+    Begun {
+        s: s,
+        sb: sb,
+        b: b,
+        big: big,
+        g: k.r + big + s,
+    }
+}
+
+fn larger(a: u32, b: u32) -> u32
+    ensures { λ r. ⌜ r ≡ max a b ⌝ }
+{
+    if a < b { b } else { a }
+}
+
+fn wide(x: i8) -> i16
+    ensures { λ r. ⌜ r ≡ x ⌝ }
+{
+    x as i16
+}
+
+// The next stored sample enters the window, and the sample is taken.
+fn advance(
+    k: Settings,
+    e: Begun,
+    psi: u32,
+    a: i16,
+    entry: i8,
+    forward: &mut [i16],
+    back: &mut [i16],
+    samples: &mut [i16],
+    symbols: &mut [i16],
+) -> Taken
+    requires { ⌜ Ready (settingsOf k) (e .s) (e .sb) (e .g) (tapsOf (now forward) (now back) (push a (now samples)) (now symbols) psi) entry ⌝ }
+    ensures { λ r. ⌜ Advanced-is (settingsOf k) (e .g) (tapsOf (now (forward .entry)) (now (back .entry)) (push a (now (samples .entry))) (now (symbols .entry)) psi) entry r (now (forward .exit)) (now (back .exit)) (now (samples .exit)) (now (symbols .exit)) ⌝ }
+{
+    filter::side::push(samples, a);
+    filter::sample::step(
+        k,
+        e.s,
+        e.sb,
+        e.g,
+        psi,
+        wide(entry),
+        forward,
+        back,
+        samples,
+        symbols,
+    )
+}
+
+// The samples of a block one by one, up to the one at which ψ would pass its limit.
+pub fn run(
+    k: Settings,
+    psi: u32,
+    b: u32,
+    big: u32,
+    m: &[i16],
+    gains: &[u8],
+    entries: &[i8],
+    forward: &mut [i16],
+    back: &mut [i16],
+    samples: &mut [i16],
+    symbols: &mut [i16],
+) -> Ran
+    requires { ⌜ Runnable (settingsOf k) (memoryOf (now forward) (now back) (now samples) (now symbols) psi b big) (blockOf (now m) (now gains) (now entries)) (now samples) ⌝ }
+    ensures { λ r. ⌜ Ran-is (settingsOf k) (memoryOf (now (forward .entry)) (now (back .entry)) (now (samples .entry)) (now (symbols .entry)) psi b big) (blockOf (now (m .entry)) (now (gains .entry)) (now (entries .entry))) r (now (forward .exit)) (now (back .exit)) (now (samples .exit)) (now (symbols .exit)) ⌝ }
+{
+    let e = begin(k, b, m, gains);
+    super::stored::rescale_all(samples, big, e.big);
+    let stored = super::stored::store(m, gains, e.big + e.s);
+    let mut y = [0i32; 128];
+    let mut xi = [0u8; 128];
+    let mut decision = [0i8; 128];
+    let mut z = [0i32; 128];
+    let mut theta = [0u8; 128];
+    let mut at = psi;
+    let mut n: usize = 0;
+    while n < m.len() {
+        let t = advance(
+            k,
+            e,
+            at,
+            stored[n],
+            entries[n],
+            forward,
+            back,
+            samples,
+            symbols,
+        );
+        at = t.psi;
+        if 15 < at {
+            return Ran {
+                done: false,
+                psi: at,
+                b: e.b,
+                big: e.big,
+                y: y,
+                xi: xi,
+                decision: decision,
+                z: z,
+                theta: theta,
+            };
+        }
+        let ty = t.y;
+        let td = t.decision;
+        let tz = t.z;
+        y[n] = ty;
+        xi[n] = t.xi;
+        decision[n] = td;
+        z[n] = tz;
+        theta[n] = t.theta;
+        n += 1;
+    }
+    Ran {
+        done: true,
+        psi: at,
+        b: e.b,
+        big: e.big,
+        y: y,
+        xi: xi,
+        decision: decision,
+        z: z,
+        theta: theta,
+    }
+}

@@ -1,0 +1,10 @@
+pub mod ListTests
+pub mod ElementTests
+pub mod SizesLaws
+pub mod SoundLaws
+pub mod StateTests
+pub mod SetUpLaws
+pub mod ImageLaws
+pub mod StateBits
+pub mod ByteLaws
+pub mod LoadLaws

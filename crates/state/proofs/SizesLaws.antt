@@ -1,0 +1,103 @@
+-- The tests of the sizes and of the step admission, as bounds.
+use mathlib.Core.Path.{_≡_, refl}
+use mathlib.Core.Bool.{Bool, true, false, _&&_, cond}
+use Prim.Native.Nat.{ℕ, _+_, _*_, _^_, _≤_, _<_}
+use native.Mathlib.Omega.{arith}
+use native.Mathlib.Nat.{mul-le-mul, le-of-lt}
+use lib.Dec.{leb}
+use borrow.Author.Tests.{leb-true, le-leb}
+use Rattle.laws.specs.Lists.{and-left, and-right}
+use Rattle.laws.specs.Powers.{rises}
+use Rattle.filter.specs.Settings.{Settings, Within, Admitted, stepBound}
+use Rattle.state.specs.Sizes.{sizesFit, admits, settingsNumber}
+
+-- the last of several tests, and those before it
+pub last-le : (t : Bool) (a b : ℕ) → (t && leb a b) ≡ true → (t ≡ true) × (a ≤ b)
+last-le t a b e = (and-left t (leb a b) e, leb-true a b (and-right t (leb a b) e))
+
+pub refuted : (b : Bool) → (b ≡ true → ⊥) → false ≡ b
+refuted true h = absurd (h refl)
+refuted false h = refl
+
+-- ---- sizes
+
+pub fit-within : (k : Settings) → sizesFit k ≡ true → Within k
+fit-within k e =
+    let L = last-le _ (k .L) 15 e in
+    let r = last-le _ (k .r) 3 (L .0) in
+    let N = last-le _ (k .N) 128 (r .0) in
+    let w = last-le _ (k .p) (k .N + 1) (N .0) in
+    let n = last-le _ 1 (k .N) (w .0) in
+    let Q = last-le _ (k .q) 16 (n .0) in
+    let q = last-le _ 1 (k .q) (Q .0) in
+    let p = last-le _ (k .p) 16 (q .0) in
+    record {
+      p-least = leb-true 1 (k .p) (p .0);
+      p-most = p .1;
+      q-least = q .1;
+      q-most = Q .1;
+      N-least = n .1;
+      N-window = w .1;
+      N-most = N .1;
+      r-most = r .1;
+      L-most = L .1;
+    }
+
+pub within-fit : (k : Settings) → Within k → sizesFit k ≡ true
+within-fit k h =
+    simp (
+      le-leb 1 (k .p) (h .p-least),
+      le-leb (k .p) 16 (h .p-most),
+      le-leb 1 (k .q) (h .q-least),
+      le-leb (k .q) 16 (h .q-most),
+      le-leb 1 (k .N) (h .N-least),
+      le-leb (k .p) (k .N + 1) (h .N-window),
+      le-leb (k .N) 128 (h .N-most),
+      le-leb (k .r) 3 (h .r-most),
+      le-leb (k .L) 15 (h .L-most),
+    )
+
+-- ---- the step admission
+
+pub admits-admitted : (k : Settings) → admits k ≡ true → Admitted k
+admits-admitted k e = leb-true (k .M * stepBound k) (2 ^ (30 + k .L)) e
+
+pub admitted-admits : (k : Settings) → Admitted k → admits k ≡ true
+admitted-admits k h = le-leb (k .M * stepBound k) (2 ^ (30 + k .L)) h
+
+-- the powers of D·2^L, its products, and the product with an M of 32 bits
+module _ (k : Settings) (h : Within k) where
+  pub powers-small : (2 ^ (2 * k .r + 2) ≤ 2 ^ 8) × (2 ^ (2 * k .r + 2 + k .L) ≤ 2 ^ 23) × (2 ^ (2 * k .r + 3 + k .L) ≤ 2 ^ 24)
+  powers-small = (
+    rises {a = 2 * k .r + 2} {b = 8} (omega arith),
+    rises {a = 2 * k .r + 2 + k .L} {b = 23} (omega arith),
+    rises {a = 2 * k .r + 3 + k .L} {b = 24} (omega arith),
+  )
+
+  pub products-small : (k .p * 2 ^ (2 * k .r + 2) ≤ 2 ^ 12) × (k .q * 2 ^ (2 * k .r + 2 + k .L) ≤ 2 ^ 27)
+  products-small = (mul-le-mul (h .p-most) (powers-small .0), mul-le-mul (h .q-most) (powers-small .1))
+
+  pub bound-small : stepBound k ≤ 2 ^ 28
+  bound-small = omega (arith, powers-small, products-small)
+
+  pub product-small : k .M < 2 ^ 32 → k .M * stepBound k ≤ 2 ^ 60
+  product-small m = mul-le-mul (le-of-lt m) bound-small
+
+-- ---- the number of a refusal
+
+pub settings-refused : (k : Settings) → sizesFit k ≡ false → settingsNumber k ≡ 1
+unfolding settingsNumber
+settings-refused k e = rw e
+
+pub settings-number : (k : Settings) → sizesFit k ≡ true → settingsNumber k ≡ cond (admits k) 0 2
+unfolding settingsNumber
+settings-number k e = rw e
+
+two : (a b : Bool) → _≡_ {A = ℕ} (cond a (cond b 0 2) 1) 0 → (a ≡ true) × (b ≡ true)
+two true true e = (refl, refl)
+two true false e = absurd (omega arith)
+two false b e = absurd (omega arith)
+
+pub settings-tests : (k : Settings) → settingsNumber k ≡ 0 → (sizesFit k ≡ true) × (admits k ≡ true)
+unfolding settingsNumber
+settings-tests k e = two (sizesFit k) (admits k) e

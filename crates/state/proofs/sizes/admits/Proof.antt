@@ -1,0 +1,104 @@
+-- The sizes keep every power, product and sum below 2^64.
+use mathlib.Core.Path.{_≡_}
+use Prim.Native.Nat.{_+_, _*_, _^_, _%_}
+use native.Mathlib.Omega.{arith}
+use mir.Syntax.{w64}
+use borrow.Author.Needs.{needs}
+use Rattle.laws.specs.Machine.{one-shifted}
+use Rattle.filter.specs.Settings.{Settings, Within}
+use Rattle.state.specs.Sizes.{given}
+use Rattle.state.proofs.SizesLaws.{fit-within, powers-small, products-small, bound-small, product-small}
+use Rattle.state.proofs.sizes.admits.Statement.{statement}
+use Rattle.state.proofs.sizes.admits.Tie as tie
+
+abbrev sizes : tie.Start → Settings
+sizes c = let a = c .args in given (a .p) (a .q) 128 (a .r) (a .l) (a .m)
+
+within : (c : tie.Start) → Within (sizes c)
+within c = fit-within (sizes c) (c .pre)
+
+-- the shifts
+one : (c : tie.Start) → 1 * 2 ^ (2 * c .args .r + 3 + c .args .l) % 2 ^ 64 ≡ 2 ^ (2 * c .args .r + 3 + c .args .l)
+one c = one-shifted w64 (2 * c .args .r + 3 + c .args .l) (omega (arith, within c))
+
+two : (c : tie.Start) → 1 * 2 ^ (2 * c .args .r + 2) % 2 ^ 64 ≡ 2 ^ (2 * c .args .r + 2)
+two c = one-shifted w64 (2 * c .args .r + 2) (omega (arith, within c))
+
+three : (c : tie.Start) → 1 * 2 ^ (2 * c .args .r + 2 + c .args .l) % 2 ^ 64 ≡ 2 ^ (2 * c .args .r + 2 + c .args .l)
+three c = one-shifted w64 (2 * c .args .r + 2 + c .args .l) (omega (arith, within c))
+
+four : (c : tie.Start) → 1 * 2 ^ (30 + c .args .l) % 2 ^ 64 ≡ 2 ^ (30 + c .args .l)
+four c = one-shifted w64 (30 + c .args .l) (omega (arith, within c))
+
+mul-e : tie.Need-mul-e
+mul-e c = search needs
+
+add-d : tie.Need-add-d
+add-d c = search needs
+
+add-d-2 : tie.Need-add-d-2
+add-d-2 c = search needs
+
+shl-d : tie.Need-shl-d
+shl-d c = omega (arith, within c)
+
+add-d-3 : tie.Need-add-d-3
+add-d-3 c = search needs
+
+shl-d-2 : tie.Need-shl-d-2
+shl-d-2 c = omega (arith, within c)
+
+mul-d : tie.Need-mul-d
+mul-d c = simp (two c) (record { fits = omega (arith, products-small (sizes c) (within c) .0) })
+
+add-d-4 : tie.Need-add-d-4
+add-d-4 c = simp (one c, two c) (record { fits = omega (arith, powers-small (sizes c) (within c) .2, products-small (sizes c) (within c) .0) })
+
+add-d-5 : tie.Need-add-d-5
+add-d-5 c = search needs
+
+add-d-6 : tie.Need-add-d-6
+add-d-6 c = search needs
+
+shl-d-3 : tie.Need-shl-d-3
+shl-d-3 c = omega (arith, within c)
+
+mul-d-2 : tie.Need-mul-d-2
+mul-d-2 c = simp (three c) (record { fits = omega (arith, products-small (sizes c) (within c) .1) })
+
+add-d-7 : tie.Need-add-d-7
+add-d-7 c = simp (one c, two c, three c) (record { fits = omega (arith, bound-small (sizes c) (within c)) })
+
+mul-result : tie.Need-mul-result
+mul-result c = simp (one c, two c, three c) (record { fits = omega (arith, product-small (sizes c) (within c) (c .fits .m .fits)) })
+
+add-result : tie.Need-add-result
+add-result c = search needs
+
+shl-result : tie.Need-shl-result
+shl-result c = omega (arith, within c)
+
+returns : tie.Need-returns
+returns c = simp (one c, two c, three c, four c)
+
+pub admits-spec : {M : Type 1} → statement M
+admits-spec =
+    tie.close
+    (tie.spec
+    mul-e
+    add-d
+    add-d-2
+    shl-d
+    add-d-3
+    shl-d-2
+    mul-d
+    add-d-4
+    add-d-5
+    add-d-6
+    shl-d-3
+    mul-d-2
+    add-d-7
+    mul-result
+    add-result
+    shl-result
+    returns)

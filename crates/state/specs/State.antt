@@ -1,0 +1,111 @@
+-- The state of a station, in the image's order, and when it is sound.
+use mathlib.Core.Bool.{Bool, _&&_, cond}
+use mathlib.Core.List.{List, [], _∷_, _++_}
+use Prim.Native.Nat.{ℕ, _+_, _-_, _*_, _^_}
+use lib.Dec.{leb, ltb, eqb}
+use lib.ListN.{length, take, drop, getD, replicate}
+use lib.IntN.{ℤ, pos, natAbs}
+use Rattle.laws.specs.Lists.{all}
+use Rattle.filter.specs.Settings.{Settings, scaleForward, isEntry, exponentLimit}
+use Rattle.filter.specs.Side.{allSmall}
+use Rattle.block.specs.Block.{Memory}
+use Rattle.state.specs.Sizes.{sizesFit, admits}
+use Rattle.state.specs.declared.equaliser.Equaliser.{Equaliser}
+
+-- places of either array, the spare ones with them
+abbrev pub places : ℕ
+places = 32
+
+-- ---- the parts of a state
+
+abbrev pub settings : Equaliser → Settings
+settings e = record { p = e .p; q = e .q; N = e .n; r = e .r; L = e .l; M = e .m }
+
+abbrev pub taps : Equaliser → ℕ
+taps e = e .p + e .q
+
+-- weights: p feed forward, then q feedback
+abbrev pub forward : Equaliser → List ℤ
+forward e = take (e .p) (e .weights)
+
+abbrev pub back : Equaliser → List ℤ
+back e = take (e .q) (drop (e .p) (e .weights))
+
+-- data: the last p − 1 stored samples newest first, a 0, then q symbols newest first
+abbrev pub samples : Equaliser → List ℤ
+samples e = take (e .p - 1) (e .past)
+
+abbrev pub filler : Equaliser → ℤ
+filler e = getD (e .past) (e .p - 1) (pos 0)
+
+abbrev pub symbols : Equaliser → List ℤ
+symbols e = take (e .q) (drop (e .p) (e .past))
+
+-- what the last block left
+abbrev pub memory : Equaliser → Memory
+memory e = record { forward = forward e; back = back e; samples = samples e; symbols = symbols e; ψ = e .psi; b = e .b; B = e .big }
+
+-- ---- soundness
+
+abbrev pub isZero : ℤ → Bool
+isZero z = eqb (natAbs z) 0
+
+-- |A|·2^(B+S) < 2^(15+b)
+abbrev pub isStored : ℕ → ℕ → ℕ → ℤ → Bool
+isStored s b B a = ltb (natAbs a * 2 ^ (B + s)) (2 ^ (15 + b))
+
+abbrev pub soundExponents : Equaliser → Bool
+soundExponents e = leb (e .psi) exponentLimit && leb (e .b) (e .big) && leb (e .big + e .l) 31
+
+abbrev pub soundWeights : Equaliser → Bool
+soundWeights e = allSmall (take (taps e) (e .weights)) && all isZero (drop (taps e) (e .weights))
+
+abbrev pub soundPast : Equaliser → Bool
+soundPast e =
+    all (isStored (scaleForward (settings e)) (e .b) (e .big)) (samples e) && isZero (filler e) && all (isEntry (e .r)) (symbols e)
+    && all isZero (drop (taps e) (e .past))
+
+unfoldable pub isSound : Equaliser → Bool
+isSound e = soundExponents e && soundWeights e && soundPast e
+
+-- ---- states
+
+-- a list at the front of the places, zeros after it
+abbrev pub padded : List ℤ → List ℤ
+padded l = l ++ replicate (places - length l) (pos 0)
+
+-- the state with these settings and this memory
+unfoldable pub stateOf : Settings → Memory → Equaliser
+stateOf k o = record {
+  p = k .p;
+  q = k .q;
+  n = k .N;
+  r = k .r;
+  l = k .L;
+  psi = o .ψ;
+  b = o .b;
+  big = o .B;
+  m = k .M;
+  weights = padded (o .forward ++ o .back);
+  past = padded (o .samples ++ pos 0 ∷ o .symbols);
+}
+
+-- weights, ψ, past samples and symbols, b and B of 0
+unfoldable pub fresh : Settings → Equaliser
+fresh k = record {
+  p = k .p;
+  q = k .q;
+  n = k .N;
+  r = k .r;
+  l = k .L;
+  psi = 0;
+  b = 0;
+  big = 0;
+  m = k .M;
+  weights = replicate places (pos 0);
+  past = replicate places (pos 0);
+}
+
+-- the state of a refused set-up
+unfoldable pub refused : Equaliser
+refused = fresh (record { p = 1; q = 1; N = 1; r = 0; L = 0; M = 0 })

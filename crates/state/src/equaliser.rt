@@ -1,0 +1,143 @@
+// The equaliser of a station: its state in the image's order, its limits and its operations.
+ghost use mathlib.Core.Path.{_≡_};
+ghost use Rattle.state.specs.Sizes.{given};
+ghost use Rattle.state.specs.State.{fresh};
+ghost use Rattle.state.specs.Answers.{SetUp};
+ghost use Rattle.state.specs.Image.{Save};
+ghost use Rattle.state.specs.Load.{Load};
+
+#[repr(C)]
+pub struct Equaliser {
+    pub p: u8,
+    pub q: u8,
+    pub n: u8,
+    pub r: u8,
+    pub l: u8,
+    pub psi: u8,
+    pub b: u8,
+    pub big: u8,
+    pub m: u32,
+    pub weights: [i16; 32],
+    pub past: [i16; 32],
+}
+
+// A number beside a state.
+#[repr(C)]
+pub struct Answer {
+    pub number: u8,
+    pub state: Equaliser,
+}
+
+// A number beside the length of an image.
+#[repr(C)]
+pub struct Saved {
+    pub number: u8,
+    pub length: usize,
+}
+
+// Weights, ψ, past samples and symbols, b and B of 0.
+pub fn fresh(p: u8, q: u8, n: u8, r: u8, l: u8, m: u32) -> Equaliser
+    ensures { λ e. ⌜ e ≡ fresh (given p q n r l m) ⌝ }
+{
+    Equaliser {
+        p: p,
+        q: q,
+        n: n,
+        r: r,
+        l: l,
+        psi: 0,
+        b: 0,
+        big: 0,
+        m: m,
+        weights: [0i16; 32],
+        past: [0i16; 32],
+    }
+}
+
+impl Equaliser {
+    // The limits.
+    pub const TAPS: u8 = 16;
+
+    pub const BLOCK: u8 = 128;
+
+    pub const SYMBOLS: u8 = 3;
+
+    pub const GAIN: u8 = 15;
+
+    pub const EXPONENT: u8 = 15;
+
+    pub const IMAGE: usize = 140;
+
+    // A fresh state, or the number of the refusal beside the smallest one.
+    pub fn set_up(p: u8, q: u8, n: u8, r: u8, l: u8, m: u32) -> Answer
+        ensures { λ a. ⌜ SetUp (given p q n r l m) a ⌝ }
+    {
+        let number = super::sizes::settings_number(p, q, n, r, l, m);
+        if number == 0 {
+            return Answer {
+                number: 0,
+                state: fresh(p, q, n, r, l, m),
+            };
+        }
+        Answer {
+            number: number,
+            state: fresh(1, 1, 1, 0, 0, 0),
+        }
+    }
+
+    // The image at the front of a lent buffer, or the number of the refusal and the buffer as it was.
+    pub fn save(self, buffer: &mut [u8]) -> Saved
+        ensures { λ s. ⌜ Save self (now (buffer .entry)) s (now (buffer .exit)) ⌝ }
+    {
+        let number = super::sound::examined(self);
+        if number != 0 {
+            return Saved {
+                number: number,
+                length: 0,
+            };
+        }
+        let taps = (self.p as usize) + (self.q as usize);
+        let mid = 12 + 2 * taps;
+        let end = mid + 2 * taps;
+        if buffer.len() < end {
+            return Saved {
+                number: 7,
+                length: 0,
+            };
+        }
+        let weights = self.weights;
+        let past = self.past;
+        super::image::put_header(self, &mut buffer[..12]);
+        super::image::put_words(&weights[..taps], &mut buffer[12..mid]);
+        super::image::put_words(&past[..taps], &mut buffer[mid..end]);
+        Saved {
+            number: 0,
+            length: end,
+        }
+    }
+
+    // The state that bytes hold, or the number of the refusal beside the smallest one.
+    pub fn load(bytes: &[u8]) -> Answer
+        ensures { λ a. ⌜ Load (now (bytes .entry)) a ⌝ }
+    {
+        let frame = super::load::frame_number(bytes);
+        if frame != 0 {
+            return Answer {
+                number: frame,
+                state: fresh(1, 1, 1, 0, 0, 0),
+            };
+        }
+        let e = super::load::state_in(bytes);
+        let number = super::sound::examined(e);
+        if number != 0 {
+            return Answer {
+                number: number,
+                state: fresh(1, 1, 1, 0, 0, 0),
+            };
+        }
+        Answer {
+            number: 0,
+            state: e,
+        }
+    }
+}

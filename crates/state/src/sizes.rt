@@ -1,0 +1,47 @@
+// The sizes and the step admission.
+ghost use mathlib.Core.Path.{_≡_};
+ghost use mathlib.Core.Bool.{true};
+ghost use Rattle.state.specs.Sizes.{sizesFit, admits, settingsNumber, given};
+use super::equaliser::Equaliser;
+
+// Whether every size is within its limits.
+pub fn sizes_fit(p: u8, q: u8, n: u8, r: u8, l: u8) -> bool
+    ensures { λ f. ⌜ f ≡ sizesFit (given p q n r l 0) ⌝ }
+{
+    if p < 1 || Equaliser::TAPS < p || q < 1 || Equaliser::TAPS < q {
+        return false;
+    }
+    if n < 1 || Equaliser::BLOCK < n {
+        return false;
+    }
+    if n + 1 < p {
+        return false;
+    }
+    if Equaliser::SYMBOLS < r || Equaliser::GAIN < l {
+        return false;
+    }
+    true
+}
+
+// Whether M·D ≤ 2^30, both sides times 2^L.
+pub fn admits(p: u8, q: u8, r: u8, l: u8, m: u32) -> bool
+    requires { ⌜ sizesFit (given p q 128 r l 0) ≡ true ⌝ }
+    ensures { λ f. ⌜ f ≡ admits (given p q 128 r l m) ⌝ }
+{
+    let e = 2 * (r as u64);
+    let d = (1u64 << (e + 3 + (l as u64)))
+        + (p as u64) * (1u64 << (e + 2))
+        + (q as u64) * (1u64 << (e + 2 + (l as u64)));
+    (m as u64) * d <= 1u64 << (30 + (l as u64))
+}
+
+// 1 for a size outside its limits, then 2 for an M that is not admitted, else 0.
+pub fn settings_number(p: u8, q: u8, n: u8, r: u8, l: u8, m: u32) -> u8
+    ensures { λ f. ⌜ f ≡ settingsNumber (given p q n r l m) ⌝ }
+{
+    if sizes_fit(p, q, n, r, l) {
+        if admits(p, q, r, l, m) { 0 } else { 2 }
+    } else {
+        1
+    }
+}
