@@ -1,3 +1,4 @@
+pub mod ValuesLaws
 pub mod WorkedExample
 pub mod ReceivedLaws
 pub mod BlockExponents

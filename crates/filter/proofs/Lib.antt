@@ -15,3 +15,4 @@ pub mod DistanceSide
 pub mod Distance
 pub mod SampleLaws
 pub mod StepLaws
+pub mod SampleSteps

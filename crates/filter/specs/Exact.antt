@@ -1,11 +1,16 @@
 -- The exact LMS step, and what holds at a sample. Each comparison is of whole numbers: both sides times the same power of two.
-use Prim.Native.Nat.{ℕ, _+_, _*_, _^_, _≤_, _<_}
+use mathlib.Core.Path.{_≡_}
+use mathlib.Core.Bool.{cond}
+use mathlib.Core.List.{map}
+use Prim.Native.Nat.{ℕ, suc, _+_, _*_, _-_, _^_, _≤_, _<_}
+use lib.Dec.{ltb}
 use lib.ListN.{length, getD}
 use lib.IntN.{ℤ, pos, natAbs, _+ℤ_, _-ℤ_, _*ℤ_}
 use Rattle.laws.specs.Sums.{dot, Each}
-use Rattle.numbers.specs.Cut.{raise}
-use Rattle.filter.specs.Settings.{Settings}
-use Rattle.filter.specs.Sample.{Taps, F, H, Y, ξ, Z, θ, v, J, forwardSide, backSide, newForward, newBack, next}
+use Rattle.numbers.specs.Cut.{cut, raise}
+use Rattle.filter.specs.Settings.{Settings, scaleForward, scaleBack}
+use Rattle.filter.specs.Side.{adapt, halved}
+use Rattle.filter.specs.Sample.{Taps, ν, held, F, H, Y, ξ, Z, θ, κ, v, J, forwardSide, backSide, newForward, newBack, next}
 use Rattle.filter.specs.Sound.{Small}
 
 -- y*·2^60: the unrounded sum of weight times data, W·2^(ψ−15)·A·2^(γ−15) and W·2^(ψ−15)·v
@@ -48,3 +53,28 @@ pub record Faithful (k : Settings) (g : ℕ) (t : Taps) (entry : ℤ) : Type 0 w
   pub back-near : (n : ℕ) → n < length (t .back) →
       Near (next k g t entry .ψ) (getD (next k g t entry .back) n (pos 0))
       (exactWeight (k .M) (t .ψ) (exactOutput g t) (v k g t entry) (getD (t .symbols) n (pos 0)) 45 (getD (t .back) n (pos 0)))
+
+-- what holds at a sample: each number is what its step gives, and none is brought to an end of a range
+pub record Unclipped (k : Settings) (g : ℕ) (t : Taps) (entry : ℤ) : Type 0 where
+  -- step 2
+  pub F-is : F k g t entry ≡ dot (t .forward) (t .samples)
+  pub H-is : H k g t entry ≡ dot (t .back) (map (held k g t entry) (t .symbols))
+  -- step 3
+  pub Y-is : Y k g t entry ≡
+      cond (ltb (ν k g t entry + 30) g) (F k g t entry +ℤ cut (H k g t entry) (g - (ν k g t entry + 30)))
+      (H k g t entry +ℤ cut (F k g t entry) (ν k g t entry + 30 - g))
+  -- step 5
+  pub Z-is : Z k g t entry ≡
+      cond (ltb (ξ k g t entry) (κ k g t entry)) (raise (v k g t entry) (30 - κ k g t entry) -ℤ cut (Y k g t entry) (κ k g t entry - ξ k g t entry))
+      (raise (v k g t entry) (30 - ξ k g t entry) -ℤ Y k g t entry)
+  -- step 6
+  pub J-forward-is : J k g t entry (forwardSide k g t entry) ≡ cut (pos (k .M) *ℤ Z k g t entry) (60 + t .ψ + scaleForward k - (g + θ k g t entry))
+  pub J-back-is : J k g t entry (backSide k g t entry) ≡ cut (pos (k .M) *ℤ Z k g t entry) (60 + t .ψ + scaleBack k - (ν k g t entry + 30 + θ k g t entry))
+  pub new-forward-is : newForward k g t entry ≡ adapt (raise (J k g t entry (forwardSide k g t entry)) (scaleForward k)) (t .forward) (t .samples)
+  pub new-back-is : newBack k g t entry ≡ adapt (raise (J k g t entry (backSide k g t entry)) (scaleBack k)) (t .back) (map (held k g t entry) (t .symbols))
+
+-- what step 7 leaves: the new weights as they are, or the cut half of every one of them, once
+pub data Settled (k : Settings) (g : ℕ) (t : Taps) (entry : ℤ) : Type 0 where
+  kept : next k g t entry .forward ≡ newForward k g t entry → next k g t entry .back ≡ newBack k g t entry → next k g t entry .ψ ≡ t .ψ → Settled k g t entry
+  halved-once : next k g t entry .forward ≡ halved (newForward k g t entry) → next k g t entry .back ≡ halved (newBack k g t entry) → next k g t entry .ψ ≡ suc (t .ψ) →
+      Settled k g t entry

@@ -14,11 +14,8 @@ use borrow.Author.Tests.{eqb-true}
 use Rattle.laws.specs.Lists.{all, and-left, and-right}
 use Rattle.laws.specs.Sums.{Each}
 use Rattle.state.specs.State.{isZero, padded, places}
-use Rattle.state.specs.Image.{bytes, words}
+use Rattle.state.specs.Image.{Byte, bytes, words}
 use Rattle.state.specs.Load.{number, wordsOf}
-
-abbrev pub Byte : ℕ → Type 0
-Byte b = b < 256
 
 -- ---- a number and its bytes
 

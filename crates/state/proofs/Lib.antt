@@ -8,3 +8,4 @@ pub mod ImageLaws
 pub mod StateBits
 pub mod ByteLaws
 pub mod LoadLaws
+pub mod KeptLaws

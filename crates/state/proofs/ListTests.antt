@@ -14,6 +14,10 @@ pub each-tested {ℓ} : {A : Type ℓ} (p : A → Bool) (P : A → Type 0) → (
 each-tested p P f [] e = tt
 each-tested p P f (x ∷ xs) e = (f x (and-left (p x) (all p xs) e), each-tested p P f xs (and-right (p x) (all p xs) e))
 
+pub tested-each {ℓ} : {A : Type ℓ} (p : A → Bool) (P : A → Type 0) → ((x : A) → P x → p x ≡ true) → (xs : List A) → Each P xs → all p xs ≡ true
+tested-each p P f [] h = refl
+tested-each p P f (x ∷ xs) h = ap₂ (λ (a b : Bool). a && b) (f x (h .0)) (tested-each p P f xs (h .1))
+
 pub each-parts {ℓ} : {A : Type ℓ} (P : A → Type 0) (xs ys : List A) → Each P (xs ++ ys) → Each P xs × Each P ys
 each-parts P [] ys h = (tt, h)
 each-parts P (x ∷ xs) ys h = let r = each-parts P xs ys (h .1) in ((h .0, r .0), r .1)

@@ -13,13 +13,13 @@ use Rattle.laws.specs.Sums.{Each, each-take, each-drop}
 use Rattle.state.specs.Sizes.{sizesFit}
 use Rattle.state.specs.State.{settings, taps, padded, places}
 use Rattle.state.specs.Answers.{examined}
-use Rattle.state.specs.Image.{bytes, words, header, image, imageLength}
+use Rattle.state.specs.Image.{Byte, bytes, words, header, image, imageLength}
 use Rattle.state.specs.Load.{number, wordsOf, tapsIn, weightBytes, pastBytes, stateIn, frameNumber, loadNumber, loadState}
 use Rattle.state.specs.declared.equaliser.Equaliser.{Equaliser}
 use Rattle.state.proofs.SoundLaws.{examined-tests}
 use Rattle.state.proofs.StateBits.{spare-zero, step-bits, weights-bits, past-bits}
 use Rattle.state.proofs.ImageLaws.{words-long, taps-most, image-length}
-use Rattle.state.proofs.ByteLaws.{Byte, number-bytes, bytes-number, words-back, words-forth, padded-back, padded-long}
+use Rattle.state.proofs.ByteLaws.{number-bytes, bytes-number, words-back, words-forth, padded-back, padded-long}
 
 -- ---- the tests of loading
 

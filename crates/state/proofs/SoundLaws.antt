@@ -97,7 +97,7 @@ examined-sound e w d h = let t = examined-tests e h in sound-state e (t .0) w d 
 
 -- ---- a fresh state
 
-both : (a b : Bool) → a ≡ true → b ≡ true → (a && b) ≡ true
+pub both : (a b : Bool) → a ≡ true → b ≡ true → (a && b) ≡ true
 both a b f g = ap₂ (λ (a b : Bool). a && b) f g
 
 abbrev zeros : List ℤ

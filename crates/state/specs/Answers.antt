@@ -11,9 +11,13 @@ use Rattle.state.specs.declared.equaliser.Answer.{Answer}
 
 -- ---- set-up
 
+-- a fresh state, or that of a refusal
+abbrev pub setUpState : Settings → Equaliser
+setUpState k = cond (eqb (settingsNumber k) 0) (fresh k) refused
+
 pub record SetUp (k : Settings) (a : Answer) : Type 0 where
   pub number : a .number ≡ settingsNumber k
-  pub state : a .state ≡ cond (eqb (settingsNumber k) 0) (fresh k) refused
+  pub state : a .state ≡ setUpState k
 
 -- ---- the state that an operation is given: 1, 2, 9, or 0
 

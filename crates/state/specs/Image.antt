@@ -2,7 +2,7 @@
 use mathlib.Core.Bool.{cond}
 use mathlib.Core.List.{List, [], _∷_, _++_}
 use mathlib.Core.Path.{_≡_}
-use Prim.Native.Nat.{ℕ, zero, suc, _+_, _*_, _/_, _%_}
+use Prim.Native.Nat.{ℕ, zero, suc, _+_, _*_, _/_, _%_, _<_}
 use lib.Dec.{leb, eqb}
 use lib.ListN.{length, take, drop}
 use lib.IntN.{ℤ}
@@ -12,6 +12,9 @@ use Rattle.state.specs.State.{taps}
 use Rattle.state.specs.Answers.{examined}
 use Rattle.state.specs.declared.equaliser.Equaliser.{Equaliser}
 use Rattle.state.specs.declared.equaliser.Saved.{Saved}
+
+abbrev pub Byte : ℕ → Type 0
+Byte b = b < 256
 
 -- the lowest k bytes of n, lowest first
 unfoldable pub bytes : ℕ → ℕ → List ℕ

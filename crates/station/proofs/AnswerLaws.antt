@@ -1,14 +1,25 @@
 -- What running a block answers: a refusal, or what an accepted block leaves and hands out.
-use mathlib.Core.Path.{_≡_, sym, ap, _∙_}
-use mathlib.Core.Bool.{true, false, cond}
+use mathlib.Core.Path.{_≡_, refl, sym, ap, _∙_}
+use mathlib.Core.Bool.{Bool, true, false, cond}
 use mathlib.Core.List.{List}
 use Prim.Native.Nat.{ℕ}
+use native.Mathlib.Omega.{arith}
+use lib.Dec.{eqb}
 use lib.IntN.{ℤ}
-use borrow.Author.Tests.{ne-eqb, eq-eqb}
+use borrow.Author.Tests.{ne-eqb, eq-eqb, eqb-true, eqb-false}
 use Rattle.block.specs.Block.{goes, left, handedY, handedξ, handedDecision, handedZ, handedθ}
 use Rattle.state.specs.State.{settings, memory, stateOf}
 use Rattle.station.specs.Answers.{Lent, block, checkNumber, runNumber, runState, accepted, Run}
 use Rattle.state.specs.declared.equaliser.Equaliser.{Equaliser}
+
+pub run-tests : (e : Equaliser) (l : Lent) → runNumber e l ≡ 0 → (checkNumber e l ≡ 0) × (goes (settings e) (memory e) (block l) (e .n) ≡ true)
+unfolding runNumber
+run-tests e l h = go (checkNumber e l) (eqb (checkNumber e l) 0) (goes (settings e) (memory e) (block l) (e .n)) refl h
+  where
+    go : (n : ℕ) (t a : Bool) → eqb n 0 ≡ t → cond t (cond a 0 6) n ≡ 0 → (n ≡ 0) × (a ≡ true)
+    go n true true f h = (eqb-true n 0 f, refl)
+    go n true false f h = absurd (omega arith)
+    go n false a f h = absurd (eqb-false n 0 f h)
 
 module _ (e : Equaliser) (l : Lent) where
   -- ---- the number

@@ -5,11 +5,7 @@ use mathlib.Core.List.{List, [], _∷_, _++_}
 use Prim.Native.Nat.{ℕ, zero, suc, _+_, _*_, _^_, _≤_, _<_}
 use native.Mathlib.Omega.{arith}
 use lib.Dec.{eqb}
-use mathlib.Core.Logic.{_⊎_, inl, inr}
-use native.Mathlib.Nat.{eq-or-lt-of-le, suc-inj}
-use native.Mathlib.Numerals.{add-one}
-use lib.ListN.{length, getD, length-append, List·getD-append}
-use lib.Seq.{getD-at}
+use lib.ListN.{length, getD}
 use lib.IntN.{ℤ, pos, natAbs}
 use borrow.Author.Tests.{eqb-true, eqb-false}
 use Rattle.laws.specs.Lists.{all}
@@ -18,6 +14,7 @@ use Rattle.filter.specs.Settings.{isEntry}
 use Rattle.filter.specs.Sample.{Y, ξ, decision}
 use Rattle.block.specs.Block.{Block, Memory, g, at, goes, entryAt, values, handedY, handedξ, handedDecision}
 use Rattle.filter.proofs.SymbolLaws.{symbol-below, decide-symbol}
+use Rattle.block.proofs.ValuesLaws.{values-length, values-at}
 use Rattle.block.proofs.BlockHolds.{bounded-at}
 use Rattle.state.specs.Sizes.{sizesFit, admits}
 use Rattle.state.specs.State.{settings, memory, isSound}
@@ -26,6 +23,7 @@ use Rattle.state.specs.Answers.{examined}
 use Rattle.station.specs.Calls.{Checked, Sampled}
 use Rattle.state.specs.declared.equaliser.Equaliser.{Equaliser}
 use Rattle.station.proofs.CheckLaws.{checked-is}
+use Rattle.station.proofs.AnswerLaws.{run-tests}
 use Rattle.trace_text.specs.Calls.{Printable, AllPrintable}
 
 -- ---- numbers
@@ -59,31 +57,6 @@ run-most e l = go (eqb (checkNumber e l) 0) (goes (settings e) (memory e) (block
     go true true = omega arith
     go true false = omega arith
     go false a = check-most e l
-
-pub run-tests : (e : Equaliser) (l : Lent) → runNumber e l ≡ 0 → (checkNumber e l ≡ 0) × (goes (settings e) (memory e) (block l) (e .n) ≡ true)
-unfolding runNumber
-run-tests e l h = go (checkNumber e l) (eqb (checkNumber e l) 0) (goes (settings e) (memory e) (block l) (e .n)) refl h
-  where
-    go : (n : ℕ) (t a : Bool) → eqb n 0 ≡ t → cond t (cond a 0 6) n ≡ 0 → (n ≡ 0) × (a ≡ true)
-    go n true true f h = (eqb-true n 0 f, refl)
-    go n true false f h = absurd (omega arith)
-    go n false a f h = absurd (eqb-false n 0 f h)
-
--- ---- the values of a function at 0 to n − 1
-
-pub values-length {ℓ} : {A : Type ℓ} (f : ℕ → A) (n : ℕ) → length (values f n) ≡ n
-unfolding values
-values-length f zero = refl
-values-length f (suc n) = length-append (values f n) (f n ∷ []) ∙ ap (λ (m : ℕ). m + 1) (values-length f n) ∙ add-one n
-
-pub values-at {ℓ} : {A : Type ℓ} (f : ℕ → A) (d : A) (n i : ℕ) → i < n → getD (values f n) i d ≡ f i
-unfolding values
-values-at f d zero i h = absurd (omega arith)
-values-at f d (suc n) i h = go (eq-or-lt-of-le h) (λ l. values-at f d n i l)
-  where
-    go : (suc i ≡ suc n) ⊎ (suc i < suc n) → (i < n → getD (values f n) i d ≡ f i) → getD (values f n ++ (f n ∷ [])) i d ≡ f i
-    go (inl q) rest = getD-at (values f n) (f n) [] d i (values-length f n ∙ sym (suc-inj q)) ∙ ap f (sym (suc-inj q))
-    go (inr l) rest = List·getD-append (values f n) (f n ∷ []) d i (omega (arith, values-length f n)) ∙ rest (omega arith)
 
 -- ---- what an accepted block hands out can be printed
 

@@ -28,7 +28,8 @@ use Rattle.trace_text.specs.Calls.{lineLimit, AllPrintable, Runnable, Ha
 use Rattle.trace_text.specs.declared.blocks.Heard.{Heard}
 use Rattle.trace_text.proofs.LineLaws.{lines-short}
 use Rattle.trace_text.proofs.FrontLaws.{front-text}
-use Rattle.trace_text.proofs.BlockTextLaws.{run-most, values-length, values-at, printable}
+use Rattle.block.proofs.ValuesLaws.{values-length, values-at}
+use Rattle.trace_text.proofs.BlockTextLaws.{run-most, printable}
 
 -- ---- the lists that a block is run on
 

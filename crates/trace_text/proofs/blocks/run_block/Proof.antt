@@ -9,7 +9,7 @@ use Rattle.station.specs.Answers.{Lent}
 use Rattle.station.specs.Calls.{lentOf}
 use Rattle.trace_text.specs.Trace.{byteAt, lentAt}
 use Rattle.trace_text.specs.Calls.{Runnable}
-use Rattle.trace_text.proofs.BlockTextLaws.{values-length}
+use Rattle.block.proofs.ValuesLaws.{values-length}
 use Rattle.trace_text.proofs.HeardLaws.{zeros, lent-is, sampled, heard}
 use Rattle.trace_text.proofs.blocks.run_block.Statement.{statement}
 use Rattle.trace_text.proofs.blocks.run_block.Tie as tie
