@@ -4,3 +4,4 @@ pub mod CheckLaws
 pub mod RunLaws
 pub mod AnswerLaws
 pub mod StarredCases
+pub mod Claim
