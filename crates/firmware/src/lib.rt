@@ -1,0 +1,45 @@
+// The equaliser for firmware in C.
+ghost use Rattle.state.specs.Sizes.{given};
+ghost use Rattle.station.specs.Calls.{lentOf};
+ghost use Rattle.state.specs.Answers.{SetUp};
+ghost use Rattle.station.specs.Answers.{Run};
+ghost use Rattle.state.specs.Image.{Save};
+use state::equaliser::Answer;
+use state::equaliser::Equaliser;
+use state::equaliser::Saved;
+
+// A fresh state, or the number of the refusal beside the smallest one.
+#[no_mangle]
+pub extern "C" fn tigbulode_set_up(p: u8, q: u8, n: u8, r: u8, l: u8, m: u32) -> Answer
+    ensures { λ a. ⌜ SetUp (given p q n r l m) a ⌝ }
+{
+    Equaliser::set_up(p, q, n, r, l, m)
+}
+
+// The image at the front of a lent buffer, or the number of the refusal and the buffer as it was.
+#[no_mangle]
+pub extern "C" fn tigbulode_save(e: Equaliser, buffer: &mut [u8]) -> Saved
+    ensures { λ s. ⌜ Save e (now (buffer .entry)) s (now (buffer .exit)) ⌝ }
+{
+    e.save(buffer)
+}
+
+// One block in place: the next state and five lists, or the number of the refusal and everything as it was.
+#[no_mangle]
+pub extern "C" fn tigbulode_run(
+    s: &mut Equaliser,
+    m: &[i16],
+    gains: &[u8],
+    entries: &[i8],
+    y: &mut [i32],
+    xi: &mut [u8],
+    decision: &mut [i8],
+    z: &mut [i32],
+    theta: &mut [u8],
+) -> u8
+    ensures { λ n. ⌜ Run (now (s .entry)) (lentOf (now (m .entry)) (now (gains .entry)) (now (entries .entry)) (now (y .entry)) (now (xi .entry)) (now (decision .entry)) (now (z .entry)) (now (theta .entry))) (record { number = n; state = now (s .exit) }) (now (y .exit)) (now (xi .exit)) (now (decision .exit)) (now (z .exit)) (now (theta .exit)) ⌝ }
+{
+    let r = station::run::run(*s, m, gains, entries, y, xi, decision, z, theta);
+    *s = r.state;
+    r.number
+}
