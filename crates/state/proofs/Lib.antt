@@ -7,4 +7,5 @@ pub mod SetUpLaws
 pub mod ImageLaws
 pub mod StateBits
 pub mod ByteLaws
+pub mod WordLaws
 pub mod LoadLaws
