@@ -8,4 +8,5 @@ pub mod ImageLaws
 pub mod StateBits
 pub mod ByteLaws
 pub mod WordLaws
+pub mod FrameLaws
 pub mod LoadLaws
