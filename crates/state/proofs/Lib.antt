@@ -10,3 +10,4 @@ pub mod ByteLaws
 pub mod WordLaws
 pub mod FrameLaws
 pub mod LoadLaws
+pub mod LoadAnswers
