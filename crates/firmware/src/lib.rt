@@ -4,6 +4,7 @@ ghost use Rattle.station.specs.Calls.{lentOf};
 ghost use Rattle.state.specs.Answers.{SetUp};
 ghost use Rattle.station.specs.Answers.{Run};
 ghost use Rattle.state.specs.Image.{Save};
+ghost use Rattle.state.specs.Load.{Load};
 use state::equaliser::Answer;
 use state::equaliser::Equaliser;
 use state::equaliser::Saved;
@@ -22,6 +23,14 @@ pub extern "C" fn tigbulode_save(e: Equaliser, buffer: &mut [u8]) -> Saved
     ensures { λ s. ⌜ Save e (now (buffer .entry)) s (now (buffer .exit)) ⌝ }
 {
     e.save(buffer)
+}
+
+// The state that bytes hold, or the number of the refusal beside the smallest one.
+#[no_mangle]
+pub extern "C" fn tigbulode_load(bytes: &[u8]) -> Answer
+    ensures { λ a. ⌜ Load (now (bytes .entry)) a ⌝ }
+{
+    Equaliser::load(bytes)
 }
 
 // One block in place: the next state and five lists, or the number of the refusal and everything as it was.

@@ -7,5 +7,8 @@ pub mod SetUpLaws
 pub mod ImageLaws
 pub mod StateBits
 pub mod ByteLaws
+pub mod WordLaws
+pub mod FrameLaws
 pub mod LoadLaws
 pub mod KeptLaws
+pub mod LoadAnswers

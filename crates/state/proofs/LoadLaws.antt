@@ -106,11 +106,11 @@ module _ (e : Equaliser) (weights : length (e .weights) ≡ 32) (past : length (
 -- ---- accepted bytes are an image
 
 -- the elements from i on, one by one
-abbrev each : ℕ → ℕ → List ℕ → List ℕ
+abbrev pub each : ℕ → ℕ → List ℕ → List ℕ
 each i zero l = []
 each i (suc n) l = getD l i 0 ∷ each (suc i) n l
 
-take-each : (n i : ℕ) (l : List ℕ) → i + n ≤ length l → take n (drop i l) ≡ each i n l
+pub take-each : (n i : ℕ) (l : List ℕ) → i + n ≤ length l → take n (drop i l) ≡ each i n l
 take-each zero i l h = refl
 take-each (suc n) i l h = ap (take (suc n)) (drop-cons l i 0 (omega arith)) ∙ ap (λ (r : List ℕ). getD l i 0 ∷ r) (take-each n (suc i) l (omega arith))
 

@@ -9,7 +9,7 @@ use Rattle.state.specs.State.{fresh, refused}
 use Rattle.state.specs.Answers.{SetUp}
 use Rattle.state.specs.declared.equaliser.Equaliser.{Equaliser}
 
-smallest : fresh (given 1 1 1 0 0 0) ≡ refused
+pub smallest : fresh (given 1 1 1 0 0 0) ≡ refused
 unfolding refused
 smallest = refl
 

@@ -1,9 +1,9 @@
 // Loading: the state that bytes hold.
 ghost use mathlib.Core.Path.{_≡_};
-ghost use Prim.Native.Nat.{_≤_};
+ghost use Prim.Native.Nat.{_+_, _*_, _≤_};
 ghost use lib.ListN.{length};
 ghost use Rattle.state.specs.State.{padded};
-ghost use Rattle.state.specs.Load.{wordsOf, stateIn, frameNumber};
+ghost use Rattle.state.specs.Load.{wordsOf, tapsIn, stateIn, frameNumber};
 use super::bytes::number32;
 use super::bytes::signed16;
 use super::equaliser::Equaliser;
@@ -39,7 +39,7 @@ pub fn frame_number(bytes: &[u8]) -> u8
 
 // The state in bytes of the right length.
 pub fn state_in(bytes: &[u8]) -> Equaliser
-    requires { ⌜ frameNumber (now bytes) ≡ 0 ⌝ }
+    requires { ⌜ (length (now bytes) ≡ 12 + 4 * tapsIn (now bytes)) × (tapsIn (now bytes) ≤ 32) ⌝ }
     ensures { λ e. ⌜ e ≡ stateIn (now (bytes .entry)) ⌝ }
 {
     let taps = (bytes[0] as usize) + (bytes[1] as usize);

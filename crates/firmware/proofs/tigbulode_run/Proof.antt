@@ -50,10 +50,10 @@ use Rattle.state.proofs.equaliser.Equaliser as T
 use Rattle.state.proofs.equaliser.Equaliser.Laws as T′
 use Rattle.state.proofs.equaliser.Answer as R
 use Rattle.state.proofs.equaliser.Answer.Laws as R′
-use Rattle.station.proofs.run.run as block
-use Rattle.station.proofs.run.run.Symbol as block-def
-use Rattle.station.proofs.run.run.Symbol.{name as #block·run}
-use Rattle.station.proofs.run.run.Met as block-thm
+use Rattle.station.proofs.run.run as by-value
+use Rattle.station.proofs.run.run.Symbol as run-def
+use Rattle.station.proofs.run.run.Symbol.{name as #run·run}
+use Rattle.station.proofs.run.run.Met as run-thm
 use Rattle.firmware.proofs.tigbulode_run.Key.{name as #tigbulode-run}
 use Rattle.firmware.proofs.tigbulode_run as f
 use Rattle.firmware.proofs.tigbulode_run.Statement as stated
@@ -82,14 +82,14 @@ stayed = (stay-ref (0 ∷ []) tt (plain (λ _. T.the-row)), all-handed (rest (f.
 -- ---- the slices, which `run` takes after the state
 
 abbrev Slices : Lfts 8 → List RattleType
-Slices κs = typesAt (rest (block.signature .params)) κs
+Slices κs = typesAt (rest (by-value.signature .params)) κs
 
 abbrev spelled : (κs : Lfts 8) → Spells (Slices κs)
 spelled κs = (slice-vals, (slice-vals, (slice-vals, (slice-vals, (slice-vals, (slice-vals, (slice-vals, (slice-vals, tt))))))))
 
 -- the contract that the proof cites
 abbrev Run : {M : Type 1} (𝓤 : URA M) (H : Heap 𝓤) (A : Atoms 𝓤) (mem : Memory → SProp 𝓤) (run : Routine → Fun 𝓤) → Contract 𝓤
-Run 𝓤 H A mem run = tripleOf 𝓤 H A block.signature (block.spec 𝓤 H A mem run)
+Run 𝓤 H A mem run = tripleOf 𝓤 H A by-value.signature (by-value.spec 𝓤 H A mem run)
 
 -- what whoever holds an answer knows of its parts
 next-is : (r : Answer) (v : Val) → Is R.the-row r (v ∷ []) → Is T.the-row (r .state) (LL.vals T.the-type T′.the-laws (r .state))
@@ -120,16 +120,16 @@ module _ {M : Type 1} (𝓤 : URA M) (H : Heap 𝓤) (A : Atoms 𝓤) (W : Given
       qed W (raw (toks 𝓤 A 8 κs qs) ∷ ‵ (T.the-row .own h (LL.vals T.the-type T′.the-laws h)) ∷ ‵ (owns (Slices κs) ss at-slices) ∷ []) ∵ move ! (1 ∷ 2 ∷ []) $ fjoin ! $ move ! (1 ∷ 0 ∷ []) $ join ! $ frame ! $ done !
 
   -- what `run` ensures of its answer and of the last lists
-  abbrev Ran : Answer → Lasts block.ended κs (h, ss) → Type 0
+  abbrev Ran : Answer → Lasts by-value.ended κs (h, ss) → Type 0
   Ran r ws =
       answers.Run h
       (lentOf (now (ss .0)) (now (ss .1 .0)) (now (ss .1 .1 .0)) (now (ss .1 .1 .1 .0)) (now (ss .1 .1 .1 .1 .0)) (now (ss .1 .1 .1 .1 .1 .0)) (now (ss .1 .1 .1 .1 .1 .1 .0)) (now (ss .1 .1 .1 .1 .1 .1 .1 .0)))
       r (ws .1 .1 .1 .1 .0) (ws .1 .1 .1 .1 .1 .0) (ws .1 .1 .1 .1 .1 .1 .0) (ws .1 .1 .1 .1 .1 .1 .1 .0) (ws .1 .1 .1 .1 .1 .1 .1 .1 .0)
 
-  abbrev last-lists : Lasts block.ended κs (h, ss) → Fml
-  last-lists ws = lastsOf κs (rest (block.signature .params)) (all yes (rest (block.signature .params))) ss (ws .1)
+  abbrev last-lists : Lasts by-value.ended κs (h, ss) → Fml
+  last-lists ws = lastsOf κs (rest (by-value.signature .params)) (all yes (rest (by-value.signature .params))) ss (ws .1)
 
-  exits : (r : Answer) (ws : Lasts block.ended κs (h, ss)) → Ran r ws → r .number < 2 ^ 8
+  exits : (r : Answer) (ws : Lasts by-value.ended κs (h, ss)) → Ran r ws → r .number < 2 ^ 8
       → ent 𝓤 (sep 𝓤 (A .obs γ (T.the-row .coded .code (r .state))) (sep 𝓤 (A .bor κ (Body (in-memory T.the-row) b o γ)) (sep 𝓤 (A .lft κ q) (sep 𝓤 (toks 𝓤 A 8 κs qs) (sem 𝓤 H A (last-lists ws)))))) (Post (vint w8 (r .number)))
   exits r ws e fits =
       qed W (‵ (fobs γ (T.the-row .coded .code (r .state))) ∷ ‵ (fbor κ (Body (in-memory T.the-row) b o γ)) ∷ ‵ (flft κ q) ∷ raw (toks 𝓤 A 8 κs qs) ∷ ‵ (last-lists ws) ∷ []) ∵
@@ -137,7 +137,7 @@ module _ {M : Type 1} (𝓤 : URA M) (H : Heap 𝓤) (A : Atoms 𝓤) (W : Given
       move ! (2 ∷ 3 ∷ []) $ join ! $ frame ! $ feqI ! (List Val) (vptr b o ∷ []) (vptr b o ∷ []) refl $ fjoin3 ! $ fjoin ! $
       owned ! u8 (Is u8) (uint-makes 𝓤 H A W w8) (r .number) _ (refl, fits) $ move ! (1 ∷ 0 ∷ []) $ done !
 
-  module _ (C : Calls 𝓤 H) (Λ : Loops 𝓤 H) (fm : FmC 𝓤 H (W .laws) C) (known : Triple 𝓤 (C #block·run) (Run 𝓤 H A mem run)) where
+  module _ (C : Calls 𝓤 H) (Λ : Loops 𝓤 H) (fm : FmC 𝓤 H (W .laws) C) (known : Triple 𝓤 (C #run·run) (Run 𝓤 H A mem run)) where
     walk : Are (Slices κs) (Ises (Slices κs)) ss at-slices → ent 𝓤 (onEntry 𝓤 H A f.signature (κ, κs) (q, qs) x at) (WpFn 𝓤 H C Λ code.function (flat (MutRef (named 0) κ T.the-row ∷ Slices κs) at) Post)
     walk ok =
         qed W ((‵ (flft κ q) ⊛ raw (toks 𝓤 A 8 κs qs)) ∷ ‵ (owns (MutRef (named 0) κ T.the-row ∷ Slices κs) x at) ∷ []) ∵ enter ! C Λ code.function (flat (MutRef (named 0) κ T.the-row ∷ Slices κs) at) _ $
@@ -166,8 +166,8 @@ module _ {M : Type 1} (𝓤 : URA M) (H : Heap 𝓤) (A : Atoms 𝓤) (W : Given
         -- the call
         move ! (5 ∷ 1 ∷ 6 ∷ []) $ use3 W (raw (Run 𝓤 H A mem run .pre to-run)) goes-run $
         calls-at ! fm (Run 𝓤 H A mem run) known to-run (and-then ! (load ! (from ! (stop !)) (look ! 25 refl)) (and-then ! (load ! (from ! (stop !)) (look ! 43 refl)) (and-then ! (load ! (from ! (stop !)) (look ! 41 refl)) (and-then ! (load ! (from ! (stop !)) (look ! 39 refl)) (and-then ! (load ! (from ! (stop !)) (look ! 21 refl)) (and-then ! (load ! (from ! (stop !)) (look ! 17 refl)) (and-then ! (load ! (from ! (stop !)) (look ! 13 refl)) (and-then ! (load ! (from ! (stop !)) (look ! 9 refl)) (and-then ! (load ! (from ! (stop !)) (look ! 5 refl)) (no-more !)))))))))) (λ v.
-        use1 W (later (some (λ (r : Answer). (raw (toks 𝓤 A 8 κs qs) ⊛ ‵ (R.the-row .own r (v ∷ []))) ⊛ raw (ensured 𝓤 H A block.ended (block.clauses 𝓤 H A mem run) κs (h, ss) tt r)))) (id⊢ 𝓤 _) $ await ! tt $ pick ! (λ r.
-        split ! $ move ! (1 ∷ []) $ use1 W (some (λ (ws : Lasts block.ended κs (h, ss)). ‵ (lasts block.ended κs (h, ss) ws) ⊛ raw (fact 𝓤 (Ran r ws)))) (id⊢ 𝓤 _) $ pick ! (λ ws.
+        use1 W (later (some (λ (r : Answer). (raw (toks 𝓤 A 8 κs qs) ⊛ ‵ (R.the-row .own r (v ∷ []))) ⊛ raw (ensured 𝓤 H A by-value.ended (by-value.clauses 𝓤 H A mem run) κs (h, ss) tt r)))) (id⊢ 𝓤 _) $ await ! tt $ pick ! (λ r.
+        split ! $ move ! (1 ∷ []) $ use1 W (some (λ (ws : Lasts by-value.ended κs (h, ss)). ‵ (lasts by-value.ended κs (h, ss) ws) ⊛ raw (fact 𝓤 (Ran r ws)))) (id⊢ 𝓤 _) $ pick ! (λ ws.
         split ! $ move ! (1 ∷ []) $ heard ! (Ran r ws) (λ e. fsplit ! $ drop ! $ move ! (1 ∷ []) $ split ! $ move ! (1 ∷ []) $ peeks ! R.the-row (Is R.the-row) (shows 𝓤 H A R.the-row) r (v ∷ []) (λ is.
         -- [what the answer owns; the slices' tokens; the slices' last lists; the state's cell; the open borrow; obs; auth; _21; …]
         land ! (from ! (stop !)) (init ! 29 refl (LL.lawful R.the-type R′.the-laws 𝓤 H A W .typed r _ is .0)) $ rewrite ! 29 (λ (u : Val). ‵ (fat fullShare R′.mir l₁₀ 0 u)) (ap only (LL.tells R.the-type R′.the-laws r (v ∷ []) is)) refl $
@@ -186,7 +186,7 @@ module _ {M : Type 1} (𝓤 : URA M) (H : Heap 𝓤) (A : Atoms 𝓤) (W : Given
         keep ! (0 ∷ 1 ∷ 2 ∷ 4 ∷ 5 ∷ []) $ by ! (exits r ws e (number-fits r v is)))))))))))))))))))))))))))))))
 
 module _ {M : Type 1} (𝓤 : URA M) (H : Heap 𝓤) (A : Atoms 𝓤) (W : Given 𝓤 H A) (mem : Memory → SProp 𝓤) (run : Routine → Fun 𝓤) where
-  run-walks : (C : Calls 𝓤 H) (Λ : Loops 𝓤 H) → FmC 𝓤 H (W .laws) C → Triple 𝓤 (C #block·run) (Run 𝓤 H A mem run) → Walks 𝓤 H A f.ended stayed (WpFn 𝓤 H C Λ code.function) (f.clauses 𝓤 H A mem run)
+  run-walks : (C : Calls 𝓤 H) (Λ : Loops 𝓤 H) → FmC 𝓤 H (W .laws) C → Triple 𝓤 (C #run·run) (Run 𝓤 H A mem run) → Walks 𝓤 H A f.ended stayed (WpFn 𝓤 H C Λ code.function) (f.clauses 𝓤 H A mem run)
   run-walks C Λ fm known = walked 𝓤 H A f.ended stayed (f.clauses 𝓤 H A mem run) (WpFn 𝓤 H C Λ code.function) (λ κs. (ptr-vals, spelled (κs .1)))
       (λ κs. (
         mut-tells (named 0) (κs .0) T.the-row,
@@ -203,7 +203,7 @@ module _ {M : Type 1} (𝓤 : URA M) (H : Heap 𝓤) (A : Atoms 𝓤) (W : Given
       ))
       (λ κs qs bounds a g are. via 𝓤 _ (fst∗ 𝓤 _ (emp 𝓤)) (walk 𝓤 H A W mem run (κs .0) (κs .1) (qs .0) (qs .1) (a .0 .ptr .0) (a .0 .ptr .1) (a .0 .name) (a .0 .now) (a .1) C Λ fm known (are .1)))
 
-run-meets : {M : Type 1} (𝓤 : URA M) (H : Heap 𝓤) (A : Atoms 𝓤) → Given 𝓤 H A → (mem : Memory → SProp 𝓤) (run : Routine → Fun 𝓤) (𝓣 : Tables 𝓤 H) → Triple 𝓤 (𝓣 .C #block·run) (Run 𝓤 H A mem run)
+run-meets : {M : Type 1} (𝓤 : URA M) (H : Heap 𝓤) (A : Atoms 𝓤) → Given 𝓤 H A → (mem : Memory → SProp 𝓤) (run : Routine → Fun 𝓤) (𝓣 : Tables 𝓤 H) → Triple 𝓤 (𝓣 .C #run·run) (Run 𝓤 H A mem run)
     → Meets 𝓤 H A f.signature (WpFn 𝓤 H (𝓣 .C) (𝓣 .Λ) code.function) (f.spec 𝓤 H A mem run)
 run-meets 𝓤 H A W mem run 𝓣 known =
     walk-meets 𝓤 H A f.ended stayed W (goes-ref 𝓤 H A W 9 0 tt (plain (λ _. T.the-row)), all-go 𝓤 H A W 9 (rest (f.signature .params))) (f.clauses 𝓤 H A mem run)
@@ -215,4 +215,4 @@ tigbulode-run-spec 𝓤 H 𝓜 𝓖 𝓡 =
     entered 𝓤 H (tripleOf 𝓤 H (𝓖 .A) f.signature (f.spec 𝓤 H (𝓖 .A) (𝓜 .mem) (𝓡 .run)))
     (tables 𝓤 H 𝓜 𝓡 code.env .C) (tables 𝓤 H 𝓜 𝓡 code.env .Λ) #tigbulode-run code.function (code.unfolded 𝓤 H 𝓜 𝓡)
     (run-meets 𝓤 H (𝓖 .A) (givenOf 𝓤 H 𝓜 𝓖) (𝓜 .mem) (𝓡 .run) (tablesOf 𝓤 H 𝓜 (tables 𝓤 H 𝓜 𝓡 code.env))
-    (cited 𝓤 H (Run 𝓤 H (𝓖 .A) (𝓜 .mem) (𝓡 .run)) 𝓜 𝓡 code.env #block·run block-def.routine code.calls-station·block·run (block-thm.met 𝓤 H 𝓜 𝓖 𝓡)))
+    (cited 𝓤 H (Run 𝓤 H (𝓖 .A) (𝓜 .mem) (𝓡 .run)) 𝓜 𝓡 code.env #run·run run-def.routine code.calls-station·run·run (run-thm.met 𝓤 H 𝓜 𝓖 𝓡)))
