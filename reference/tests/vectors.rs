@@ -228,6 +228,119 @@ fn images_replay() {
     assert_eq!(numbers.iter().sum::<usize>(), vectors.len());
 }
 
+/// The reasons why an image of the right length is unsound, read from its
+/// bytes.
+fn reasons(image: &[u8]) -> Vec<&'static str> {
+    let byte = |place: usize| i32::from(image[place]);
+    let (p, r, l, psi, b, big_b) = (byte(0), byte(3), byte(4), byte(5), byte(6), byte(7));
+    let numbers: Vec<i32> = image[12..]
+        .chunks(2)
+        .map(|two| i32::from(i16::from_le_bytes([two[0], two[1]])))
+        .collect();
+    let (weights, data) = numbers.split_at(numbers.len() / 2);
+    let (samples, rest) = data.split_at(p as usize - 1);
+    let (filler, symbols) = rest.split_at(1);
+    let s = (1..).find(|&s| 1 << s >= 2 * p).unwrap();
+    let room = (15 + b - big_b - s).clamp(0, 62);
+    let even = |v: &i32| *v != 0 && v % 2 == 0;
+    let large = |v: &i32| v % 2 != 0 && v.abs() >= 2 << r;
+    let other = |w: &i32| w.abs() > 16384 && *w != -32768;
+    let found = [
+        (psi > 15, "psi"),
+        (b > big_b, "b above B"),
+        (big_b + l > 31, "B + L above 31"),
+        (weights.contains(&16384), "weight 16384"),
+        (weights.contains(&-16384), "weight -16384"),
+        (weights.contains(&-32768), "weight -32768"),
+        (weights.iter().any(other), "another weight"),
+        (
+            samples.iter().any(|a| i64::from(a.abs()) >> room != 0),
+            "a sample",
+        ),
+        (filler[0] != 0, "the filler"),
+        (symbols.iter().any(even), "an even symbol"),
+        (symbols.iter().any(large), "a large symbol"),
+    ];
+    let kept = found.iter().filter(|(found, _)| *found);
+    kept.map(|(_, reason)| *reason).collect()
+}
+
+#[test]
+fn unsound_images_have_every_reason_alone() {
+    let mut alone = std::collections::BTreeMap::new();
+    for vector in image_vectors() {
+        if vector.number == 0 {
+            assert!(reasons(&vector.image).is_empty());
+        } else if vector.number == 9 {
+            let reasons = reasons(&vector.image);
+            assert!(!reasons.is_empty(), "{vector:?}");
+            if reasons.len() == 1 {
+                *alone.entry(reasons[0]).or_insert(0) += 1;
+            }
+        }
+    }
+    assert_eq!(alone.len(), 11, "{alone:?}");
+    assert!(alone.values().all(|&count| count >= 4), "{alone:?}");
+}
+
+#[test]
+fn damaged_images_have_every_length_and_size() {
+    let vectors = image_vectors();
+    let with = |number: u8| vectors.iter().filter(move |v| v.number == number);
+    for length in 0..12 {
+        assert!(with(8).any(|v| v.image.len() == length));
+    }
+    let missing = |v: &&reference::vectors::ImageVector, bytes: usize| {
+        let image = &v.image;
+        image.len() >= 12
+            && image.len() + bytes == 12 + 1 + 4 * (usize::from(image[0]) + usize::from(image[1]))
+    };
+    assert!(with(8).filter(|v| missing(v, 2)).count() >= 8);
+    assert!(with(8).filter(|v| missing(v, 0)).count() >= 8);
+    for (place, value) in [
+        (0, 0),
+        (0, 17),
+        (1, 0),
+        (1, 17),
+        (2, 0),
+        (2, 129),
+        (3, 4),
+        (4, 16),
+    ] {
+        assert!(with(1).any(|v| v.image[place] == value));
+    }
+}
+
+#[test]
+fn damaged_images_have_every_step() {
+    let mut seen = BTreeSet::new();
+    for vector in image_vectors().iter().filter(|v| v.number == 2) {
+        let image = &vector.image;
+        let settings = Settings {
+            p: image[0],
+            q: image[1],
+            n: image[2],
+            r: image[3],
+            l: image[4],
+            m: u32::from_le_bytes(image[8..12].try_into().unwrap()),
+        };
+        if settings.m == settings.largest_m() + 1 {
+            seen.insert((settings.r, settings.l));
+        }
+    }
+    assert_eq!(seen.len(), 64);
+}
+
+#[test]
+fn the_stored_images_are_these() {
+    let stored = std::fs::read(concat!(
+        env!("CARGO_MANIFEST_DIR"),
+        "/../firmware/images.bin"
+    ));
+    let made: Vec<u8> = image_vectors().iter().flat_map(|v| v.bytes()).collect();
+    assert!(stored.unwrap() == made, "run reference/regenerate");
+}
+
 #[test]
 fn the_vectors_are_the_same_every_time() {
     let bytes = |list: &[TraceVector]| -> Vec<u8> { list.iter().flat_map(|v| v.bytes()).collect() };

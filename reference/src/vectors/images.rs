@@ -79,7 +79,10 @@ pub fn image_vectors() -> Vec<ImageVector> {
     wrong_lengths(&mut all);
     wrong_sizes(&mut all);
     wrong_steps(&mut all);
+    every_step(&mut all);
     unsound_images(&mut all);
+    every_length_of_samples(&mut all);
+    every_place(&mut all);
     in_order(&mut all);
     changed_bits(&mut all);
     all.list
@@ -243,7 +246,7 @@ fn wrong_steps(all: &mut Collection) {
 
 fn unsound_images(all: &mut Collection) {
     type Change = fn(&mut State, &mut Random);
-    let changes: [Change; 27] = [
+    let changes: [Change; 29] = [
         |s, _| s.psi = 16,
         |s, _| s.psi = 128,
         |s, _| s.psi = 255,
@@ -294,16 +297,107 @@ fn unsound_images(all: &mut Collection) {
         |s, _| s.data[s.settings.taps() - 1] = -(2 << s.settings.r) - 1,
         |s, _| s.data[s.settings.taps() - 1] = 256,
         |s, _| s.data[s.settings.taps() - 1] = -32767,
+        |s, _| s.data[s.settings.taps() - 1] = -32768,
+        |s, _| s.weights[usize::from(s.settings.p)] = -32768,
     ];
     for change in changes {
         for _ in 0..4 {
             let mut state = all.roomy_state();
             change(&mut state, &mut all.random);
-            let mut bytes = crate::image::header(&state).to_vec();
-            for a in state.weights.iter().chain(&state.data) {
-                bytes.extend(a.to_le_bytes());
-            }
-            all.expect("an unsound state", bytes, 9);
+            all.expect("an unsound state", raw_image(&state), 9);
+        }
+    }
+}
+
+/// The image of any state, sound or not.
+fn raw_image(state: &State) -> Vec<u8> {
+    let mut bytes = crate::image::header(state).to_vec();
+    for a in state.weights.iter().chain(&state.data) {
+        bytes.extend(a.to_le_bytes());
+    }
+    bytes
+}
+
+/// The largest step and one above it, for every r and L.
+fn every_step(all: &mut Collection) {
+    for r in 0..=Settings::MOST_R {
+        for l in 0..=Settings::MOST_GAIN {
+            let p = all.random.byte(1, 16);
+            let q = all.random.byte(1, 16);
+            let n = p;
+            let m = 0;
+            let settings = Settings { p, q, n, r, l, m };
+            let largest = settings.largest_m();
+            let good = State::zeros(settings.with_m(largest));
+            all.expect("the largest step", raw_image(&good), 0);
+            let bad = State::zeros(settings.with_m(largest + 1));
+            all.expect("one above the largest step", raw_image(&bad), 2);
+        }
+    }
+}
+
+/// ψ of 0 to 15, and B of 31 − L and one more, for every L.
+fn every_length_of_samples(all: &mut Collection) {
+    for l in 0..=Settings::MOST_GAIN {
+        let settings = Settings {
+            p: 2,
+            q: 1,
+            n: 1,
+            r: 1,
+            l,
+            m: 3,
+        };
+        let mut state = State::zeros(settings);
+        state.psi = l;
+        state.big_b = 31 - l;
+        all.expect("the largest B", raw_image(&state), 0);
+        state.b = state.big_b;
+        all.expect("the largest b and B", raw_image(&state), 0);
+        state.b = state.big_b + 1;
+        all.expect("b above B", raw_image(&state), 9);
+        (state.b, state.big_b) = (0, 32 - l);
+        all.expect("B above 31 - L", raw_image(&state), 9);
+    }
+}
+
+/// Each place of a state with all taps at its bound and just beyond it, the
+/// others 0.
+fn every_place(all: &mut Collection) {
+    let settings = Settings {
+        p: 16,
+        q: 16,
+        n: 15,
+        r: 2,
+        l: 0,
+        m: 7,
+    };
+    let mut zeros = State::zeros(settings);
+    (zeros.b, zeros.big_b) = (20, 20);
+    for sign in [1, -1] {
+        for place in 0..32 {
+            let mut state = zeros.clone();
+            state.weights[place] = 16383 * sign;
+            all.expect("a weight at its bound", raw_image(&state), 0);
+            state.weights[place] = 16384 * sign;
+            all.expect("a weight beyond its bound", raw_image(&state), 9);
+        }
+        // S(16) = 5: |A| is below 2^10.
+        for place in 0..32 {
+            let (good, bad) = match place {
+                0..=14 => (1023, 1024),
+                15 => (0, 1),
+                _ => (7, 9),
+            };
+            let mut state = zeros.clone();
+            state.data[place] = good * sign;
+            all.expect("data at their bound", raw_image(&state), 0);
+            state.data[place] = bad * sign;
+            all.expect("data beyond their bound", raw_image(&state), 9);
+        }
+        for place in 16..32 {
+            let mut state = zeros.clone();
+            state.data[place] = 6 * sign;
+            all.expect("an even past symbol", raw_image(&state), 9);
         }
     }
 }

@@ -1,0 +1,159 @@
+/* Loads every image of a file that the second implementation made and compares: `images FILE`. A good image is saved again,
+ * byte for byte; a damaged one gives its number and the fresh state. Each image is also compared with changed
+ * expectations, which must be told apart. Exit status 1: a difference, with its place; 2: no such file, or one that
+ * breaks off. */
+#include "tigbulode.h"
+
+#include <stdbool.h>
+#include <stdio.h>
+#include <stdlib.h>
+#include <string.h>
+
+enum { SENTINEL = 0x55, AFTER = 16, MOST_FILE = 1 << 20, NUMBERS = 10 };
+
+/* An image as it is lent, and what is expected of it. */
+typedef struct {
+    const uint8_t *lent;
+    size_t length;
+    uint8_t number;
+    const uint8_t *bytes;        /* the lent bytes after loading */
+    const uint8_t *saved;        /* what saving gives, where it is accepted */
+    tigbulode_equaliser refused; /* the state, where it is not */
+} image;
+
+/* The file's bytes, lent to every load, and a copy that no call sees. */
+static uint8_t file[MOST_FILE], copy[MOST_FILE];
+static size_t file_length;
+
+static bool all_sentinels(const uint8_t *bytes, size_t length) {
+    for (size_t i = 0; i < length; i++)
+        if (bytes[i] != SENTINEL) return false;
+    return true;
+}
+
+/* What is wrong with saving an accepted state, or NULL. */
+static const char *saving_differs(const image *i, tigbulode_equaliser state) {
+    uint8_t buffer[TIGBULODE_IMAGE_BYTES + AFTER];
+    memset(buffer, SENTINEL, sizeof buffer);
+    tigbulode_saved s = tigbulode_save(state, buffer, i->length - 1);
+    if (s.number != TIGBULODE_BUFFER || s.length != 0) return "a short buffer is not turned down";
+    if (!all_sentinels(buffer, sizeof buffer)) return "a short buffer is written to";
+    s = tigbulode_save(state, buffer, sizeof buffer);
+    if (s.number != TIGBULODE_ACCEPTED) return "saving it again is turned down";
+    if (s.length != i->length) return "saved again with another length";
+    if (memcmp(buffer, i->saved, i->length) != 0) return "saved again with other bytes";
+    if (!all_sentinels(buffer + i->length, sizeof buffer - i->length)) return "bytes after the saved image are changed";
+    return NULL;
+}
+
+/* What is wrong with loading an image, or NULL. */
+static const char *differs(const image *i) {
+    tigbulode_answer a = tigbulode_load(i->lent, i->length);
+    if (a.number != i->number) return "another answer";
+    if (memcmp(i->lent, i->bytes, i->length) != 0) return "the lent bytes are changed";
+    if (a.number == TIGBULODE_ACCEPTED) return saving_differs(i, a.state);
+    if (memcmp(&a.state, &i->refused, sizeof a.state) != 0) return "not the fresh state";
+    return NULL;
+}
+
+/* Changed expectations, which must be told apart. */
+static unsigned tried, told;
+
+static void try_changed(const image *i) {
+    tried++;
+    told += differs(i) != NULL;
+}
+
+static void try_other_numbers(image i) {
+    static const uint8_t numbers[] = {0, 1, 2, 8, 9};
+    const uint8_t number = i.number;
+    for (size_t k = 0; k < sizeof numbers; k++) {
+        i.number = numbers[k];
+        if (i.number != number) try_changed(&i);
+    }
+}
+
+/* One bit changed in the lent bytes, and in the saved bytes or the fresh state. */
+static void try_other_bytes(const image *i, size_t place) {
+    static uint8_t changed[UINT16_MAX];
+    image other = *i;
+    memcpy(changed, i->bytes, i->length);
+    if (i->length > 0) {
+        changed[place % i->length] ^= 1;
+        other.bytes = changed;
+        try_changed(&other);
+    }
+    other = *i;
+    if (i->number == TIGBULODE_ACCEPTED)
+        other.saved = changed;
+    else
+        ((uint8_t *)&other.refused)[place % sizeof other.refused] ^= 1;
+    try_changed(&other);
+}
+
+static void read_file(const char *name) {
+    FILE *f = fopen(name, "rb");
+    if (f == NULL) {
+        fprintf(stderr, "images: can't open %s\n", name);
+        exit(2);
+    }
+    file_length = fread(file, 1, sizeof file, f);
+    if (ferror(f) || !feof(f) || file_length == 0) {
+        fprintf(stderr, "images: can't read %s, or it does not have 1 to %d bytes\n", name, MOST_FILE - 1);
+        exit(2);
+    }
+    fclose(f);
+    memcpy(copy, file, sizeof copy);
+}
+
+/* The image at a place of the file: its length, its bytes, its number. */
+static image image_at(size_t place) {
+    image i = {0};
+    size_t left = file_length - place;
+    if (left >= 2) i.length = copy[place] + 256u * copy[place + 1];
+    if (left < 3 + i.length) {
+        fprintf(stderr, "images: the file breaks off at byte %zu\n", file_length);
+        exit(2);
+    }
+    i.lent = file + place + 2;
+    i.bytes = i.saved = copy + place + 2;
+    i.number = copy[place + 2 + i.length];
+    i.refused.p = i.refused.q = i.refused.n = 1;
+    return i;
+}
+
+static void print_counts(const unsigned *counts, unsigned count) {
+    printf("images %u: good %u, damaged %u\n", count, counts[0], count - counts[0]);
+    for (int number = 0; number < NUMBERS; number++)
+        if (counts[number] > 0) printf("answer %d: %u\n", number, counts[number]);
+}
+
+int main(int argc, char **argv) {
+    unsigned counts[NUMBERS] = {0}, count = 0;
+    if (argc != 2) {
+        fprintf(stderr, "usage: images FILE\n");
+        return 2;
+    }
+    read_file(argv[1]);
+    for (size_t place = 0; place < file_length; count++) {
+        const image i = image_at(place);
+        const char *difference = i.number < NUMBERS ? differs(&i) : "no number of a load";
+        if (difference != NULL) {
+            printf("image %u at byte %zu: %s\n", count, place, difference);
+            return 1;
+        }
+        counts[i.number]++;
+        try_other_numbers(i);
+        try_other_bytes(&i, count);
+        place += 3 + i.length;
+    }
+    print_counts(counts, count);
+    printf("changed expectations told apart: %u of %u\n", told, tried);
+    if (told != tried) return 1;
+    if (memcmp(file, copy, sizeof file) != 0) {
+        printf("the file's bytes are changed\n");
+        return 1;
+    }
+    printf("no difference\n");
+    return 0;
+}

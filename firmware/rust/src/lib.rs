@@ -1,0 +1,124 @@
+//! The station equaliser for firmware in Rust: a thin safe layer over the C
+//! functions of the static library, as `tigbulode.h` declares them.
+//!
+//! Every value is taken; what can't be used is turned down with a number, and
+//! the record and all lent memory are then as they were.
+
+pub mod calls;
+pub mod compare;
+pub mod perform;
+pub mod sides;
+pub mod station;
+
+/// The places for weights, and as many for data: the taps of both filters.
+pub const PLACES: usize = 32;
+/// The length of the longest image.
+pub const IMAGE_BYTES: usize = 140;
+
+/// The equaliser record, in the saved image's order. Places at p + q and
+/// beyond are spare and 0.
+#[repr(C)]
+#[derive(Clone, Copy, Debug, PartialEq, Eq)]
+pub struct Equaliser {
+    pub p: u8,
+    pub q: u8,
+    pub n: u8,
+    pub r: u8,
+    pub l: u8,
+    pub psi: u8,
+    pub b: u8,
+    pub big: u8,
+    pub m: u32,
+    pub weights: [i16; PLACES],
+    pub past: [i16; PLACES],
+}
+
+/// A number beside a state.
+#[repr(C)]
+#[derive(Clone, Copy, Debug, PartialEq, Eq)]
+pub struct Answer {
+    pub number: u8,
+    pub state: Equaliser,
+}
+
+/// A number beside the length of an image.
+#[repr(C)]
+#[derive(Clone, Copy, Debug, PartialEq, Eq)]
+pub struct Saved {
+    pub number: u8,
+    pub length: usize,
+}
+
+/// The three lists that a block reads.
+#[derive(Clone, Copy)]
+pub struct Block<'a> {
+    pub m: &'a [i16],
+    pub gains: &'a [u8],
+    pub entries: &'a [i8],
+}
+
+/// The five lists that a block hands out.
+pub struct Outputs<'a> {
+    pub y: &'a mut [i32],
+    pub xi: &'a mut [u8],
+    pub decision: &'a mut [i8],
+    pub z: &'a mut [i32],
+    pub theta: &'a mut [u8],
+}
+
+#[rustfmt::skip]
+extern "C" {
+    fn tigbulode_set_up(p: u8, q: u8, n: u8, r: u8, l: u8, m: u32) -> Answer;
+    fn tigbulode_run(
+        s: *mut Equaliser,
+        m: *const i16, m_length: usize,
+        gains: *const u8, gains_length: usize,
+        entries: *const i8, entries_length: usize,
+        y: *mut i32, y_length: usize,
+        xi: *mut u8, xi_length: usize,
+        decision: *mut i8, decision_length: usize,
+        z: *mut i32, z_length: usize,
+        theta: *mut u8, theta_length: usize,
+    ) -> u8;
+    fn tigbulode_save(e: Equaliser, buffer: *mut u8, length: usize) -> Saved;
+    fn tigbulode_load(bytes: *const u8, length: usize) -> Answer;
+}
+
+/// A fresh state, or 1 or 2 beside the one with p = q = N = 1.
+pub fn set_up(p: u8, q: u8, n: u8, r: u8, l: u8, m: u32) -> Answer {
+    // SAFETY: only numbers are passed.
+    unsafe { tigbulode_set_up(p, q, n, r, l, m) }
+}
+
+/// Runs a block; the record is advanced in place.
+#[rustfmt::skip]
+pub fn run(s: &mut Equaliser, block: Block, out: Outputs) -> u8 {
+    // SAFETY: each pointer is a reference's or a slice's own, so it is not
+    // null, is aligned and valid for its length, and what is written overlaps
+    // nothing else.
+    unsafe {
+        tigbulode_run(
+            s,
+            block.m.as_ptr(), block.m.len(),
+            block.gains.as_ptr(), block.gains.len(),
+            block.entries.as_ptr(), block.entries.len(),
+            out.y.as_mut_ptr(), out.y.len(),
+            out.xi.as_mut_ptr(), out.xi.len(),
+            out.decision.as_mut_ptr(), out.decision.len(),
+            out.z.as_mut_ptr(), out.z.len(),
+            out.theta.as_mut_ptr(), out.theta.len(),
+        )
+    }
+}
+
+/// Writes the image to the front of the buffer and gives its length.
+pub fn save(e: Equaliser, buffer: &mut [u8]) -> Saved {
+    // SAFETY: the pointer is a slice's own, with its length.
+    unsafe { tigbulode_save(e, buffer.as_mut_ptr(), buffer.len()) }
+}
+
+/// The state that an image holds.
+pub fn load(bytes: &[u8]) -> Answer {
+    // SAFETY: the pointer is a slice's own, with its length.
+    unsafe { tigbulode_load(bytes.as_ptr(), bytes.len()) }
+}

@@ -1,0 +1,212 @@
+//! One call by one side, and everything that it may have touched.
+
+use crate::calls::{Call, Lists};
+use crate::sides::Operations;
+use crate::{Block, Equaliser, Outputs};
+
+/// Numbers that are compared: an answer, a record, or a list with what lies
+/// around it.
+#[derive(Clone, Debug, PartialEq, Eq)]
+pub struct Part {
+    pub name: &'static str,
+    pub numbers: Vec<i64>,
+    /// How many of the numbers lie in front of what was lent.
+    pub front: usize,
+}
+
+/// What a call left. An accepted save also gives its image.
+pub struct Outcome {
+    pub number: u8,
+    pub parts: Vec<Part>,
+    pub image: Option<Vec<u8>>,
+}
+
+/// How many elements lie on each side of what is lent.
+const AROUND: usize = 8;
+const SENTINEL: u8 = 0x55;
+
+/// A lent list between elements that no call may touch.
+struct Lent<T> {
+    all: Vec<T>,
+    length: usize,
+}
+
+impl<T: Copy + Into<i64>> Lent<T> {
+    fn of(list: &[T], around: T) -> Lent<T> {
+        let mut all = vec![around; AROUND];
+        all.extend(list);
+        all.resize(list.len() + 2 * AROUND, around);
+        let length = list.len();
+        Lent { all, length }
+    }
+
+    fn filled(length: usize, with: T) -> Lent<T> {
+        Lent::of(&vec![with; length], with)
+    }
+
+    fn list(&self) -> &[T] {
+        &self.all[AROUND..AROUND + self.length]
+    }
+
+    fn list_mut(&mut self) -> &mut [T] {
+        &mut self.all[AROUND..AROUND + self.length]
+    }
+
+    fn part(&self, name: &'static str) -> Part {
+        let all = std::hint::black_box(&self.all);
+        Part {
+            name,
+            numbers: all.iter().map(|&number| number.into()).collect(),
+            front: AROUND,
+        }
+    }
+}
+
+/// All that is lent to a block.
+struct LentBlock {
+    m: Lent<i16>,
+    gains: Lent<u8>,
+    entries: Lent<i8>,
+    y: Lent<i32>,
+    xi: Lent<u8>,
+    decision: Lent<i8>,
+    z: Lent<i32>,
+    theta: Lent<u8>,
+    /// Only the one in the middle is lent.
+    records: [Equaliser; 3],
+}
+
+impl LentBlock {
+    fn new(lists: &Lists, record: &Equaliser) -> LentBlock {
+        let [y, xi, decision, z, theta] = lists.rooms;
+        LentBlock {
+            m: Lent::of(&lists.m, SENTINEL.into()),
+            gains: Lent::of(&lists.gains, SENTINEL),
+            entries: Lent::of(&lists.entries, SENTINEL as i8),
+            y: Lent::filled(y, i32::MIN),
+            xi: Lent::filled(xi, SENTINEL),
+            decision: Lent::filled(decision, SENTINEL as i8),
+            z: Lent::filled(z, i32::MAX),
+            theta: Lent::filled(theta, SENTINEL),
+            records: [*record; 3],
+        }
+    }
+
+    fn run(&mut self, side: &dyn Operations) -> u8 {
+        let block = Block {
+            m: self.m.list(),
+            gains: self.gains.list(),
+            entries: self.entries.list(),
+        };
+        let out = Outputs {
+            y: self.y.list_mut(),
+            xi: self.xi.list_mut(),
+            decision: self.decision.list_mut(),
+            z: self.z.list_mut(),
+            theta: self.theta.list_mut(),
+        };
+        side.run(&mut self.records[1], block, out)
+    }
+
+    fn parts(&self, number: u8) -> Vec<Part> {
+        let [before, record, after] = std::hint::black_box(&self.records);
+        vec![
+            plain("answer", vec![number.into()]),
+            plain("record", numbers_of(record)),
+            plain("memory before the record", numbers_of(before)),
+            plain("memory after the record", numbers_of(after)),
+            self.m.part("m"),
+            self.gains.part("gains"),
+            self.entries.part("entries"),
+            self.y.part("Y"),
+            self.xi.part("xi"),
+            self.decision.part("decision"),
+            self.z.part("Z"),
+            self.theta.part("theta"),
+        ]
+    }
+}
+
+fn plain(name: &'static str, numbers: Vec<i64>) -> Part {
+    let front = 0;
+    Part {
+        name,
+        numbers,
+        front,
+    }
+}
+
+/// The numbers of a record in the image's order: eight bytes, M, 32 weights,
+/// 32 data.
+fn numbers_of(e: &Equaliser) -> Vec<i64> {
+    let bytes = [e.p, e.q, e.n, e.r, e.l, e.psi, e.b, e.big];
+    let mut numbers: Vec<i64> = bytes.map(i64::from).to_vec();
+    numbers.push(e.m.into());
+    numbers.extend(e.weights.map(i64::from));
+    numbers.extend(e.past.map(i64::from));
+    numbers
+}
+
+/// Makes a call on the list's record and moves that on.
+pub fn perform(side: &dyn Operations, call: &Call, record: &mut Equaliser) -> Outcome {
+    match call {
+        Call::SetUp(settings) => {
+            let answer = side.set_up(*settings);
+            *record = answer.state;
+            let number = plain("answer", vec![answer.number.into()]);
+            outcome(
+                answer.number,
+                vec![number, plain("record", numbers_of(record))],
+            )
+        }
+        Call::Block(lists, None) => block(side, lists, record),
+        Call::Block(lists, Some(other)) => block(side, lists, &mut other.clone()),
+        Call::Save(room, None) => save(side, *room, *record),
+        Call::Save(room, Some(other)) => save(side, *room, *other),
+        Call::Load(bytes) => load(side, bytes, record),
+    }
+}
+
+fn outcome(number: u8, parts: Vec<Part>) -> Outcome {
+    let image = None;
+    Outcome {
+        number,
+        parts,
+        image,
+    }
+}
+
+fn block(side: &dyn Operations, lists: &Lists, record: &mut Equaliser) -> Outcome {
+    let mut lent = LentBlock::new(lists, record);
+    let number = lent.run(side);
+    *record = lent.records[1];
+    outcome(number, lent.parts(number))
+}
+
+fn save(side: &dyn Operations, room: usize, record: Equaliser) -> Outcome {
+    let mut buffer = Lent::filled(room, SENTINEL);
+    let saved = side.save(record, buffer.list_mut());
+    let image = buffer.list().get(..saved.length).map(<[u8]>::to_vec);
+    let parts = vec![
+        plain("answer", vec![saved.number.into()]),
+        plain("length", vec![saved.length as i64]),
+        buffer.part("buffer"),
+    ];
+    Outcome {
+        number: saved.number,
+        parts,
+        image: image.filter(|_| saved.number == 0),
+    }
+}
+
+fn load(side: &dyn Operations, bytes: &[u8], record: &mut Equaliser) -> Outcome {
+    let lent = Lent::of(bytes, SENTINEL);
+    let answer = side.load(lent.list());
+    *record = answer.state;
+    let parts = vec![
+        plain("answer", vec![answer.number.into()]),
+        plain("record", numbers_of(record)),
+        lent.part("bytes"),
+    ];
+    outcome(answer.number, parts)
+}

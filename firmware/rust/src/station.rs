@@ -1,0 +1,391 @@
+//! A station as firmware would run it, with the lines of `station.c`: it keeps
+//! one record, trains on known symbols, goes on from its own decisions, saves,
+//! loses power, loads, and goes on.
+
+use crate::sides::Operations;
+use crate::{Answer, Block, Equaliser, Outputs};
+use reference::Settings;
+
+const N: usize = 16;
+const IMAGE: usize = 40;
+const SIZES: Settings = Settings {
+    p: 4,
+    q: 3,
+    n: N as u8,
+    r: 1,
+    l: 0,
+    m: 7_456_540,
+};
+const SMALLEST: Settings = Settings {
+    p: 1,
+    q: 1,
+    n: 1,
+    r: 0,
+    l: 0,
+    m: 67_108_864,
+};
+/// Of the cable, in units of 1/32768.
+const RESPONSE: [i32; 4] = [13000, 4000, -2000, 900];
+
+/// What a block reads.
+#[derive(Clone, Default)]
+struct Received {
+    m: [i16; N],
+    gains: [u8; N],
+    entries: [i8; N],
+}
+
+/// What a block hands out.
+#[derive(Clone, PartialEq)]
+struct Handed {
+    y: [i32; N],
+    xi: [u8; N],
+    decision: [i8; N],
+    z: [i32; N],
+    theta: [u8; N],
+}
+
+impl Handed {
+    fn filled() -> Handed {
+        Handed {
+            y: [0x5555_5555; N],
+            xi: [0x55; N],
+            decision: [0x55; N],
+            z: [0x5555_5555; N],
+            theta: [0x55; N],
+        }
+    }
+
+    /// A sum over all that was handed out.
+    fn add_to(&self, mut sum: u32) -> u32 {
+        for i in 0..N {
+            let numbers = [
+                self.y[i],
+                self.xi[i].into(),
+                self.decision[i].into(),
+                self.z[i],
+                self.theta[i].into(),
+            ];
+            for number in numbers {
+                sum = (sum ^ number as u32).wrapping_mul(16_777_619);
+            }
+        }
+        sum
+    }
+}
+
+/// The far end of the cable and the converter.
+#[derive(Clone)]
+struct Cable {
+    random: u32,
+    /// Newest first.
+    sent: [i32; 4],
+}
+
+impl Cable {
+    fn next_random(&mut self) -> u32 {
+        let product = self.random.wrapping_mul(1_664_525);
+        self.random = product.wrapping_add(1_013_904_223);
+        self.random
+    }
+
+    /// The next symbol, and its received sample at the highest gain that the
+    /// converter can take.
+    fn receive(&mut self) -> (i8, i16, u8) {
+        self.sent.rotate_right(1);
+        self.sent[0] = 2 * (self.next_random() >> 30) as i32 - 3;
+        let noise = (self.next_random() >> 26) as i32 - 32;
+        let products = RESPONSE.iter().zip(self.sent);
+        let s = i64::from(products.map(|(h, v)| h * v).sum::<i32>() + noise);
+        let end = 1i64 << (15 + SIZES.r);
+        let gain = (0..15).take_while(|g| s.abs() << (g + 1) < end).count();
+        let m = (s * (1i64 << gain)) / (1i64 << SIZES.r);
+        (self.sent[0] as i8, m as i16, gain as u8)
+    }
+
+    /// The next block, without training entries, and the symbols that were
+    /// sent.
+    fn receive_block(&mut self) -> (Received, [i8; N]) {
+        let mut block = Received::default();
+        let mut sent = [0; N];
+        let lists = block.m.iter_mut().zip(&mut block.gains);
+        for ((m, gain), symbol) in lists.zip(&mut sent) {
+            (*symbol, *m, *gain) = self.receive();
+        }
+        (block, sent)
+    }
+}
+
+fn hexadecimal(bytes: &[u8]) -> String {
+    bytes.iter().map(|byte| format!(" {byte:02X}")).collect()
+}
+
+/// The station and what it has printed.
+struct Station<'a> {
+    side: &'a dyn Operations,
+    record: Equaliser,
+    cable: Cable,
+    text: String,
+    marks: u32,
+}
+
+/// The lines of the station by one side, and whether nothing that was turned
+/// down left a mark.
+pub fn text(side: &dyn Operations) -> (String, bool) {
+    let answer = side.set_up(SIZES);
+    let mut station = Station {
+        side,
+        record: answer.state,
+        cable: Cable {
+            random: 2026,
+            sent: [0; 4],
+        },
+        text: String::new(),
+        marks: 0,
+    };
+    station.worked_example();
+    station.line(set_up_line(answer.number));
+    for first in [0, 16, 32, 48] {
+        station.run_blocks(first, true);
+    }
+    for first in [64, 80, 96, 112] {
+        station.run_blocks(first, false);
+    }
+    let image = station.save();
+    station.lose_power_and_load(&image);
+    for first in [128, 144, 160, 176] {
+        station.run_blocks(first, false);
+    }
+    station.refused_lists();
+    station.refused_records();
+    station.refused_save();
+    station.refused_set_ups_and_loads(&image);
+    station.run_blocks(192, false);
+    station.save();
+    (station.text, station.marks == 0)
+}
+
+fn set_up_line(number: u8) -> String {
+    let Settings { p, q, n, r, l, m } = SIZES;
+    format!("set-up p {p} q {q} N {n} r {r} L {l} M {m}: answer {number}")
+}
+
+fn run(
+    side: &dyn Operations,
+    s: &mut Equaliser,
+    read: &Received,
+    length: usize,
+    out: &mut Handed,
+) -> u8 {
+    let block = Block {
+        m: &read.m[..length],
+        gains: &read.gains[..length],
+        entries: &read.entries[..length],
+    };
+    let out = Outputs {
+        y: &mut out.y[..length],
+        xi: &mut out.xi[..length],
+        decision: &mut out.decision[..length],
+        z: &mut out.z[..length],
+        theta: &mut out.theta[..length],
+    };
+    side.run(s, block, out)
+}
+
+impl Station<'_> {
+    fn line(&mut self, line: String) {
+        self.text.push_str(&line);
+        self.text.push('\n');
+    }
+
+    /// The two samples of the specification's example, and the image that
+    /// they leave.
+    fn worked_example(&mut self) {
+        self.line("worked example".to_string());
+        let mut s = self.side.set_up(SMALLEST).state;
+        let mut out = Handed::filled();
+        for (i, entry) in [1, 0].into_iter().enumerate() {
+            let mut read = Received::default();
+            read.m[0] = 0x4000;
+            read.entries[0] = entry;
+            run(self.side, &mut s, &read, 1, &mut out);
+            self.line(format!(
+                "{i} {} {} {}",
+                out.y[0], out.xi[0], out.decision[0]
+            ));
+        }
+        let mut image = [0; crate::IMAGE_BYTES];
+        let saved = self.side.save(s, &mut image);
+        self.line(format!("image{}", hexadecimal(&image[..saved.length])));
+    }
+
+    /// Sixteen blocks in place, with known symbols or without.
+    fn run_blocks(&mut self, first: u32, trained: bool) {
+        let mut wrong = 0;
+        let mut sum = 2_166_136_261;
+        for b in 0..16 {
+            let (mut read, sent) = self.cable.receive_block();
+            if trained {
+                read.entries = sent;
+            }
+            let mut out = Handed::filled();
+            let number = run(self.side, &mut self.record, &read, N, &mut out);
+            if number != 0 {
+                self.line(format!("block {}: answer {number}", first + b));
+                self.marks += 1;
+            }
+            wrong += out
+                .decision
+                .iter()
+                .zip(sent)
+                .filter(|(d, v)| **d != *v)
+                .count();
+            sum = out.add_to(sum);
+        }
+        let kind = if trained { "trained" } else { "decided" };
+        let Equaliser { psi, b, big, .. } = self.record;
+        let last = first + 15;
+        let blocks = format!("{kind} blocks {first} to {last}: wrong decisions {wrong} of 256");
+        self.line(format!(
+            "{blocks}, psi {psi}, b {b}, B {big}, outputs {sum:08X}"
+        ));
+    }
+
+    /// Saves the record and prints the image.
+    fn save(&mut self) -> [u8; IMAGE] {
+        let mut image = [0; IMAGE];
+        let saved = self.side.save(self.record, &mut image);
+        self.line(format!(
+            "saved: answer {}, length {}",
+            saved.number, saved.length
+        ));
+        self.line(format!("image{}", hexadecimal(&image[..saved.length])));
+        image
+    }
+
+    fn kept(&mut self, same: bool) -> &'static str {
+        self.marks += u32::from(!same);
+        if same {
+            "kept"
+        } else {
+            "CHANGED"
+        }
+    }
+
+    /// A block that is turned down.
+    fn refuse_block(&mut self, about: &str, before: Equaliser, read: &Received, length: usize) {
+        let mut s = before;
+        let mut out = Handed::filled();
+        let number = run(self.side, &mut s, read, length, &mut out);
+        let record = self.kept(s == before);
+        let outputs = self.kept(out == Handed::filled());
+        self.line(format!(
+            "{about}: answer {number}, record {record}, outputs {outputs}"
+        ));
+    }
+
+    fn refused_lists(&mut self) {
+        let (read, _) = self.cable.clone().receive_block();
+        self.refuse_block("block with lists of 15", self.record, &read, N - 1);
+        let mut other = read.clone();
+        other.gains[N - 1] = 16;
+        self.refuse_block("block with a gain of 16", self.record, &other, N);
+        let mut other = read;
+        other.entries[N - 1] = 2;
+        self.refuse_block("block with an entry of 2", self.record, &other, N);
+    }
+
+    fn refused_records(&mut self) {
+        let mut read = Received::default();
+        let mut s = self.record;
+        s.q = 0;
+        self.refuse_block("block on a record with q 0", s, &read, N);
+        s = self.record;
+        s.m = SIZES.m + 1;
+        self.refuse_block("block on a record with too large a step", s, &read, N);
+        s = self.record;
+        s.weights[SIZES.taps()] = 1;
+        let about = "block on a record with something in a spare place";
+        self.refuse_block(about, s, &read, N);
+        s = self.side.set_up(SMALLEST).state;
+        s.psi = 15;
+        s.weights[0] = 16383;
+        s.weights[1] = -16383;
+        s.past[1] = 1;
+        read.m[0] = 0x2000;
+        read.entries[0] = 1;
+        self.refuse_block("block that would raise psi to 16", s, &read, 1);
+    }
+
+    fn refused_save(&mut self) {
+        let mut buffer = [0x55; IMAGE - 1];
+        let saved = self.side.save(self.record, &mut buffer);
+        let kept = self.kept(buffer == [0x55; IMAGE - 1]);
+        let (number, length) = (saved.number, saved.length);
+        self.line(format!(
+            "save to 39 bytes: answer {number}, length {length}, buffer {kept}"
+        ));
+    }
+
+    fn print_refused(&mut self, about: &str, answer: Answer) {
+        let number = answer.number;
+        let Equaliser {
+            p, q, n, r, l, m, ..
+        } = answer.state;
+        self.line(format!(
+            "{about}: answer {number}, state p {p} q {q} N {n} r {r} L {l} M {m}"
+        ));
+    }
+
+    fn refused_set_ups_and_loads(&mut self, image: &[u8; IMAGE]) {
+        let side = self.side;
+        let settings = Settings {
+            p: 17,
+            m: 0,
+            ..SIZES
+        };
+        self.print_refused("set-up with 17 taps", side.set_up(settings));
+        let settings = SIZES.with_m(SIZES.m + 1);
+        self.print_refused("set-up with too large a step", side.set_up(settings));
+        self.print_refused("load of a byte less", side.load(&image[..IMAGE - 1]));
+        let damaged = |place: usize, byte: u8| {
+            let mut bytes = *image;
+            bytes[place] = byte;
+            side.load(&bytes)
+        };
+        self.print_refused("load with r 4", damaged(3, 4));
+        self.print_refused("load with too large a step", damaged(11, 0xFF));
+        self.print_refused("load with a weight of 16384 or more", damaged(13, 0x40));
+    }
+
+    fn lose_power_and_load(&mut self, image: &[u8; IMAGE]) {
+        let before = self.record;
+        let lost = Equaliser {
+            p: 0xFF,
+            q: 0xFF,
+            n: 0xFF,
+            r: 0xFF,
+            l: 0xFF,
+            psi: 0xFF,
+            b: 0xFF,
+            big: 0xFF,
+            m: u32::MAX,
+            weights: [-1; crate::PLACES],
+            past: [-1; crate::PLACES],
+        };
+        self.line("power lost".to_string());
+        self.refuse_block(
+            "block on a record of FF bytes",
+            lost,
+            &Received::default(),
+            N,
+        );
+        let answer = self.side.load(image);
+        self.record = answer.state;
+        let kept = self.kept(self.record == before);
+        let number = answer.number;
+        self.line(format!(
+            "loaded: answer {number}, record of before the loss {kept}"
+        ));
+    }
+}

@@ -1,0 +1,244 @@
+/* A station as firmware would run it: it keeps one record, trains on known symbols, goes on from its own decisions, saves,
+ * loses power, loads, and goes on. Prints a line for each thing that happens; 1 is the exit status where something that
+ * was turned down left a mark. */
+#include "tigbulode.h"
+
+#include <inttypes.h>
+#include <stdbool.h>
+#include <stdio.h>
+#include <stdlib.h>
+#include <string.h>
+
+enum { P = 4, Q = 3, N = 16, R = 1, L = 0, RESPONSE = 4, IMAGE = 12 + 4 * (P + Q) };
+static const uint32_t STEP = 7456540; /* the largest that is admitted */
+static const int32_t response[RESPONSE] = {13000, 4000, -2000, 900}; /* of the cable, in units of 1/32768 */
+
+/* What a block reads, and what it hands out. */
+typedef struct {
+    int16_t m[N];
+    uint8_t gains[N];
+    int8_t entries[N];
+} block;
+
+typedef struct {
+    int32_t y[N];
+    int32_t z[N];
+    uint8_t xi[N];
+    uint8_t theta[N];
+    int8_t decision[N];
+} outputs;
+
+/* The far end of the cable and the converter. */
+typedef struct {
+    uint32_t random;
+    int32_t sent[RESPONSE]; /* newest first */
+} cable;
+
+static tigbulode_equaliser record;
+static int marks;
+
+static uint32_t next_random(cable *c) {
+    c->random = c->random * 1664525u + 1013904223u;
+    return c->random;
+}
+
+/* The received sample of the next symbol, at the highest gain that the converter can take. */
+static int8_t receive(cable *c, int16_t *m, uint8_t *gain) {
+    memmove(c->sent + 1, c->sent, (RESPONSE - 1) * sizeof c->sent[0]);
+    c->sent[0] = 2 * (int32_t)(next_random(c) >> 30) - 3;
+    int32_t s = (int32_t)(next_random(c) >> 26) - 32;
+    for (int i = 0; i < RESPONSE; i++) s += response[i] * c->sent[i];
+    int32_t size = s < 0 ? -s : s;
+    uint8_t g = 0;
+    while (g < TIGBULODE_MOST_GAIN && (int64_t)size << (g + 1) < (int64_t)1 << (15 + R)) g++;
+    *m = (int16_t)(((int64_t)s * ((int64_t)1 << g)) / (1 << R));
+    *gain = g;
+    return (int8_t)c->sent[0];
+}
+
+/* The next block, without training entries, and the symbols that were sent. */
+static block receive_block(cable *c, int8_t *sent) {
+    block in = {{0}, {0}, {0}};
+    for (int i = 0; i < N; i++) sent[i] = receive(c, &in.m[i], &in.gains[i]);
+    return in;
+}
+
+static uint8_t run(tigbulode_equaliser *s, const block *in, size_t length, outputs *out) {
+    return tigbulode_run(s, in->m, length, in->gains, length, in->entries, length, out->y, length, out->xi, length,
+                         out->decision, length, out->z, length, out->theta, length);
+}
+
+/* A sum over all that a block handed out. */
+static uint32_t add_outputs(uint32_t sum, const outputs *out) {
+    for (int i = 0; i < N; i++) {
+        sum = (sum ^ (uint32_t)out->y[i]) * 16777619u;
+        sum = (sum ^ out->xi[i]) * 16777619u;
+        sum = (sum ^ (uint32_t)out->decision[i]) * 16777619u;
+        sum = (sum ^ (uint32_t)out->z[i]) * 16777619u;
+        sum = (sum ^ out->theta[i]) * 16777619u;
+    }
+    return sum;
+}
+
+/* Sixteen blocks in place, with known symbols or without. */
+static void run_blocks(cable *c, unsigned first, bool trained) {
+    unsigned wrong = 0;
+    uint32_t sum = 2166136261u;
+    for (unsigned b = 0; b < 16; b++) {
+        int8_t sent[N];
+        block in = receive_block(c, sent);
+        outputs out;
+        if (trained) memcpy(in.entries, sent, sizeof sent);
+        uint8_t number = run(&record, &in, N, &out);
+        if (number != TIGBULODE_ACCEPTED) {
+            printf("block %u: answer %u\n", first + b, number);
+            exit(EXIT_FAILURE);
+        }
+        for (int i = 0; i < N; i++) wrong += out.decision[i] != sent[i];
+        sum = add_outputs(sum, &out);
+    }
+    printf("%s blocks %u to %u: wrong decisions %u of 256, psi %u, b %u, B %u, outputs %08" PRIX32 "\n",
+           trained ? "trained" : "decided", first, first + 15, wrong, record.psi, record.b, record.big, sum);
+}
+
+static void print_bytes(const uint8_t *bytes, size_t length) {
+    for (size_t i = 0; i < length; i++) printf(" %02X", bytes[i]);
+    printf("\n");
+}
+
+/* Saves the record and prints the image. */
+static void save(uint8_t *image) {
+    tigbulode_saved saved = tigbulode_save(record, image, IMAGE);
+    printf("saved: answer %u, length %zu\nimage", saved.number, saved.length);
+    print_bytes(image, saved.length);
+}
+
+/* The two samples of the specification's example, and the image that they leave. */
+static void worked_example(void) {
+    tigbulode_equaliser s = tigbulode_set_up(1, 1, 1, 0, 0, 67108864).state;
+    int16_t m = 0x4000;
+    uint8_t gain = 0, xi = 0, theta = 0;
+    int8_t entries[2] = {1, 0}, decision = 0;
+    int32_t y = 0, z = 0;
+    printf("worked example\n");
+    for (int i = 0; i < 2; i++) {
+        tigbulode_run(&s, &m, 1, &gain, 1, &entries[i], 1, &y, 1, &xi, 1, &decision, 1, &z, 1, &theta, 1);
+        printf("%d %" PRId32 " %u %d\n", i, y, xi, decision);
+    }
+    uint8_t image[TIGBULODE_IMAGE_BYTES];
+    tigbulode_saved saved = tigbulode_save(s, image, sizeof image);
+    printf("image");
+    print_bytes(image, saved.length);
+}
+
+static const char *kept(bool same) {
+    if (!same) marks++;
+    return same ? "kept" : "CHANGED";
+}
+
+/* A block that is turned down. */
+static void refuse_block(const char *about, tigbulode_equaliser s, const block *in, size_t length) {
+    tigbulode_equaliser before = s;
+    outputs out, lent;
+    memset(&out, 0x55, sizeof out);
+    lent = out;
+    uint8_t number = run(&s, in, length, &out);
+    printf("%s: answer %u, record %s, ", about, number, kept(memcmp(&s, &before, sizeof s) == 0));
+    printf("outputs %s\n", kept(memcmp(&out, &lent, sizeof out) == 0));
+}
+
+static void refused_lists(cable c) {
+    int8_t sent[N];
+    const block in = receive_block(&c, sent);
+    refuse_block("block with lists of 15", record, &in, N - 1);
+    block other = in;
+    other.gains[N - 1] = TIGBULODE_MOST_GAIN + 1;
+    refuse_block("block with a gain of 16", record, &other, N);
+    other = in;
+    other.entries[N - 1] = 2;
+    refuse_block("block with an entry of 2", record, &other, N);
+}
+
+static void refused_records(void) {
+    block in = {{0}, {0}, {0}};
+    tigbulode_equaliser s = record;
+    s.q = 0;
+    refuse_block("block on a record with q 0", s, &in, N);
+    s = record;
+    s.m = STEP + 1;
+    refuse_block("block on a record with too large a step", s, &in, N);
+    s = record;
+    s.weights[P + Q] = 1;
+    refuse_block("block on a record with something in a spare place", s, &in, N);
+    s = tigbulode_set_up(1, 1, 1, 0, 0, 67108864).state;
+    s.psi = TIGBULODE_MOST_EXPONENT;
+    s.weights[0] = TIGBULODE_MOST_WEIGHT;
+    s.weights[1] = -TIGBULODE_MOST_WEIGHT;
+    s.past[1] = 1;
+    in.m[0] = 0x2000;
+    in.entries[0] = 1;
+    refuse_block("block that would raise psi to 16", s, &in, 1);
+}
+
+static void refused_save(void) {
+    uint8_t buffer[IMAGE - 1], lent[IMAGE - 1];
+    memset(buffer, 0x55, sizeof buffer);
+    memcpy(lent, buffer, sizeof lent);
+    tigbulode_saved saved = tigbulode_save(record, buffer, sizeof buffer);
+    printf("save to %zu bytes: answer %u, length %zu, buffer %s\n", sizeof buffer, saved.number, saved.length,
+           kept(memcmp(buffer, lent, sizeof lent) == 0));
+}
+
+static void print_refused(const char *about, tigbulode_answer a) {
+    const tigbulode_equaliser *s = &a.state;
+    printf("%s: answer %u, state p %u q %u N %u r %u L %u M %" PRIu32 "\n", about, a.number, s->p, s->q, s->n, s->r,
+           s->l, s->m);
+}
+
+static void refused_set_ups_and_loads(const uint8_t *image) {
+    uint8_t damaged[IMAGE];
+    print_refused("set-up with 17 taps", tigbulode_set_up(17, Q, N, R, L, 0));
+    print_refused("set-up with too large a step", tigbulode_set_up(P, Q, N, R, L, STEP + 1));
+    print_refused("load of a byte less", tigbulode_load(image, IMAGE - 1));
+    memcpy(damaged, image, IMAGE);
+    damaged[3] = 4;
+    print_refused("load with r 4", tigbulode_load(damaged, IMAGE));
+    memcpy(damaged, image, IMAGE);
+    damaged[11] = 0xFF;
+    print_refused("load with too large a step", tigbulode_load(damaged, IMAGE));
+    memcpy(damaged, image, IMAGE);
+    damaged[13] = 0x40;
+    print_refused("load with a weight of 16384 or more", tigbulode_load(damaged, IMAGE));
+}
+
+static void lose_power_and_load(const uint8_t *image) {
+    const tigbulode_equaliser before = record;
+    const block in = {{0}, {0}, {0}};
+    memset(&record, 0xFF, sizeof record);
+    printf("power lost\n");
+    refuse_block("block on a record of FF bytes", record, &in, N);
+    tigbulode_answer a = tigbulode_load(image, IMAGE);
+    record = a.state;
+    printf("loaded: answer %u, record of before the loss %s\n", a.number, kept(memcmp(&record, &before, sizeof record) == 0));
+}
+
+int main(void) {
+    worked_example();
+    cable c = {2026, {0}};
+    uint8_t image[IMAGE];
+    tigbulode_answer a = tigbulode_set_up(P, Q, N, R, L, STEP);
+    printf("set-up p %d q %d N %d r %d L %d M %" PRIu32 ": answer %u\n", P, Q, N, R, L, STEP, a.number);
+    record = a.state;
+    for (unsigned first = 0; first < 64; first += 16) run_blocks(&c, first, true);
+    for (unsigned first = 64; first < 128; first += 16) run_blocks(&c, first, false);
+    save(image);
+    lose_power_and_load(image);
+    for (unsigned first = 128; first < 192; first += 16) run_blocks(&c, first, false);
+    refused_lists(c);
+    refused_records();
+    refused_save();
+    refused_set_ups_and_loads(image);
+    run_blocks(&c, 192, false);
+    save(image);
+    return marks == 0 ? EXIT_SUCCESS : EXIT_FAILURE;
+}
