@@ -6,11 +6,11 @@ use lib.IntN.{ℤ, natAbs}
 use Rattle.laws.specs.Powers.{rises-strictly}
 use Rattle.laws.specs.Sums.{Each, each-weaken}
 use Rattle.numbers.proofs.BitLengthLaws.{bit-length-above, bit-length-le}
-use Rattle.filter.specs.Settings.{Settings, scaleForward}
-use Rattle.filter.specs.Side.{largest, magnitudes}
+use Rattle.steps.specs.Settings.{Settings, scaleForward}
+use Rattle.steps.specs.Side.{largest, magnitudes}
 use Rattle.block.specs.Block.{Block, Memory, receivedAll, newb, newB, g}
 use Rattle.block.specs.Sound.{Sound, Acceptable}
-use Rattle.filter.proofs.LargestLaws.{largest-magnitude, each-magnitude}
+use Rattle.steps.proofs.LargestLaws.{largest-magnitude, each-magnitude}
 use Rattle.block.proofs.ReceivedLaws.{received-each}
 
 module _ (k : Settings) (o : Memory) (i : Block) where

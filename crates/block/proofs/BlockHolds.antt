@@ -5,7 +5,7 @@ use Prim.Native.Nat.{ℕ, _<_}
 use native.Mathlib.Omega.{arith}
 use lib.IntN.{ℤ, pos}
 use Rattle.laws.specs.Sums.{each-at}
-use Rattle.filter.specs.Settings.{Settings, isEntry}
+use Rattle.steps.specs.Settings.{Settings, isEntry}
 use Rattle.block.specs.Block.{Block, Memory, g, after, at, goes, entryAt, handedY, handedξ, handedDecision, handedZ, handedθ}
 use Rattle.block.specs.Holds.{Given, AtSample}
 use Rattle.filter.specs.Sound.{Fit}

@@ -13,7 +13,7 @@ use Rattle.laws.specs.Powers.{split}
 use Rattle.laws.specs.Ring.{ring, terms}
 use Rattle.numbers.specs.Cut.{cut, raise, rescale}
 use Rattle.numbers.proofs.CutLaws.{cut-error, rescale-up, rescale-down}
-use Rattle.filter.specs.Settings.{Settings, scaleForward}
+use Rattle.steps.specs.Settings.{Settings, scaleForward}
 use Rattle.block.specs.Block.{Block, Memory, receivedAll, newB, stored, at, left}
 use Rattle.block.specs.Sound.{Sound, Acceptable}
 use Rattle.block.specs.Stored.{Off, StoredNear, MetNear}

@@ -11,15 +11,15 @@ use lib.IntN.{ℤ, pos}
 use borrow.Author.Tests.{leb-true, lt-leb}
 use Rattle.laws.specs.Lists.{and-left, and-right}
 use Rattle.laws.specs.Sums.{Each, each-at, each-of, each-append}
-use Rattle.filter.specs.Settings.{Settings, exponentLimit, isEntry}
+use Rattle.steps.specs.Settings.{Settings, exponentLimit, isEntry}
 use Rattle.filter.specs.Sample.{Taps, v, settled, small, newForward, newBack, next}
 use Rattle.block.specs.Block.{Block, Memory, newb, newB, g, stored, old, start, entered, after, at, goes, left}
 use Rattle.filter.specs.Sound.{Fit}
 use Rattle.block.specs.Sound.{Sound, Acceptable}
-use Rattle.filter.proofs.SymbolLaws.{symbol-entry}
+use Rattle.steps.proofs.SymbolLaws.{symbol-entry}
 use Rattle.filter.proofs.SampleSides.{v-symbol}
 use Rattle.filter.proofs.SampleBounds.{bounded}
-use Rattle.filter.proofs.SideLaws.{adapt-length, push-length, push-each}
+use Rattle.steps.proofs.SideLaws.{adapt-length, push-length, push-each}
 use Rattle.block.proofs.BlockExponents.{newb-newB, newB-most, g-least, g-most}
 use Rattle.block.proofs.BlockStored.{StateBound, SampleBound, stored-sound, stored-small, old-small, stored-length}
 use Rattle.block.proofs.BlockWindow.{after-length, left-length, left-at}

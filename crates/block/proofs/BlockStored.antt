@@ -11,7 +11,7 @@ use Rattle.laws.specs.Powers as Power
 use Rattle.laws.specs.Sums.{Each, each-map, each-weaken}
 use Rattle.numbers.specs.Cut.{rescale}
 use Rattle.numbers.proofs.CutLaws.{rescale-most}
-use Rattle.filter.specs.Settings.{Settings, scaleForward}
+use Rattle.steps.specs.Settings.{Settings, scaleForward}
 use Rattle.block.specs.Block.{Block, Memory, receivedAll, newb, newB, stored, old}
 use Rattle.block.specs.Sound.{Sound, Acceptable, Receivable, Storable}
 use Rattle.block.proofs.BlockExponents.{received-below, newb-newB, oldb-newB, newb-most}

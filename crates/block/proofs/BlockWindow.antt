@@ -6,10 +6,10 @@ use native.Mathlib.Omega.{arith}
 use lib.ListN.{length, getD, length-append, List·getD-append}
 use lib.Seq.{length-take-le, getD-take}
 use lib.IntN.{ℤ, pos}
-use Rattle.filter.specs.Settings.{Settings}
+use Rattle.steps.specs.Settings.{Settings}
 use Rattle.filter.specs.Sample.{next}
 use Rattle.block.specs.Block.{Block, Memory, stored, old, start, after, at, left}
-use Rattle.filter.proofs.SideLaws.{push-length, push-at}
+use Rattle.steps.proofs.SideLaws.{push-length, push-at}
 use Rattle.block.proofs.BlockStored.{old-length}
 
 same-place : (l : List ℤ) (m n : ℕ) → m ≡ n → getD l m (pos 0) ≡ getD l n (pos 0)

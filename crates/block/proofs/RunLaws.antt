@@ -12,8 +12,8 @@ use lib.Seq.{take-suc-set}
 use lib.IntN.{ℤ, pos}
 use borrow.Author.Tests.{le-leb}
 use Rattle.laws.specs.Sums.{each-at}
-use Rattle.filter.specs.Settings.{Settings, isEntry, scaleForward, scaleBack}
-use Rattle.filter.specs.Side.{push}
+use Rattle.steps.specs.Settings.{Settings, isEntry, scaleForward, scaleBack}
+use Rattle.steps.specs.Side.{push}
 use Rattle.filter.specs.Sample.{Taps, Y, ξ, decision, Z, θ, next}
 use Rattle.block.specs.Block.{Block, Memory, newb, newB, g, stored, after, at, goes, values, entryAt, handedY, handedξ, handedDecision, handedZ, handedθ}
 use Rattle.filter.specs.Sound.{Fit}

@@ -12,7 +12,7 @@ use mir.Val.{Fits}
 use Rattle.laws.specs.Sums.{Each, each-append}
 use Rattle.numbers.specs.Cut.{rescale}
 use Rattle.numbers.proofs.CutLaws.{rescale-zero}
-use Rattle.filter.specs.Settings.{Settings, scaleForward, scaleBack}
+use Rattle.steps.specs.Settings.{Settings, scaleForward, scaleBack}
 use Rattle.block.specs.Block.{Block, Memory, receivedAll, newb, newB, g, stored, old, start, after}
 use Rattle.block.specs.Sound.{Receivable, Storable}
 use Rattle.filter.specs.Calls.{tapsOf}

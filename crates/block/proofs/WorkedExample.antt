@@ -8,12 +8,13 @@ use Rattle.numbers.specs.ScaleCount.{scaleCount}
 use Rattle.numbers.specs.BitLength.{bitLength}
 use Rattle.numbers.specs.Cut.{cut}
 use Rattle.laws.specs.Sums.{dot}
-use Rattle.filter.specs.Settings.{Settings}
-use Rattle.filter.specs.Side.{largest, adapt}
-use Rattle.filter.specs.Output.{output, outputExponent}
-use Rattle.filter.specs.Decision.{decide}
-use Rattle.filter.specs.Error.{error, errorExponent}
-use Rattle.filter.specs.Sample.{longest, ν, F, H, Y, ξ, decision, v, κ, Z, θ, J, newForward, newBack, small, next}
+use Rattle.steps.specs.Settings.{Settings}
+use Rattle.steps.specs.Side.{largest, adapt}
+use Rattle.steps.specs.Output.{output, outputExponent}
+use Rattle.steps.specs.Decision.{decide}
+use Rattle.steps.specs.Error.{error, errorExponent}
+use Rattle.filter.specs.Sample.{ν, F, H, Y, ξ, decision, v, κ, Z, θ, J, newForward, newBack, small, next}
+use Rattle.steps.specs.Side.{longest}
 use Rattle.block.specs.Block.{Block, Memory, receivedAll, newb, newB, g, stored, old, start, after, at, left}
 
 settings : Settings

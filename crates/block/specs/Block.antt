@@ -7,8 +7,8 @@ use lib.ListN.{getD, take}
 use lib.IntN.{ℤ, pos}
 use Rattle.numbers.specs.BitLength.{bitLength}
 use Rattle.numbers.specs.Cut.{raise, rescale}
-use Rattle.filter.specs.Settings.{Settings, scaleForward, exponentLimit}
-use Rattle.filter.specs.Side.{largest, magnitudes, push}
+use Rattle.steps.specs.Settings.{Settings, scaleForward, exponentLimit}
+use Rattle.steps.specs.Side.{largest, magnitudes, push}
 use Rattle.filter.specs.Sample.{Taps, Y, ξ, decision, Z, θ, next}
 
 -- what a block is given: m, the gains and the training entries

@@ -6,8 +6,8 @@ use Prim.Native.Nat.{ℕ, _+_, _-_, _≤_, max}
 use lib.ListN.{length, take}
 use lib.IntN.{ℤ, pos}
 use Rattle.numbers.specs.BitLength.{bitLength}
-use Rattle.filter.specs.Settings.{Settings, Within, scaleForward, scaleBack}
-use Rattle.filter.specs.Side.{largest, magnitudes}
+use Rattle.steps.specs.Settings.{Settings, Within, scaleForward, scaleBack}
+use Rattle.steps.specs.Side.{largest, magnitudes}
 use Rattle.block.specs.Block.{Block, Memory, receivedAll, newb, newB, after, goes, handedY, handedξ, handedDecision, handedZ, handedθ}
 use Rattle.block.specs.Sound.{Sound, Acceptable, Receivable}
 use Rattle.block.specs.declared.run.Begun.{Begun}

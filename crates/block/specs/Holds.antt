@@ -4,9 +4,9 @@ use Prim.Native.Nat.{ℕ, suc}
 use lib.ListN.{getD}
 use lib.IntN.{pos}
 use Rattle.laws.specs.Sums.{Each}
-use Rattle.filter.specs.Settings.{Settings}
+use Rattle.steps.specs.Settings.{Settings}
 use Rattle.filter.specs.Sample.{Y, ξ, decision, Z, θ, next}
-use Rattle.filter.specs.Sound.{Small}
+use Rattle.steps.specs.Sound.{Small}
 use Rattle.filter.specs.Exact.{Bounded, Faithful, Unclipped, Settled}
 use Rattle.block.specs.Block.{Block, Memory, g, after, at, entryAt, handedY, handedξ, handedDecision, handedZ, handedθ}
 

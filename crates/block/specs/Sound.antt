@@ -7,8 +7,8 @@ use lib.ListN.{length}
 use lib.IntN.{ℤ, natAbs}
 use Rattle.laws.specs.Sums.{Each}
 use Rattle.numbers.specs.Cut.{rescale}
-use Rattle.filter.specs.Settings.{Settings, Within, Admitted, isEntry, scaleForward, exponentLimit}
-use Rattle.filter.specs.Sound.{Small}
+use Rattle.steps.specs.Settings.{Settings, Within, Admitted, isEntry, scaleForward, exponentLimit}
+use Rattle.steps.specs.Sound.{Small}
 use Rattle.block.specs.Block.{Block, Memory}
 
 -- the soundness facts between blocks

@@ -4,7 +4,7 @@ use Prim.Native.Nat.{ℕ, _+_, _-_, _^_, _≤_, _<_, max}
 use lib.ListN.{getD}
 use lib.IntN.{ℤ, pos, natAbs, _-ℤ_}
 use Rattle.numbers.specs.Cut.{raise, rescale}
-use Rattle.filter.specs.Settings.{Settings, scaleForward}
+use Rattle.steps.specs.Settings.{Settings, scaleForward}
 use Rattle.block.specs.Block.{Block, Memory, receivedAll, newB, stored, at, left}
 
 -- A, stored at B + S = e, is off X by less than 2^limit

@@ -1,7 +1,7 @@
 // One block.
 ghost use mathlib.Core.Path.{_≡_};
 ghost use Prim.Native.Nat.{max};
-ghost use Rattle.filter.specs.Side.{push};
+ghost use Rattle.steps.specs.Side.{push};
 ghost use Rattle.filter.specs.Calls.{settingsOf, Ready, Advanced-is, tapsOf};
 ghost use Rattle.block.specs.Calls.{blockOf, memoryOf, Begun-is, Startable, Runnable, Ran-is};
 use filter::sample::Settings;
@@ -74,7 +74,7 @@ fn advance(
     requires { ⌜ Ready (settingsOf k) (e .s) (e .sb) (e .g) (tapsOf (now forward) (now back) (push a (now samples)) (now symbols) psi) entry ⌝ }
     ensures { λ r. ⌜ Advanced-is (settingsOf k) (e .g) (tapsOf (now (forward .entry)) (now (back .entry)) (push a (now (samples .entry))) (now (symbols .entry)) psi) entry r (now (forward .exit)) (now (back .exit)) (now (samples .exit)) (now (symbols .exit)) ⌝ }
 {
-    filter::side::push(samples, a);
+    steps::side::push(samples, a);
     filter::sample::step(
         k,
         e.s,

@@ -6,7 +6,7 @@ ghost use lib.ListN.{length, getD, take};
 ghost use lib.IntN.{ℤ, pos};
 ghost use Rattle.laws.specs.Sums.{Each};
 ghost use Rattle.numbers.specs.Cut.{rescale};
-ghost use Rattle.filter.specs.Side.{largest, magnitudes};
+ghost use Rattle.steps.specs.Side.{largest, magnitudes};
 ghost use Rattle.block.specs.Block.{received, receivedAll};
 ghost use Rattle.block.specs.Sound.{Receivable, Storable};
 

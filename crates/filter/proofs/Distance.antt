@@ -11,12 +11,12 @@ use Rattle.laws.specs.Sums.{dot}
 use Rattle.numbers.specs.Cut.{raise}
 use Rattle.numbers.proofs.CutLaws.{raise-raise}
 use Rattle.numbers.proofs.BitLengthLaws.{bit-length-le}
-use Rattle.filter.specs.Settings.{Settings, isEntry, scaleBack}
-use Rattle.filter.specs.Side.{Side, learnt}
+use Rattle.steps.specs.Settings.{Settings, isEntry, scaleBack}
+use Rattle.steps.specs.Side.{Side, learnt}
 use Rattle.filter.specs.Sample.{Taps, ν, held, F, H, Y, ξ, v, κ, Z, θ, J, forwardSide, backSide, newForward, newBack, small, next, settled, settledExponent}
 use Rattle.filter.specs.Sound.{Fit}
 use Rattle.filter.specs.Exact.{exactOutput, exactWeight, Near, Bounded, Faithful}
-use Rattle.filter.proofs.OutputLaws.{ξ-form, θ-form}
+use Rattle.filter.proofs.SampleForms.{ξ-form, θ-form}
 use Rattle.filter.proofs.SideBounds.{SideFit}
 use Rattle.filter.proofs.SampleSides.{ν-is, ν-most, longest-most, H-raised, forward-fit, back-fit, v-below}
 use Rattle.filter.proofs.DistanceOutput.{output-distance, error-distance}

@@ -11,9 +11,9 @@ use Rattle.laws.specs.Powers.{split, same, positive}
 use Rattle.laws.specs.Ring.{ring, terms}
 use Rattle.numbers.specs.Cut.{cut, raise}
 use Rattle.numbers.proofs.CutLaws.{cut-error, raise-raise}
-use Rattle.filter.specs.Output.{output, outputExponent}
-use Rattle.filter.specs.Error.{error, errorExponent}
-use Rattle.filter.proofs.OutputLaws.{output-form, output-exponent-form, error-form, error-exponent-form}
+use Rattle.steps.specs.Output.{output, outputExponent}
+use Rattle.steps.specs.Error.{error, errorExponent}
+use Rattle.steps.proofs.OutputLaws.{output-form, output-exponent-form, error-form, error-exponent-form}
 
 -- ---- over plain letters
 

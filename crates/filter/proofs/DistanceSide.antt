@@ -10,11 +10,11 @@ use Rattle.laws.specs.Powers.{split, split4, rises}
 use Rattle.laws.specs.Sums.{each-at}
 use Rattle.numbers.specs.Cut.{raise}
 use Rattle.numbers.proofs.ScaleCountLaws.{scale-below}
-use Rattle.filter.specs.Settings.{Settings, Within, Admitted, scaleForward, scaleBack}
-use Rattle.filter.specs.Side.{Side, learnt, factor, factorPlaces}
+use Rattle.steps.specs.Settings.{Settings, Within, Admitted, scaleForward, scaleBack}
+use Rattle.steps.specs.Side.{Side, learnt, factor, factorPlaces}
 use Rattle.filter.specs.Exact.{exactWeight}
-use Rattle.filter.proofs.Admission.{admission}
-use Rattle.filter.proofs.SideLaws.{adapt-at}
+use Rattle.steps.proofs.Admission.{admission}
+use Rattle.steps.proofs.SideLaws.{adapt-at}
 use Rattle.filter.proofs.SideBounds.{SideFit}
 use Rattle.filter.proofs.DistanceWeight.{Close, weight-distance}
 

@@ -12,10 +12,10 @@ use Rattle.laws.specs.Powers.{split, split3}
 use Rattle.laws.specs.Ring.{ring, terms}
 use Rattle.numbers.specs.Cut.{cut, raise}
 use Rattle.numbers.proofs.CutLaws.{cut-error}
-use Rattle.filter.specs.Side.{adapted}
+use Rattle.steps.specs.Side.{adapted}
 use Rattle.filter.specs.Sample.{settled, settledExponent}
 use Rattle.filter.specs.Exact.{Near}
-use Rattle.filter.proofs.SideLaws.{halved-at}
+use Rattle.steps.proofs.SideLaws.{halved-at}
 
 -- ---- over plain letters
 

@@ -1,11 +1,6 @@
-pub mod LargestLaws
-pub mod SideLaws
-pub mod DecisionLaws
-pub mod OutputLaws
+pub mod SampleForms
 pub mod SideBounds
-pub mod SymbolLaws
 pub mod ErrorBounds
-pub mod Admission
 pub mod StepAdmission
 pub mod SampleSides
 pub mod SampleBounds

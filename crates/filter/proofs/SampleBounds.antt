@@ -8,10 +8,11 @@ use Rattle.laws.specs.Lists.{and-left, and-right}
 use Rattle.laws.specs.Powers.{split, positive}
 use Rattle.laws.specs.Sums.{Each}
 use Rattle.numbers.specs.Cut.{raise}
-use Rattle.filter.specs.Settings.{Settings, scaleForward, scaleBack, isEntry}
-use Rattle.filter.specs.Side.{Side, allSmall}
+use Rattle.steps.specs.Settings.{Settings, scaleForward, scaleBack, isEntry}
+use Rattle.steps.specs.Side.{Side, allSmall}
 use Rattle.filter.specs.Sample.{Taps, ν, F, H, Y, ξ, v, κ, Z, θ, J, forwardSide, backSide, newForward, newBack, small, next}
-use Rattle.filter.specs.Sound.{Fit, Small, Summable, Adaptable}
+use Rattle.filter.specs.Sound.{Fit}
+use Rattle.steps.specs.Sound.{Small, Summable, Adaptable}
 use Rattle.filter.specs.Exact.{Bounded}
 use Rattle.filter.proofs.SideBounds.{SideFit, sum-small, sum-raised, summable, adaptable, learnt-small, places-least, all-small, settled-small}
 use Rattle.filter.proofs.ErrorBounds.{output-small, output-scaled, error-small, error-scaled}

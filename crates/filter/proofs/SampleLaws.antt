@@ -10,14 +10,14 @@ use lib.IntN.{ℤ, natAbs}
 use Rattle.laws.specs.Powers.{rises, raise}
 use Rattle.numbers.specs.BitLength.{bitLength}
 use Rattle.numbers.proofs.BitLengthLaws.{bit-length-le, bit-length-above}
-use Rattle.filter.specs.Settings.{Settings, isEntry}
-use Rattle.filter.specs.Decision.{decide}
-use Rattle.filter.specs.Error.{errorExponent}
-use Rattle.filter.specs.Sound.{Missable}
-use Rattle.filter.proofs.SymbolLaws.{symbol-below, decide-symbol, chosen-symbol}
-use Rattle.filter.proofs.DecisionLaws.{symbol-most}
-use Rattle.filter.proofs.OutputLaws.{error-exponent-form}
-use Rattle.filter.specs.Side.{allSmall, halved}
+use Rattle.steps.specs.Settings.{Settings, isEntry}
+use Rattle.steps.specs.Decision.{decide}
+use Rattle.steps.specs.Error.{errorExponent}
+use Rattle.steps.specs.Sound.{Missable}
+use Rattle.steps.proofs.SymbolLaws.{symbol-below, decide-symbol, chosen-symbol}
+use Rattle.steps.proofs.DecisionLaws.{symbol-most}
+use Rattle.steps.proofs.OutputLaws.{error-exponent-form}
+use Rattle.steps.specs.Side.{allSmall, halved}
 use Rattle.filter.specs.Calls.{Settled-is, Taken-is, chosen, tapsOf}
 use Rattle.filter.specs.declared.sample.Taken.{Taken}
 

@@ -15,15 +15,16 @@ use Rattle.numbers.specs.ScaleCount.{scaleCount}
 use Rattle.numbers.proofs.CutLaws.{raise-abs, raise-raise}
 use Rattle.numbers.proofs.BitLengthLaws.{bit-length-le}
 use Rattle.numbers.proofs.ScaleCountLaws.{scale-enough, scale-least}
-use Rattle.filter.specs.Settings.{Settings, scaleForward, scaleBack, isSymbol, isEntry}
-use Rattle.filter.specs.Side.{Side, adapt, largest, magnitudes}
-use Rattle.filter.specs.Sample.{Taps, longest, ν, held, forwardSide, backSide, H, Y, ξ, decision, v, κ, θ, J, newBack}
+use Rattle.steps.specs.Settings.{Settings, scaleForward, scaleBack, isSymbol, isEntry}
+use Rattle.steps.specs.Side.{Side, adapt, largest, magnitudes}
+use Rattle.filter.specs.Sample.{Taps, ν, held, forwardSide, backSide, H, Y, ξ, decision, v, κ, θ, J, newBack}
+use Rattle.steps.specs.Side.{longest}
 use Rattle.filter.specs.Sound.{Fit}
-use Rattle.filter.proofs.LargestLaws.{largest-magnitude, longest-is, longest-above}
-use Rattle.filter.proofs.SideLaws.{adapt-raise}
-use Rattle.filter.proofs.OutputLaws.{ξ-form, θ-form}
+use Rattle.steps.proofs.LargestLaws.{largest-magnitude, longest-is, longest-above}
+use Rattle.steps.proofs.SideLaws.{adapt-raise}
+use Rattle.filter.proofs.SampleForms.{ξ-form, θ-form}
 use Rattle.filter.proofs.SideBounds.{SideFit}
-use Rattle.filter.proofs.SymbolLaws.{entry-below, symbol-below, decide-symbol, chosen-symbol}
+use Rattle.steps.proofs.SymbolLaws.{entry-below, symbol-below, decide-symbol, chosen-symbol}
 
 -- the scale count of 1 to 16 taps
 scale-positive : (n : ℕ) → 1 ≤ n → 1 ≤ scaleCount n

@@ -3,9 +3,9 @@ use mathlib.Core.Path.{_≡_, refl, ap}
 use mathlib.Core.Bool.{Bool, true, false}
 use Prim.Native.Nat.{ℕ}
 use lib.IntN.{ℤ}
-use Rattle.filter.specs.Settings.{Settings}
-use Rattle.filter.specs.Output.{output}
-use Rattle.filter.specs.Error.{error}
+use Rattle.steps.specs.Settings.{Settings}
+use Rattle.steps.specs.Output.{output}
+use Rattle.steps.specs.Error.{error}
 use Rattle.filter.specs.Sample.{Taps, settled, settledExponent, F, H, Y, Z, J, newForward, newBack, small, next}
 use Rattle.filter.specs.Exact.{Unclipped, Settled, kept, halved-once}
 

@@ -14,10 +14,10 @@ use Rattle.laws.specs.Powers.{split3, rises, cancel-le}
 use Rattle.laws.specs.Sums.{Each, each-map, each-of, each-weaken, dot-bound}
 use Rattle.numbers.specs.Cut.{cut, raise}
 use Rattle.numbers.proofs.CutLaws.{cut-lt, raise-abs}
-use Rattle.filter.specs.Side.{Side, sum, adapt, adapted, learnt, isSmall, allSmall, halved, largest, magnitudes}
+use Rattle.steps.specs.Side.{Side, sum, adapt, adapted, learnt, isSmall, allSmall, halved, largest, magnitudes}
 use Rattle.filter.specs.Sample.{settled}
-use Rattle.filter.specs.Sound.{Small, Summable, Adaptable}
-use Rattle.filter.proofs.LargestLaws.{largest-magnitude, each-magnitude}
+use Rattle.steps.specs.Sound.{Small, Summable, Adaptable}
+use Rattle.steps.proofs.LargestLaws.{largest-magnitude, each-magnitude}
 
 -- the facts of a side of n taps
 pub record SideFit (r n : ℕ) (f : Side) : Type 0 where

@@ -7,9 +7,9 @@ use lib.IntN.{ℤ, pos, natAbs, _*ℤ_}
 use Rattle.laws.specs.Integers.{abs-mul}
 use Rattle.laws.specs.Powers.{split, split3, below, cancel-le}
 use Rattle.numbers.proofs.CutLaws.{cut-scaled}
-use Rattle.filter.specs.Settings.{Settings, Admitted}
-use Rattle.filter.specs.Side.{Side, factor, factorPlaces}
-use Rattle.filter.proofs.Admission.{admission}
+use Rattle.steps.specs.Settings.{Settings, Admitted}
+use Rattle.steps.specs.Side.{Side, factor, factorPlaces}
+use Rattle.steps.proofs.Admission.{admission}
 
 -- ---- over letters: a is 2^r, l is 2^L, and Ψ, Θ, Ξ are the powers of ψ, θ, ξ
 

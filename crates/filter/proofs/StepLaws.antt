@@ -8,16 +8,17 @@ use lib.IntN.{ℤ, natAbs}
 use Rattle.laws.specs.Sums.{dot}
 use Rattle.numbers.specs.Cut.{raise}
 use Rattle.numbers.proofs.CutLaws.{raise-abs}
-use Rattle.filter.specs.Settings.{Settings, scaleForward, scaleBack}
-use Rattle.filter.specs.Side.{Side}
-use Rattle.filter.specs.Sample.{Taps, longest, ν, F, H, Y, ξ, decision, v, κ, Z, θ, J, forwardSide, backSide, newForward, newBack, small, next}
-use Rattle.filter.specs.Sound.{Adaptable}
+use Rattle.steps.specs.Settings.{Settings, scaleForward, scaleBack}
+use Rattle.steps.specs.Side.{Side}
+use Rattle.filter.specs.Sample.{Taps, ν, F, H, Y, ξ, decision, v, κ, Z, θ, J, forwardSide, backSide, newForward, newBack, small, next}
+use Rattle.steps.specs.Side.{longest}
+use Rattle.steps.specs.Sound.{Adaptable}
 use Rattle.filter.specs.Calls.{Audible, Heard-is, Decidable, Judged-is, Teachable, Changeable, Changed-is, Ready, Taken-is, takenOf, taughtForward, taughtBack}
 use Rattle.filter.specs.declared.sample.Heard.{Heard}
 use Rattle.filter.specs.declared.sample.Judged.{Judged}
 use Rattle.filter.specs.declared.sample.Taken.{Taken}
-use Rattle.filter.proofs.SymbolLaws.{symbol-below, decide-symbol}
-use Rattle.filter.proofs.DecisionLaws.{symbol-most}
+use Rattle.steps.proofs.SymbolLaws.{symbol-below, decide-symbol}
+use Rattle.steps.proofs.DecisionLaws.{symbol-most}
 use Rattle.filter.proofs.SideBounds.{SideFit}
 use Rattle.filter.proofs.SampleSides as S
 use Rattle.filter.proofs.SampleBounds as B

@@ -9,13 +9,15 @@ use lib.IntN.{ℤ, pos, natAbs, _*ℤ_}
 use Rattle.laws.specs.Sums.{dot}
 use Rattle.numbers.specs.BitLength.{bitLength}
 use Rattle.numbers.specs.Cut.{cut, raise}
-use Rattle.filter.specs.Settings.{Settings, Within, isEntry, scaleForward, scaleBack}
-use Rattle.filter.specs.Side.{adapt, allSmall, push, largest, magnitudes}
-use Rattle.filter.specs.Output.{output, outputExponent}
-use Rattle.filter.specs.Decision.{decide}
-use Rattle.filter.specs.Error.{error, errorExponent}
-use Rattle.filter.specs.Sample.{Taps, longest, settled, settledExponent, Y, ξ, decision, Z, θ, next}
-use Rattle.filter.specs.Sound.{Fit, Summable, Adaptable, Joinable}
+use Rattle.steps.specs.Settings.{Settings, Within, isEntry, scaleForward, scaleBack}
+use Rattle.steps.specs.Side.{adapt, allSmall, push, largest, magnitudes}
+use Rattle.steps.specs.Output.{output, outputExponent}
+use Rattle.steps.specs.Decision.{decide}
+use Rattle.steps.specs.Error.{error, errorExponent}
+use Rattle.filter.specs.Sample.{Taps, settled, settledExponent, Y, ξ, decision, Z, θ, next}
+use Rattle.steps.specs.Side.{longest}
+use Rattle.filter.specs.Sound.{Fit}
+use Rattle.steps.specs.Sound.{Summable, Adaptable, Joinable}
 use Rattle.filter.specs.declared.sample.Settings as Declared
 use Rattle.filter.specs.declared.sample.Heard.{Heard}
 use Rattle.filter.specs.declared.sample.Judged.{Judged}

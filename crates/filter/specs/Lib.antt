@@ -1,8 +1,3 @@
-pub mod Settings
-pub mod Side
-pub mod Output
-pub mod Decision
-pub mod Error
 pub mod Sample
 pub mod Sound
 pub mod Exact

@@ -6,11 +6,11 @@ use lib.Dec.{eqb}
 use lib.IntN.{ℤ, natAbs}
 use Rattle.numbers.specs.BitLength.{bitLength}
 use Rattle.numbers.specs.Cut.{raise}
-use Rattle.filter.specs.Settings.{Settings, scaleForward, scaleBack}
-use Rattle.filter.specs.Side.{Side, sum, factor, learnt, allSmall, halved, push, largest, magnitudes}
-use Rattle.filter.specs.Output.{output, outputExponent}
-use Rattle.filter.specs.Decision.{decide}
-use Rattle.filter.specs.Error.{error, errorExponent}
+use Rattle.steps.specs.Settings.{Settings, scaleForward, scaleBack}
+use Rattle.steps.specs.Side.{Side, sum, factor, learnt, allSmall, halved, push, longest}
+use Rattle.steps.specs.Output.{output, outputExponent}
+use Rattle.steps.specs.Decision.{decide}
+use Rattle.steps.specs.Error.{error, errorExponent}
 
 -- the weights of both filters, the p stored samples A and the last q symbols, newest first, and ψ
 pub record Taps : Type 0 where
@@ -19,10 +19,6 @@ pub record Taps : Type 0 where
   pub samples : List ℤ
   pub symbols : List ℤ
   pub ψ : ℕ
-
--- 1: c, the largest bit length
-unfoldable pub longest : List ℤ → ℕ
-longest l = largest (map bitLength (magnitudes l))
 
 -- 7: what becomes of new weights, and of ψ
 abbrev pub settled : Bool → List ℤ → List ℤ

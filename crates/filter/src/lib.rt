@@ -1,7 +1,2 @@
-// One side, one sample, one block of the equaliser.
-pub mod decision;
-pub mod error;
-pub mod factor;
-pub mod output;
+// One sample of the equaliser.
 pub mod sample;
-pub mod side;

@@ -3,7 +3,7 @@ ghost use mathlib.Core.Path.{_≡_};
 ghost use mathlib.Core.Bool.{_&&_};
 ghost use Prim.Native.Nat.{_^_, _<_, _≤_};
 ghost use lib.IntN.{natAbs};
-ghost use Rattle.filter.specs.Side.{allSmall};
+ghost use Rattle.steps.specs.Side.{allSmall};
 ghost use Rattle.filter.specs.Calls.{Audible, Heard-is, Decidable, Judged-is, chosen, Teachable, taught, Settled-is, Changeable, Changed-is, takenOf, Ready, Taken-is, settingsOf, tapsOf};
 
 // The settings of a station.
@@ -54,10 +54,10 @@ pub fn hear(
     requires { ⌜ Audible sb g psi (now forward) (now back) (now samples) (now symbols) ⌝ }
     ensures { λ r. ⌜ Heard-is sb g psi (now (forward .entry)) (now (back .entry)) (now (samples .entry)) (now (symbols .entry)) r ⌝ }
 {
-    let nu = sb + super::side::longest(symbols);
-    let f = super::side::sum(forward, samples);
-    let h = super::side::raised(super::side::sum(back, symbols), 15 - nu);
-    let o = super::output::output(f, h, g, nu, psi);
+    let nu = sb + steps::side::longest(symbols);
+    let f = steps::side::sum(forward, samples);
+    let h = steps::side::raised(steps::side::sum(back, symbols), 15 - nu);
+    let o = steps::output::output(f, h, g, nu, psi);
     Heard {
         nu: nu,
         y: o.y,
@@ -77,10 +77,10 @@ pub fn judge(r: u32, sb: u32, y: i32, xi: u32, entry: i16) -> Judged
     requires { ⌜ Decidable r sb y xi entry ⌝ }
     ensures { λ j. ⌜ Judged-is r sb y xi entry j ⌝ }
 {
-    let d = super::decision::decide(y, xi, r);
+    let d = steps::decision::decide(y, xi, r);
     let v = chosen(entry, d);
     let kappa = sb + numbers::bit_length::signed_bit_length(v as i64);
-    let e = super::error::error(v, y, xi, kappa);
+    let e = steps::error::error(v, y, xi, kappa);
     Judged {
         decision: d,
         v: v,
@@ -104,17 +104,17 @@ pub fn learn(
     requires { ⌜ Teachable m z psi theta scale exponent more (now w) (now a) ⌝ }
     ensures { λ _. ⌜ now (w .exit) ≡ taught m z psi theta scale exponent more (now (w .entry)) (now (a .entry)) ⌝ }
 {
-    let j = super::factor::factor(m, z, 60 + psi + scale - (exponent + theta));
+    let j = steps::factor::factor(m, z, 60 + psi + scale - (exponent + theta));
     let k = numbers::cut::raise(j, scale + more);
-    super::side::adapt(w, a, k);
+    steps::side::adapt(w, a, k);
 }
 
 // Step 7: whether no weight of either side has reached the halving limit.
 fn both_small(forward: &[i16], back: &[i16]) -> bool
     ensures { λ r. ⌜ r ≡ (allSmall (now (forward .entry)) && allSmall (now (back .entry))) ⌝ }
 {
-    if super::side::all_small(forward) {
-        super::side::all_small(back)
+    if steps::side::all_small(forward) {
+        steps::side::all_small(back)
     } else {
         false
     }
@@ -128,8 +128,8 @@ pub fn settle(forward: &mut [i16], back: &mut [i16], psi: u32) -> u32
     if both_small(forward, back) {
         return psi;
     }
-    super::side::halve(forward);
-    super::side::halve(back);
+    steps::side::halve(forward);
+    steps::side::halve(back);
     psi + 1
 }
 
@@ -156,7 +156,7 @@ pub fn change(
     learn(forward, samples, m, z, psi, theta, s, g, 0);
     learn(back, symbols, m, z, psi, theta, sb, nu + 30, 15 - nu);
     let next = settle(forward, back, psi);
-    super::side::push(symbols, j.v);
+    steps::side::push(symbols, j.v);
     next
 }
 

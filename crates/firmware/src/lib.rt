@@ -1,6 +1,6 @@
 // The equaliser for firmware in C.
 ghost use Rattle.state.specs.Sizes.{given};
-ghost use Rattle.station.specs.Calls.{lentOf};
+ghost use Rattle.checks.specs.Calls.{lentOf};
 ghost use Rattle.state.specs.Answers.{SetUp};
 ghost use Rattle.station.specs.Answers.{Run};
 ghost use Rattle.state.specs.Image.{Save};

@@ -11,7 +11,7 @@ use mir.Val.{SFits, ofZ}
 use borrow.Author.Tests.{lt-ltb, le-ltb, le-leb, lt-leb, eq-eqb, ne-eqb}
 use Rattle.laws.specs.Machine.{zero-bits, zero-of-bits, abs-fits}
 use Rattle.laws.specs.Powers.{rises}
-use Rattle.filter.specs.Settings.{isEntry}
+use Rattle.steps.specs.Settings.{isEntry}
 use Rattle.state.specs.State.{isZero, isStored}
 
 -- ---- zeros

@@ -10,9 +10,9 @@ use lib.IntN.{ℤ, pos, natAbs}
 use borrow.Author.Tests.{le-leb, lt-ltb}
 use Rattle.laws.specs.Lists.{all}
 use Rattle.laws.specs.Sums.{Each, each-append}
-use Rattle.filter.specs.Settings.{Settings, scaleForward, isEntry, halvingLimit}
-use Rattle.filter.specs.Side.{allSmall, isSmall}
-use Rattle.filter.specs.Sound.{Small}
+use Rattle.steps.specs.Settings.{Settings, scaleForward, isEntry, halvingLimit}
+use Rattle.steps.specs.Side.{allSmall, isSmall}
+use Rattle.steps.specs.Sound.{Small}
 use Rattle.block.specs.Block.{Memory}
 use Rattle.block.specs.Sound.{Sound}
 use Rattle.state.specs.Sizes.{sizesFit, admits}

@@ -3,7 +3,7 @@ use mathlib.Core.Path.{_≡_, refl, sym, ap, _∙_}
 use mathlib.Core.Bool.{Bool, cond}
 use Prim.Native.Nat.{ℕ}
 use borrow.Author.Tests.{eq-eqb, ne-eqb}
-use Rattle.filter.specs.Settings.{Settings}
+use Rattle.steps.specs.Settings.{Settings}
 use Rattle.state.specs.Sizes.{settingsNumber, given}
 use Rattle.state.specs.State.{fresh, refused}
 use Rattle.state.specs.Answers.{SetUp}

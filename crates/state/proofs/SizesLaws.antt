@@ -8,7 +8,7 @@ use lib.Dec.{leb}
 use borrow.Author.Tests.{leb-true, le-leb}
 use Rattle.laws.specs.Lists.{and-left, and-right}
 use Rattle.laws.specs.Powers.{rises}
-use Rattle.filter.specs.Settings.{Settings, Within, Admitted, stepBound}
+use Rattle.steps.specs.Settings.{Settings, Within, Admitted, stepBound}
 use Rattle.state.specs.Sizes.{sizesFit, admits, settingsNumber}
 
 -- the last of several tests, and those before it

@@ -11,8 +11,8 @@ use lib.Seq.{length-take-le, take-add}
 use lib.IntN.{ℤ, pos, natAbs}
 use borrow.Author.Tests.{leb-true, le-leb, ltb-true, lt-ltb}
 use Rattle.laws.specs.Lists.{all, and-left, and-right}
-use Rattle.filter.specs.Settings.{Settings, Within, scaleForward, isEntry}
-use Rattle.filter.specs.Sound.{Small}
+use Rattle.steps.specs.Settings.{Settings, Within, scaleForward, isEntry}
+use Rattle.steps.specs.Sound.{Small}
 use Rattle.block.specs.Sound.{Sound}
 use Rattle.filter.proofs.SideBounds.{all-small}
 use Rattle.state.specs.Sizes.{sizesFit, admits}

@@ -15,11 +15,11 @@ use Rattle.laws.specs.Lists.{all, and-left, and-right}
 use Rattle.laws.specs.Machine.{fits-abs}
 use Rattle.laws.specs.Powers.{split, rises, lower, cancel-le}
 use Rattle.laws.specs.Sums.{Each, each-append, each-weaken}
-use Rattle.filter.specs.Settings.{scaleForward, stepBound, isEntry}
-use Rattle.filter.specs.Side.{allSmall}
-use Rattle.filter.specs.Sound.{Small}
+use Rattle.steps.specs.Settings.{scaleForward, stepBound, isEntry}
+use Rattle.steps.specs.Side.{allSmall}
+use Rattle.steps.specs.Sound.{Small}
 use Rattle.block.specs.Sound.{Sound}
-use Rattle.filter.proofs.SymbolLaws.{entry-below}
+use Rattle.steps.proofs.SymbolLaws.{entry-below}
 use Rattle.state.specs.State.{settings, memory, taps, forward, back, samples, filler, symbols, isZero, isStored, soundPast}
 use Rattle.state.specs.Answers.{examined}
 use Rattle.state.specs.declared.equaliser.Equaliser.{Equaliser}

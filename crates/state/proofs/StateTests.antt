@@ -8,8 +8,8 @@ use lib.ListN.{length, take, drop, length-drop}
 use lib.Seq.{take-all}
 use lib.IntN.{ℤ}
 use Rattle.laws.specs.Lists.{all}
-use Rattle.filter.specs.Settings.{isEntry, scaleForward}
-use Rattle.filter.specs.Side.{allSmall}
+use Rattle.steps.specs.Settings.{isEntry, scaleForward}
+use Rattle.steps.specs.Side.{allSmall}
 use Rattle.state.specs.Sizes.{settingsNumber, sizesFit, admits}
 use Rattle.state.specs.State.{settings, taps, samples, filler, symbols, isZero, isStored, soundExponents, soundWeights, soundPast, isSound}
 use Rattle.state.specs.Answers.{examined}

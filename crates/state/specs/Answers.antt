@@ -3,7 +3,7 @@ use mathlib.Core.Bool.{cond}
 use mathlib.Core.Path.{_≡_}
 use Prim.Native.Nat.{ℕ}
 use lib.Dec.{eqb}
-use Rattle.filter.specs.Settings.{Settings}
+use Rattle.steps.specs.Settings.{Settings}
 use Rattle.state.specs.Sizes.{sizesFit, admits, settingsNumber}
 use Rattle.state.specs.State.{settings, isSound, fresh, refused}
 use Rattle.state.specs.declared.equaliser.Equaliser.{Equaliser}

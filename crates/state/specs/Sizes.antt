@@ -2,7 +2,7 @@
 use mathlib.Core.Bool.{Bool, _&&_, cond}
 use Prim.Native.Nat.{ℕ, _+_, _*_, _^_}
 use lib.Dec.{leb}
-use Rattle.filter.specs.Settings.{Settings, tapLimit, blockLimit, stepBound}
+use Rattle.steps.specs.Settings.{Settings, tapLimit, blockLimit, stepBound}
 
 abbrev pub sizesFit : Settings → Bool
 sizesFit k =

@@ -6,8 +6,8 @@ use lib.Dec.{leb, ltb, eqb}
 use lib.ListN.{length, take, drop, getD, replicate}
 use lib.IntN.{ℤ, pos, natAbs}
 use Rattle.laws.specs.Lists.{all}
-use Rattle.filter.specs.Settings.{Settings, scaleForward, isEntry, exponentLimit}
-use Rattle.filter.specs.Side.{allSmall}
+use Rattle.steps.specs.Settings.{Settings, scaleForward, isEntry, exponentLimit}
+use Rattle.steps.specs.Side.{allSmall}
 use Rattle.block.specs.Block.{Memory}
 use Rattle.state.specs.Sizes.{sizesFit, admits}
 use Rattle.state.specs.declared.equaliser.Equaliser.{Equaliser}

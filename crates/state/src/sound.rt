@@ -3,7 +3,7 @@ ghost use mathlib.Core.Path.{_≡_};
 ghost use mathlib.Core.Bool.{true};
 ghost use Prim.Native.Nat.{_≤_};
 ghost use Rattle.laws.specs.Lists.{all};
-ghost use Rattle.filter.specs.Settings.{isEntry};
+ghost use Rattle.steps.specs.Settings.{isEntry};
 ghost use Rattle.state.specs.Sizes.{sizesFit};
 ghost use Rattle.state.specs.State.{isZero, isStored, soundExponents, soundWeights, soundPast, isSound, settings};
 ghost use Rattle.state.specs.Answers.{examined};
@@ -77,7 +77,7 @@ fn sound_weights(e: Equaliser) -> bool
 {
     let weights = e.weights;
     let taps = (e.p as usize) + (e.q as usize);
-    if filter::side::all_small(&weights[..taps]) {
+    if steps::side::all_small(&weights[..taps]) {
         all_zero(&weights[taps..])
     } else {
         false

@@ -9,7 +9,8 @@ use lib.IntN.{ℤ}
 use borrow.Author.Tests.{ne-eqb, eq-eqb, eqb-true, eqb-false}
 use Rattle.block.specs.Block.{goes, left, handedY, handedξ, handedDecision, handedZ, handedθ}
 use Rattle.state.specs.State.{settings, memory, stateOf}
-use Rattle.station.specs.Answers.{Lent, block, checkNumber, runNumber, runState, accepted, Run}
+use Rattle.station.specs.Answers.{runNumber, runState, accepted, Run}
+use Rattle.checks.specs.Checks.{Lent, block, checkNumber}
 use Rattle.state.specs.declared.equaliser.Equaliser.{Equaliser}
 
 pub run-tests : (e : Equaliser) (l : Lent) → runNumber e l ≡ 0 → (checkNumber e l ≡ 0) × (goes (settings e) (memory e) (block l) (e .n) ≡ true)

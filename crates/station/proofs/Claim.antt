@@ -13,7 +13,7 @@ use borrow.Author.Tests.{eqb-true, eqb-false, eq-eqb, ne-eqb}
 use Rattle.laws.specs.Lists.{all}
 use Rattle.laws.specs.Machine.{abs-fits}
 use Rattle.laws.specs.Sums.{Each, each-weaken}
-use Rattle.filter.specs.Settings.{Settings, scaleForward, isEntry}
+use Rattle.steps.specs.Settings.{Settings, scaleForward, isEntry}
 use Rattle.block.specs.Block.{Memory, receivedAll, newB, at, goes}
 use Rattle.block.specs.Block as Block
 use Rattle.block.specs.Sound.{Sound}
@@ -30,10 +30,11 @@ use Rattle.state.specs.declared.equaliser.Equaliser.{Equaliser}
 use Rattle.state.proofs.SoundLaws.{examined-tests, tests-examined, examined-sound, fresh-examined}
 use Rattle.state.proofs.KeptLaws.{memory-is, kept-examined, kept-long}
 use Rattle.state.proofs.LoadLaws.{load-image, loaded-sound, loaded-long, image-loaded}
-use Rattle.station.specs.Answers.{Lent, block, lengthsFit, gainFits, checkNumber, runNumber, accepted, runState}
-use Rattle.station.specs.Calls.{Sampled, Checked}
+use Rattle.station.specs.Answers.{runNumber, accepted, runState}
+use Rattle.checks.specs.Checks.{Lent, block, lengthsFit, gainFits, checkNumber}
+use Rattle.checks.specs.Calls.{Sampled, Checked}
 use Rattle.station.specs.Claim.{Typed, Call, run, save, load, left, leftBy, Start, set-up, loaded, Good, Unblamed, Keeps, KeepsAll, LaterNear, Right, FairRun, FairSave, FairLoad, Fair, Holds}
-use Rattle.station.proofs.CheckLaws.{checked-is}
+use Rattle.checks.proofs.CheckLaws.{checked-is}
 use Rattle.station.proofs.AnswerLaws.{run-tests}
 
 -- ---- good states

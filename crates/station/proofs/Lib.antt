@@ -1,6 +1,4 @@
-pub mod GainLaws
 pub mod CopyLaws
-pub mod CheckLaws
 pub mod RunLaws
 pub mod AnswerLaws
 pub mod StarredCases

@@ -12,7 +12,7 @@ use lib.IntN.{ℤ, pos, natAbs}
 use borrow.Author.Tests.{eqb-true}
 use Rattle.laws.specs.Integers.{abs-zero}
 use Rattle.laws.specs.Lists.{and-left, and-right, all}
-use Rattle.filter.specs.Settings.{scaleForward, isEntry}
+use Rattle.steps.specs.Settings.{scaleForward, isEntry}
 use Rattle.block.specs.Block.{Block, after, left}
 use Rattle.block.specs.Sound.{Sound}
 use Rattle.block.specs.Calls.{memoryOf, Runnable, Ran-is}
@@ -20,7 +20,8 @@ use Rattle.block.specs.Calls as Filter
 use Rattle.block.specs.declared.run.Ran.{Ran}
 use Rattle.block.proofs.BlockSound.{left-sound}
 use Rattle.state.specs.State.{settings, memory, taps, samples, symbols, filler, isZero, isStored, padded, stateOf}
-use Rattle.station.specs.Calls.{Checked, Parts, Finished, Done-is, Ended, doneOf}
+use Rattle.station.specs.Calls.{Parts, Finished, Done-is, Ended, doneOf}
+use Rattle.checks.specs.Calls.{Checked}
 use Rattle.state.specs.declared.equaliser.Equaliser.{Equaliser}
 use Rattle.station.specs.declared.run.Done.{Done}
 use Rattle.state.proofs.SoundLaws.{sound-tests}

@@ -7,12 +7,13 @@ use Rattle.laws.specs.Sums.{dot}
 use Rattle.numbers.specs.ScaleCount.{scaleCount}
 use Rattle.numbers.specs.BitLength.{bitLength}
 use Rattle.numbers.specs.Cut.{cut}
-use Rattle.filter.specs.Settings.{Settings, stepBound}
-use Rattle.filter.specs.Side.{largest, adapt, allSmall}
-use Rattle.filter.specs.Output.{output, outputExponent}
-use Rattle.filter.specs.Decision.{decide}
-use Rattle.filter.specs.Error.{error, errorExponent}
-use Rattle.filter.specs.Sample.{longest, settled, ν, F, H, Y, ξ, decision, v, κ, Z, θ, J, newForward, newBack, small, next}
+use Rattle.steps.specs.Settings.{Settings, stepBound}
+use Rattle.steps.specs.Side.{largest, adapt, allSmall}
+use Rattle.steps.specs.Output.{output, outputExponent}
+use Rattle.steps.specs.Decision.{decide}
+use Rattle.steps.specs.Error.{error, errorExponent}
+use Rattle.filter.specs.Sample.{settled, ν, F, H, Y, ξ, decision, v, κ, Z, θ, J, newForward, newBack, small, next}
+use Rattle.steps.specs.Side.{longest}
 use Rattle.block.specs.Block.{Block, Memory, receivedAll, newb, newB, g, stored, old, start, after, at, left}
 use Rattle.state.specs.Sizes.{settingsNumber, given}
 use Rattle.state.specs.State.{memory, fresh}

@@ -1,35 +1,18 @@
--- What the functions below the operations ask and promise.
+-- What the functions below the run of a block ask and promise.
 use mathlib.Core.Path.{_≡_}
-use mathlib.Core.Bool.{Bool, true}
+use mathlib.Core.Bool.{true}
 use mathlib.Core.List.{List, [], _∷_, _++_}
-use Prim.Native.Nat.{ℕ, _^_, _≤_, _<_}
+use Prim.Native.Nat.{ℕ, _<_}
 use lib.ListN.{take}
-use lib.IntN.{ℤ, pos, natAbs}
-use Rattle.laws.specs.Sums.{Each}
+use lib.IntN.{ℤ, pos}
 use Rattle.block.specs.Block.{Block, goes, left, handedY, handedξ, handedDecision, handedZ, handedθ}
-use Rattle.block.specs.Sound.{Sound, Acceptable}
-use Rattle.state.specs.Sizes.{sizesFit}
-use Rattle.state.specs.State.{settings, memory, forward, back, samples, symbols, isSound, stateOf}
-use Rattle.station.specs.Answers.{Lent}
+use Rattle.state.specs.State.{settings, memory, forward, back, samples, symbols, stateOf}
+use Rattle.checks.specs.Calls.{Checked}
 use Rattle.state.specs.declared.equaliser.Equaliser.{Equaliser}
 use Rattle.station.specs.declared.run.Done.{Done}
 use Rattle.block.specs.declared.run.Ran.{Ran}
 
-abbrev pub lentOf : List ℤ → List ℕ → List ℤ → List ℤ → List ℕ → List ℤ → List ℤ → List ℕ → Lent
-lentOf m gains entries y xi decision z theta = record { m = m; gains = gains; entries = entries; y = y; xi = xi; decision = decision; z = z; theta = theta }
-
--- samples of 16 bits
-abbrev pub Sampled : List ℤ → Type 0
-Sampled m = Each (λ (z : ℤ). natAbs z ≤ 2 ^ 15) m
-
--- a state and a block that passed the checks
-pub record Checked (e : Equaliser) (i : Block) : Type 0 where
-  pub sizes : sizesFit (settings e) ≡ true
-  pub sound-state : isSound e ≡ true
-  pub sound : Sound (settings e) (memory e)
-  pub acceptable : Acceptable (settings e) i
-
--- the four parts of such a state, as a block is run on them
+-- the four parts of a state that passed the checks, as a block is run on them
 pub record Parts (e : Equaliser) (i : Block) (ahead behind window heard : List ℤ) : Type 0 where
   pub checked : Checked e i
   pub forward-is : ahead ≡ forward e

@@ -8,7 +8,7 @@ use lib.IntN.{pos}
 use mir.Syntax.{w8, w16, w32}
 use mir.Val.{SFits}
 use Rattle.laws.specs.Sums.{Each}
-use Rattle.filter.specs.Settings.{Settings, scaleForward}
+use Rattle.steps.specs.Settings.{Settings, scaleForward}
 use Rattle.block.specs.Block.{receivedAll, newB, at}
 use Rattle.block.specs.Block as Block
 use Rattle.block.specs.Sound.{Sound}
@@ -20,7 +20,8 @@ use Rattle.state.specs.Answers.{setUpState}
 use Rattle.state.specs.Image.{Byte, image, saveNumber}
 use Rattle.state.specs.Load.{loadNumber, loadState}
 use Rattle.state.specs.declared.equaliser.Equaliser.{Equaliser}
-use Rattle.station.specs.Answers.{Lent, block, runNumber, runState}
+use Rattle.station.specs.Answers.{runNumber, runState}
+use Rattle.checks.specs.Checks.{Lent, block}
 
 -- ---- calls
 

@@ -1,4 +1,3 @@
 // The station: running a block on the state of an equaliser.
-pub mod run;
 pub mod copies;
-pub mod lists;
+pub mod run;

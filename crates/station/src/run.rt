@@ -1,9 +1,10 @@
-// Running a block: the checks, and the run of an acceptable block.
+// Running a block.
 ghost use mathlib.Core.Path.{_≡_};
 ghost use mathlib.Core.Bool.{false};
 ghost use Rattle.block.specs.Calls.{blockOf};
-ghost use Rattle.station.specs.Answers.{lengthsFit, checkNumber, Run};
-ghost use Rattle.station.specs.Calls.{lentOf, Sampled, Checked, Parts, Done-is, Ended, doneOf};
+ghost use Rattle.station.specs.Answers.{Run};
+ghost use Rattle.station.specs.Calls.{Parts, Done-is, Ended, doneOf};
+ghost use Rattle.checks.specs.Calls.{lentOf, Checked};
 use block::run::Ran;
 use filter::sample::Settings;
 use state::equaliser::Answer;
@@ -18,71 +19,6 @@ pub struct Done {
     pub decision: [i8; 128],
     pub z: [i32; 128],
     pub theta: [u8; 128],
-}
-
-// 3: whether every lent list is N long.
-pub fn lengths_fit(
-    n: usize,
-    m: &[i16],
-    gains: &[u8],
-    entries: &[i8],
-    y: &[i32],
-    xi: &[u8],
-    decision: &[i8],
-    z: &[i32],
-    theta: &[u8],
-) -> bool
-    ensures { λ r. ⌜ r ≡ lengthsFit n (lentOf (now (m .entry)) (now (gains .entry)) (now (entries .entry)) (now (y .entry)) (now (xi .entry)) (now (decision .entry)) (now (z .entry)) (now (theta .entry))) ⌝ }
-{
-    if m.len() != n || gains.len() != n || entries.len() != n {
-        return false;
-    }
-    if y.len() != n || xi.len() != n || decision.len() != n {
-        return false;
-    }
-    z.len() == n && theta.len() == n
-}
-
-// 1, 2, 9, then 3, 4, 5, or 0.
-pub fn checked(
-    e: Equaliser,
-    m: &[i16],
-    gains: &[u8],
-    entries: &[i8],
-    y: &[i32],
-    xi: &[u8],
-    decision: &[i8],
-    z: &[i32],
-    theta: &[u8],
-) -> u8
-    ensures { λ r. ⌜ r ≡ checkNumber e (lentOf (now (m .entry)) (now (gains .entry)) (now (entries .entry)) (now (y .entry)) (now (xi .entry)) (now (decision .entry)) (now (z .entry)) (now (theta .entry))) ⌝ }
-{
-    let number = state::sound::examined(e);
-    if number != 0 {
-        return number;
-    }
-    if !lengths_fit(e.n as usize, m, gains, entries, y, xi, decision, z, theta) {
-        return 3;
-    }
-    if !super::lists::all_gains(gains, e.l) {
-        return 4;
-    }
-    if super::lists::all_entries(entries, e.r as u32) {
-        0
-    } else {
-        5
-    }
-}
-
-// The samples have 16 bits. The loop only reads, for the proof: compiled, it is gone.
-pub fn sixteen_bits(m: &[i16])
-    ensures { λ _. ⌜ Sampled (now (m .entry)) ⌝ }
-{
-    let mut i: usize = 0;
-    while i < m.len() {
-        let x = m[i];
-        i += 1;
-    }
 }
 
 // The run of a block that passed the checks.
@@ -224,14 +160,14 @@ pub fn run(
 ) -> Answer
     ensures { λ a. ⌜ Run e (lentOf (now (m .entry)) (now (gains .entry)) (now (entries .entry)) (now (y .entry)) (now (xi .entry)) (now (decision .entry)) (now (z .entry)) (now (theta .entry))) a (now (y .exit)) (now (xi .exit)) (now (decision .exit)) (now (z .exit)) (now (theta .exit)) ⌝ }
 {
-    let number = checked(e, m, gains, entries, y, xi, decision, z, theta);
+    let number = checks::lists::checked(e, m, gains, entries, y, xi, decision, z, theta);
     if number != 0 {
         return Answer {
             number: number,
             state: e,
         };
     }
-    sixteen_bits(m);
+    checks::lists::sixteen_bits(m);
     let r = run_checked(e, m, gains, entries);
     if !r.done {
         return Answer {

@@ -10,19 +10,20 @@ use lib.IntN.{ℤ, pos, natAbs}
 use borrow.Author.Tests.{eqb-true, eqb-false}
 use Rattle.laws.specs.Lists.{all}
 use Rattle.laws.specs.Powers.{rises}
-use Rattle.filter.specs.Settings.{isEntry}
+use Rattle.steps.specs.Settings.{isEntry}
 use Rattle.filter.specs.Sample.{Y, ξ, decision}
 use Rattle.block.specs.Block.{Block, Memory, g, at, goes, entryAt, values, handedY, handedξ, handedDecision}
-use Rattle.filter.proofs.SymbolLaws.{symbol-below, decide-symbol}
+use Rattle.steps.proofs.SymbolLaws.{symbol-below, decide-symbol}
 use Rattle.block.proofs.ValuesLaws.{values-length, values-at}
 use Rattle.block.proofs.BlockHolds.{bounded-at}
 use Rattle.state.specs.Sizes.{sizesFit, admits}
 use Rattle.state.specs.State.{settings, memory, isSound}
-use Rattle.station.specs.Answers.{Lent, block, lengthsFit, gainFits, checkNumber, runNumber, runState}
+use Rattle.station.specs.Answers.{runNumber, runState}
+use Rattle.checks.specs.Checks.{Lent, block, lengthsFit, gainFits, checkNumber}
 use Rattle.state.specs.Answers.{examined}
-use Rattle.station.specs.Calls.{Checked, Sampled}
+use Rattle.checks.specs.Calls.{Checked, Sampled}
 use Rattle.state.specs.declared.equaliser.Equaliser.{Equaliser}
-use Rattle.station.proofs.CheckLaws.{checked-is}
+use Rattle.checks.proofs.CheckLaws.{checked-is}
 use Rattle.station.proofs.AnswerLaws.{run-tests}
 use Rattle.trace_text.specs.Calls.{Printable, AllPrintable}
 

@@ -17,8 +17,9 @@ use Rattle.laws.specs.Sums.{each-of}
 use Rattle.laws.specs.Machine.{abs-fits}
 use Rattle.block.specs.Block.{values, handedY, handedξ, handedDecision}
 use Rattle.state.specs.State.{settings, memory}
-use Rattle.station.specs.Answers.{Lent, block, runNumber, runState, Run}
-use Rattle.station.specs.Calls.{lentOf, Sampled}
+use Rattle.station.specs.Answers.{runNumber, runState, Run}
+use Rattle.checks.specs.Checks.{Lent, block}
+use Rattle.checks.specs.Calls.{lentOf, Sampled}
 use Rattle.state.specs.declared.equaliser.Equaliser.{Equaliser}
 use Rattle.state.specs.declared.equaliser.Answer.{Answer}
 use Rattle.trace_text.specs.Trace.{byteAt, number16, settingsIn, countIn, samplesIn, sampleAt, gainAt, entryAt, lentAt}

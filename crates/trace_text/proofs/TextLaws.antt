@@ -13,7 +13,8 @@ use borrow.Rule.Slice.PartMut.{midOf, putMid}
 use Rattle.laws.specs.Lists.{and-left, and-right}
 use Rattle.block.specs.Block.{left}
 use Rattle.state.specs.State.{settings, memory, stateOf}
-use Rattle.station.specs.Answers.{Lent, block, runNumber, runState}
+use Rattle.station.specs.Answers.{runNumber, runState}
+use Rattle.checks.specs.Checks.{Lent, block}
 use Rattle.state.specs.declared.equaliser.Equaliser.{Equaliser}
 use Rattle.trace_text.specs.Trace.{traceLimit, byteAt, settingsIn, countIn, samplesIn, wellFormed, lentAt}
 use Rattle.trace_text.specs.Text.{stopLine, blockLines, textFrom, textLimit}

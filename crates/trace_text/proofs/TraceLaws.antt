@@ -8,7 +8,7 @@ use lib.Dec.{leb, eqb}
 use lib.ListN.{length, drop}
 use borrow.Author.Tests.{leb-true, le-leb, lt-leb, eq-eqb, ne-eqb}
 use Rattle.laws.specs.Lists.{and-left}
-use Rattle.filter.specs.Settings.{Settings}
+use Rattle.steps.specs.Settings.{Settings}
 use Rattle.state.specs.Sizes.{sizesFit, admits, settingsNumber}
 use Rattle.state.specs.State.{fresh, refused}
 use Rattle.state.specs.Answers.{SetUp}

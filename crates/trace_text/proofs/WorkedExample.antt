@@ -7,15 +7,17 @@ use Rattle.laws.specs.Sums.{dot}
 use Rattle.numbers.specs.ScaleCount.{scaleCount}
 use Rattle.numbers.specs.BitLength.{bitLength}
 use Rattle.numbers.specs.Cut.{cut}
-use Rattle.filter.specs.Side.{largest, adapt}
-use Rattle.filter.specs.Output.{output, outputExponent}
-use Rattle.filter.specs.Decision.{decide}
-use Rattle.filter.specs.Error.{error, errorExponent}
-use Rattle.filter.specs.Sample.{longest, ν, F, H, Y, ξ, decision, v, κ, Z, θ, J, newForward, newBack, small, next}
+use Rattle.steps.specs.Side.{largest, adapt}
+use Rattle.steps.specs.Output.{output, outputExponent}
+use Rattle.steps.specs.Decision.{decide}
+use Rattle.steps.specs.Error.{error, errorExponent}
+use Rattle.filter.specs.Sample.{ν, F, H, Y, ξ, decision, v, κ, Z, θ, J, newForward, newBack, small, next}
+use Rattle.steps.specs.Side.{longest}
 use Rattle.block.specs.Block.{receivedAll, values, newb, newB, g, stored, old, start, after, at, goes, handedY, handedξ, handedDecision, left}
 use Rattle.state.specs.Sizes.{settingsNumber}
 use Rattle.state.specs.State.{isSound, stateOf, fresh}
-use Rattle.station.specs.Answers.{checkNumber, runNumber, runState}
+use Rattle.station.specs.Answers.{runNumber, runState}
+use Rattle.checks.specs.Checks.{checkNumber}
 use Rattle.state.specs.Answers.{examined}
 use Rattle.trace_text.specs.Decimal.{digits, decimal, signedDecimal}
 use Rattle.trace_text.specs.Trace.{wellFormed, lentAt}

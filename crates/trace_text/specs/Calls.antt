@@ -8,7 +8,8 @@ use lib.ListN.{length, getD, take, drop}
 use lib.IntN.{ℤ, pos, natAbs}
 use Rattle.block.specs.Block.{Block, handedY, handedξ, handedDecision}
 use Rattle.state.specs.State.{settings, memory}
-use Rattle.station.specs.Answers.{Lent, block, runNumber, runState}
+use Rattle.station.specs.Answers.{runNumber, runState}
+use Rattle.checks.specs.Checks.{Lent, block}
 use Rattle.state.specs.declared.equaliser.Equaliser.{Equaliser}
 use Rattle.trace_text.specs.Trace.{traceLimit, settingsIn, countIn, samplesIn, wellFormed, lentAt}
 use Rattle.trace_text.specs.Text.{blockLines, stopLine, traceText, textLimit}

@@ -8,7 +8,8 @@ use lib.IntN.{ℤ, pos}
 use Rattle.block.specs.Block.{handedY, handedξ, handedDecision}
 use Rattle.state.specs.Sizes.{settingsNumber}
 use Rattle.state.specs.State.{settings, memory, fresh}
-use Rattle.station.specs.Answers.{Lent, block, runNumber, runState}
+use Rattle.station.specs.Answers.{runNumber, runState}
+use Rattle.checks.specs.Checks.{Lent, block}
 use Rattle.state.specs.declared.equaliser.Equaliser.{Equaliser}
 use Rattle.trace_text.specs.Decimal.{decimal, signedDecimal}
 use Rattle.trace_text.specs.Trace.{settingsIn, countIn, wellFormed, lentAt}

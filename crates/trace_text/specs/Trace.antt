@@ -7,9 +7,9 @@ use lib.ListN.{length, getD, replicate}
 use lib.IntN.{ℤ, pos}
 use mir.Syntax.{w8, w16}
 use mir.Val.{toZ}
-use Rattle.filter.specs.Settings.{Settings}
+use Rattle.steps.specs.Settings.{Settings}
 use Rattle.block.specs.Block.{values}
-use Rattle.station.specs.Answers.{Lent}
+use Rattle.checks.specs.Checks.{Lent}
 
 abbrev pub traceLimit : ℕ
 traceLimit = 65536

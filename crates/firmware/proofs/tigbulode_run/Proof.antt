@@ -43,7 +43,7 @@ use denote.Triple.Clauses.{Lasts, ensured, lasts}
 use denote.Triple.Table.{entered, cited}
 use denote.Triple.Walked.{says, Stay, Stays, stay-ref, walkOf, AllGo, goes-ref, Walks, ends-at, walked, walk-meets}
 use Rattle.station.specs.Answers as answers
-use Rattle.station.specs.Calls.{lentOf}
+use Rattle.checks.specs.Calls.{lentOf}
 use Rattle.state.specs.declared.equaliser.Equaliser.{Equaliser}
 use Rattle.state.specs.declared.equaliser.Answer.{Answer}
 use Rattle.state.proofs.equaliser.Equaliser as T

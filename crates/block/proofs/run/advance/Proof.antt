@@ -7,7 +7,7 @@ use mir.Val.{toZ, ofZ}
 use mir.Facts.{toZ-ofZ}
 use borrow.Author.Needs.{needs}
 use Rattle.laws.specs.Machine.{kept}
-use Rattle.filter.specs.Side.{push}
+use Rattle.steps.specs.Side.{push}
 use Rattle.filter.specs.Calls.{settingsOf, tapsOf, Ready}
 use Rattle.filter.proofs.SampleLaws.{taken-of}
 use Rattle.block.proofs.run.advance.Statement.{statement}

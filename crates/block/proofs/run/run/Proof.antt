@@ -11,7 +11,7 @@ use mir.Syntax.{w8, w16, w32}
 use mir.Val.{toZ, ofZ}
 use Rattle.laws.specs.Machine.{kept}
 use Rattle.numbers.specs.Cut.{rescale}
-use Rattle.filter.specs.Settings.{Settings}
+use Rattle.steps.specs.Settings.{Settings}
 use Rattle.block.specs.Block.{Block, Memory}
 use Rattle.filter.specs.Calls.{settingsOf, tapsOf}
 use Rattle.block.specs.Calls.{blockOf, memoryOf, Runnable}

@@ -8,9 +8,9 @@ use lib.ListN.{length, getD, take, length-map, List·getD-map}
 use lib.IntN.{ℤ, pos, natAbs}
 use mir.Syntax.{w64}
 use Rattle.laws.specs.Machine.{kept}
-use Rattle.filter.specs.Side.{largest, magnitudes}
+use Rattle.steps.specs.Side.{largest, magnitudes}
 use Rattle.block.specs.Block.{receivedAll}
-use Rattle.filter.proofs.LargestLaws.{largest-none, largest-rises, largest-stays, largest-end}
+use Rattle.steps.proofs.LargestLaws.{largest-none, largest-rises, largest-stays, largest-end}
 use Rattle.block.proofs.ReceivedLaws.{received-length}
 use Rattle.block.proofs.stored.loudest.Statement.{statement}
 use Rattle.block.proofs.stored.loudest.Tie as tie

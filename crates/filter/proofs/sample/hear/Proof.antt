@@ -9,8 +9,8 @@ use borrow.Author.Needs.{needs}
 use Rattle.laws.specs.Machine.{kept}
 use Rattle.laws.specs.Sums.{dot}
 use Rattle.numbers.specs.Cut.{raise}
-use Rattle.filter.specs.Sample.{longest}
-use Rattle.filter.specs.Output.{output}
+use Rattle.steps.specs.Side.{longest}
+use Rattle.steps.specs.Output.{output}
 use Rattle.filter.proofs.sample.hear.Statement.{statement}
 use Rattle.filter.proofs.sample.hear.Tie as tie
 

@@ -10,8 +10,8 @@ use borrow.Author.Needs.{needs, sfits-of}
 use Rattle.laws.specs.Machine.{kept}
 use Rattle.numbers.specs.BitLength.{bitLength}
 use Rattle.numbers.proofs.BitLengthLaws.{bit-length-le}
-use Rattle.filter.specs.Decision.{decide}
-use Rattle.filter.specs.Error.{error}
+use Rattle.steps.specs.Decision.{decide}
+use Rattle.steps.specs.Error.{error}
 use Rattle.filter.specs.Calls.{chosen}
 use Rattle.filter.proofs.SampleLaws.{chosen-below, missable}
 use Rattle.filter.proofs.sample.judge.Statement.{statement}

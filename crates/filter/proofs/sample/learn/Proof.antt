@@ -11,7 +11,7 @@ use borrow.Author.Needs.{needs}
 use Rattle.laws.specs.Machine.{kept}
 use Rattle.laws.specs.Powers.{rises}
 use Rattle.numbers.specs.Cut.{raise}
-use Rattle.filter.specs.Side.{adapt}
+use Rattle.steps.specs.Side.{adapt}
 use Rattle.filter.specs.Calls.{factorOf}
 use Rattle.filter.proofs.sample.learn.Statement.{statement}
 use Rattle.filter.proofs.sample.learn.Tie as tie

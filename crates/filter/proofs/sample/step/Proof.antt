@@ -4,7 +4,7 @@ use mir.Syntax.{w32}
 use mir.Facts.{toZ-ofZ}
 use borrow.Author.Needs.{needs}
 use Rattle.laws.specs.Machine.{kept}
-use Rattle.filter.specs.Settings.{Settings}
+use Rattle.steps.specs.Settings.{Settings}
 use Rattle.filter.specs.Sample.{Taps}
 use Rattle.filter.specs.Calls.{settingsOf, tapsOf}
 use Rattle.filter.proofs.StepLaws as L

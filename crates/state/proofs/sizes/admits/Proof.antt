@@ -5,7 +5,7 @@ use native.Mathlib.Omega.{arith}
 use mir.Syntax.{w64}
 use borrow.Author.Needs.{needs}
 use Rattle.laws.specs.Machine.{one-shifted}
-use Rattle.filter.specs.Settings.{Settings, Within}
+use Rattle.steps.specs.Settings.{Settings, Within}
 use Rattle.state.specs.Sizes.{given}
 use Rattle.state.proofs.SizesLaws.{fit-within, powers-small, products-small, bound-small, product-small}
 use Rattle.state.proofs.sizes.admits.Statement.{statement}

@@ -4,7 +4,7 @@ use mathlib.Core.Bool.{true, cond}
 use Prim.Native.Nat.{ℕ}
 use native.Mathlib.Omega.{arith}
 use borrow.Author.Needs.{needs}
-use Rattle.filter.specs.Settings.{Settings}
+use Rattle.steps.specs.Settings.{Settings}
 use Rattle.state.specs.Sizes.{given, sizesFit, settingsNumber}
 use Rattle.state.proofs.SizesLaws.{fit-within, within-fit, settings-refused, settings-number}
 use Rattle.state.proofs.sizes.settings_number.Statement.{statement}

@@ -5,7 +5,7 @@ use Prim.Native.Nat.{_+_, _^_, _<_}
 use native.Mathlib.Nat.{not-le-of-lt}
 use native.Mathlib.Omega.{arith}
 use borrow.Author.Tests.{ltb-true, ltb-false}
-use Rattle.filter.specs.Settings.{Settings, Within}
+use Rattle.steps.specs.Settings.{Settings, Within}
 use Rattle.state.specs.Sizes.{given}
 use Rattle.state.proofs.SizesLaws.{fit-within, within-fit, refuted}
 use Rattle.state.proofs.sizes.sizes_fit.Statement.{statement}

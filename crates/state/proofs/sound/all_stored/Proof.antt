@@ -9,7 +9,7 @@ use mir.Val.{SFits}
 use mir.Facts.{toZ-ofZ}
 use borrow.Author.Needs.{needs, sfits-of}
 use Rattle.laws.specs.Machine.{one-shifted}
-use Rattle.filter.proofs.SideLaws.{fits-64}
+use Rattle.steps.proofs.SideLaws.{fits-64}
 use Rattle.state.specs.State.{isStored}
 use Rattle.state.proofs.ElementTests.{stored-passes, stored-fails, stored-room}
 use Rattle.state.proofs.ListTests.{Passed, passed-next, passed-fails, passed-all}

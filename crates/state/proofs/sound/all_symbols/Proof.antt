@@ -9,7 +9,7 @@ use mir.Val.{SFits}
 use mir.Facts.{toZ-ofZ}
 use borrow.Author.Needs.{needs, sfits-of}
 use borrow.Author.Tests.{not-true, not-false}
-use Rattle.filter.specs.Settings.{isEntry}
+use Rattle.steps.specs.Settings.{isEntry}
 use Rattle.state.proofs.ListTests.{Passed, passed-next, passed-fails, passed-all}
 use Rattle.state.proofs.sound.all_symbols.Statement.{statement}
 use Rattle.state.proofs.sound.all_symbols.Tie as tie

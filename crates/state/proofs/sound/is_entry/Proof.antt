@@ -9,7 +9,7 @@ use mir.Facts.{toZ-ofZ}
 use borrow.Author.Needs.{needs}
 use Rattle.laws.specs.Machine.{one-shifted}
 use Rattle.laws.specs.Powers.{positive}
-use Rattle.filter.proofs.SideLaws.{fits-64}
+use Rattle.steps.proofs.SideLaws.{fits-64}
 use Rattle.state.proofs.ElementTests.{zero-entry, even-entry, odd-entry}
 use Rattle.state.proofs.sound.is_entry.Statement.{statement}
 use Rattle.state.proofs.sound.is_entry.Tie as tie

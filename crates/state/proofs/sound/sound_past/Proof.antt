@@ -8,7 +8,7 @@ use borrow.Author.Needs.{needs, sfits-of}
 use borrow.Author.Tests.{not-true, not-false}
 use Rattle.laws.specs.Lists.{all}
 use Rattle.numbers.proofs.ScaleCountLaws.{scale-least}
-use Rattle.filter.specs.Settings.{Within, isEntry, scaleForward}
+use Rattle.steps.specs.Settings.{Within, isEntry, scaleForward}
 use Rattle.state.specs.State.{settings, taps, samples, filler, symbols, isZero, isStored}
 use Rattle.state.proofs.ElementTests.{zero-passes, other-fails}
 use Rattle.state.proofs.SizesLaws.{fit-within}

@@ -10,10 +10,11 @@ use borrow.Author.Needs.{needs}
 use borrow.Author.Tests.{not-true, not-false, eqb-false}
 use Rattle.block.specs.Block.{goes}
 use Rattle.state.specs.State.{settings, memory}
-use Rattle.station.specs.Answers.{Lent, block, checkNumber}
-use Rattle.station.specs.Calls.{lentOf, Checked, Finished}
+use Rattle.checks.specs.Checks.{Lent, block, checkNumber}
+use Rattle.station.specs.Calls.{Finished}
+use Rattle.checks.specs.Calls.{lentOf, Checked}
 use Rattle.state.specs.declared.equaliser.Equaliser.{Equaliser}
-use Rattle.station.proofs.CheckLaws.{Long, long, checked-is}
+use Rattle.checks.proofs.CheckLaws.{Long, long, checked-is}
 use Rattle.station.proofs.AnswerLaws.{check-fails, run-stops, run-goes, refused, taken}
 use Rattle.station.proofs.run.run.Statement.{statement}
 use Rattle.station.proofs.run.run.Tie as tie

@@ -5,8 +5,8 @@ use native.Mathlib.Omega.{arith}
 use lib.ListN.{length, take, drop, replicate, length-replicate}
 use lib.IntN.{pos}
 use borrow.Author.Needs.{needs}
-use Rattle.station.specs.Answers.{Lent}
-use Rattle.station.specs.Calls.{lentOf}
+use Rattle.checks.specs.Checks.{Lent}
+use Rattle.checks.specs.Calls.{lentOf}
 use Rattle.trace_text.specs.Trace.{byteAt, lentAt}
 use Rattle.trace_text.specs.Calls.{Runnable}
 use Rattle.block.proofs.ValuesLaws.{values-length}

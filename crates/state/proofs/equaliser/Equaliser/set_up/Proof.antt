@@ -1,6 +1,6 @@
 -- The fresh state of the settings, or of the smallest ones.
 use borrow.Author.Needs.{needs}
-use Rattle.filter.specs.Settings.{Settings}
+use Rattle.steps.specs.Settings.{Settings}
 use Rattle.state.specs.Sizes.{given}
 use Rattle.state.proofs.SetUpLaws.{set-up-fresh, set-up-refused}
 use Rattle.state.proofs.equaliser.Equaliser.set_up.Statement.{statement}

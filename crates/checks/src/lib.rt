@@ -1,0 +1,2 @@
+// The checks before a block is run.
+pub mod lists;

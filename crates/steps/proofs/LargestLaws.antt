@@ -1,0 +1,86 @@
+-- Laws of the largest number of a list, and of the largest bit length.
+use mathlib.Core.Path.{_≡_, refl, sym, ap, _∙_, subst}
+use mathlib.Core.List.{List, [], _∷_, map}
+use Prim.Native.Nat.{ℕ, zero, suc, _+_, _^_, _≤_, _<_, max}
+use native.Mathlib.Omega.{arith, max-cases}
+use native.Mathlib.Nat.{max-eq-left, max-eq-right}
+use native.Mathlib.Numerals.{add-one}
+use lib.IntN.{ℤ, pos, natAbs}
+use lib.ListN.{length, getD, take, List·getD-map}
+use lib.Seq.{take-all}
+use Rattle.laws.specs.Sums.{Each, each-map, each-of, each-weaken}
+use Rattle.numbers.specs.BitLength.{bitLength}
+use Rattle.numbers.proofs.BitLengthLaws.{bit-length-zero, bit-length-mono, bit-length-lt}
+use Rattle.steps.specs.Side.{largest, magnitudes}
+use Rattle.steps.specs.Side.{longest}
+
+pub largest-none : largest [] ≡ 0
+unfolding largest
+largest-none = refl
+
+-- ---- every element and the largest
+
+-- what holds of 0 and of each element holds of the largest
+largest-has : (P : ℕ → Type 0) → P 0 → (ns : List ℕ) → Each P ns → P (largest ns)
+unfolding largest
+largest-has P z [] h = z
+largest-has P z (n ∷ ns) h =
+    max-cases n (largest ns) (P (max n (largest ns))) (λ l e. subst P (sym e) (largest-has P z ns (h .1))) (λ l e. subst P (sym e) (h .0))
+
+pub largest-magnitude : (P : ℕ → Type 0) → P 0 → (l : List ℤ) → Each (λ (x : ℤ). P (natAbs x)) l → P (largest (magnitudes l))
+largest-magnitude P z l h = largest-has P z (magnitudes l) (each-map (λ (x : ℤ). P (natAbs x)) P natAbs (λ x k. k) l h)
+
+-- no element is larger
+largest-at : (ns : List ℕ) (i : ℕ) → getD ns i 0 ≤ largest ns
+unfolding largest
+largest-at [] i = omega arith
+largest-at (n ∷ ns) zero = omega arith
+largest-at (n ∷ ns) (suc i) = omega (arith, largest-at ns i)
+
+pub magnitude-at : (l : List ℤ) (i : ℕ) → natAbs (getD l i (pos 0)) ≤ largest (magnitudes l)
+magnitude-at l i = rw (sym (List·getD-map natAbs l i (pos 0))) (largest-at (magnitudes l) i)
+
+pub each-magnitude : (l : List ℤ) → Each (λ (x : ℤ). natAbs x ≤ largest (magnitudes l)) l
+each-magnitude l = each-of (λ (x : ℤ). natAbs x ≤ largest (magnitudes l)) (pos 0) l (λ i h. magnitude-at l i)
+
+-- ---- in a loop from the front
+
+next : (ns : List ℕ) (i : ℕ) → largest (take (suc i) ns) ≡ max (largest (take i ns)) (getD ns i 0)
+unfolding largest
+next [] zero = refl
+next [] (suc i) = refl
+next (n ∷ ns) zero = omega arith
+next (n ∷ ns) (suc i) = omega (arith, next ns i)
+
+-- one element more, which is larger than those before it
+pub largest-rises : (ns : List ℕ) (i m : ℕ) → m ≡ largest (take i ns) → m < getD ns i 0 → getD ns i 0 ≡ largest (take (i + 1) ns)
+largest-rises ns i m e h = sym (ap (λ j. largest (take j ns)) (add-one i) ∙ next ns i ∙ max-eq-right (omega (arith, e)))
+
+-- or is not
+pub largest-stays : (ns : List ℕ) (i m : ℕ) → m ≡ largest (take i ns) → getD ns i 0 ≤ m → m ≡ largest (take (i + 1) ns)
+largest-stays ns i m e h = e ∙ sym (ap (λ j. largest (take j ns)) (add-one i) ∙ next ns i ∙ max-eq-left (omega (arith, e)))
+
+pub largest-end : (ns : List ℕ) (i : ℕ) → length ns ≤ i → largest (take i ns) ≡ largest ns
+largest-end ns i h = ap largest (take-all i ns h)
+
+-- ---- the bit length
+
+max-bit-length : (m n : ℕ) → max (bitLength m) (bitLength n) ≡ bitLength (max m n)
+max-bit-length m n =
+    max-cases m n (max (bitLength m) (bitLength n) ≡ bitLength (max m n)) (λ l e. max-eq-right (bit-length-mono l) ∙ ap bitLength (sym e))
+    (λ l e. max-eq-left (bit-length-mono l) ∙ ap bitLength (sym e))
+
+largest-bit-length : (ns : List ℕ) → largest (map bitLength ns) ≡ bitLength (largest ns)
+unfolding largest
+largest-bit-length [] = sym bit-length-zero
+largest-bit-length (n ∷ ns) = ap (max (bitLength n)) (largest-bit-length ns) ∙ max-bit-length n (largest ns)
+
+-- the largest bit length is that of the largest number
+pub longest-is : (l : List ℤ) → longest l ≡ bitLength (largest (magnitudes l))
+unfolding longest
+longest-is l = largest-bit-length (magnitudes l)
+
+pub longest-above : (l : List ℤ) → Each (λ (x : ℤ). natAbs x < 2 ^ longest l) l
+longest-above l =
+    each-weaken (λ (x : ℤ). natAbs x ≤ largest (magnitudes l)) (λ (x : ℤ). natAbs x < 2 ^ longest l)
+    (λ x h. bit-length-lt (natAbs x) (longest l) (rw longest-is (bit-length-mono h))) l (each-magnitude l)

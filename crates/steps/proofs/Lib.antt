@@ -1,0 +1,6 @@
+pub mod LargestLaws
+pub mod SideLaws
+pub mod DecisionLaws
+pub mod OutputLaws
+pub mod SymbolLaws
+pub mod Admission

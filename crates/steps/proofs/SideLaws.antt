@@ -1,0 +1,133 @@
+-- Laws of the loops over a side.
+use mathlib.Core.Path.{_≡_, refl, sym, ap, ap₂, _∙_}
+use mathlib.Core.Bool.{true, false}
+use mathlib.Core.List.{List, [], _∷_, map}
+use Prim.Native.Nat.{ℕ, zero, suc, _+_, _*_, _^_, _≤_, _<_}
+use native.Mathlib.Omega.{arith}
+use native.Mathlib.Nat.{le-of-lt, le-of-suc-le-suc, not-suc-le-zero, lt-of-le-of-lt, mul-le-mul-left, mul-le-mul-right, min-le-right}
+use native.Mathlib.Numerals.{add-one}
+use lib.ListN.{length, getD, take, length-take, List·getD-map}
+use lib.Seq.{take-all, length-take-le, getD-take}
+use lib.IntN.{ℤ, pos, negsuc, natAbs, _+ℤ_, _*ℤ_, *ℤ-comm}
+use lib.Signed.{quotZ, _≤ℤ_, _<ℤ_}
+use borrow.Author.Tests.{lt-ltb, le-ltb}
+use mir.Syntax.{w16, w32, w64}
+use mir.Val.{SFits}
+use mir.Facts.{sfits-widen}
+use Rattle.laws.specs.Parts.{abs-parts}
+use Rattle.laws.specs.Integers.{*ℤ-assoc}
+use Rattle.laws.specs.Linear.{neg, nat, atom, of-le, of-lt, by-abs-lt}
+use Rattle.laws.specs.Sums.{dot, dot-next, dot-bound, Each, each-at, each-take, each-weaken}
+use Rattle.laws.specs.Machine.{fits-abs, abs-fits}
+use Rattle.numbers.specs.Cut.{cut, raise}
+use Rattle.numbers.proofs.CutLaws.{cut-zero, cut-lt}
+use Rattle.steps.specs.Settings.{halvingLimit}
+use Rattle.steps.specs.Side.{adapted, adapt, isSmall, halved, push, largest, magnitudes}
+use Rattle.steps.specs.Sound.{Small, Summable, Adaptable}
+use Rattle.steps.proofs.LargestLaws.{magnitude-at, each-magnitude}
+
+-- ---- a number of 16 bits in a wider register
+
+pub fits-32 : {z : ℤ} → SFits w16 z → SFits w32 z
+fits-32 f = sfits-widen tt f
+
+pub fits-64 : {z : ℤ} → SFits w16 z → SFits w64 z
+fits-64 f = sfits-widen tt f
+
+-- ---- the sum of the first products
+
+pub sum-none : (w a : List ℤ) → dot (take 0 w) (take 0 a) ≡ pos 0
+unfolding dot
+sum-none w a = refl
+
+pub sum-all : (w a : List ℤ) (i : ℕ) → Summable w a → length w ≤ i → dot (take i w) (take i a) ≡ dot w a
+sum-all w a i s h = ap₂ dot (take-all i w h) (take-all i a (omega (arith, s .same-length)))
+
+pub sum-next : (w a : List ℤ) (i : ℕ) (t : ℤ) → Summable w a → i < length w → t ≡ dot (take i w) (take i a) →
+    t +ℤ getD w i (pos 0) *ℤ getD a i (pos 0) ≡ dot (take (i + 1) w) (take (i + 1) a)
+sum-next w a i t s h e =
+    ap (λ (x : ℤ). x +ℤ getD w i (pos 0) *ℤ getD a i (pos 0)) e
+    ∙ sym (dot-next i w a h (omega (arith, s .same-length)))
+    ∙ ap (λ (j : ℕ). dot (take j w) (take j a)) (sym (add-one i))
+
+-- each partial sum fits 32 bits
+pub sum-bound : (w a : List ℤ) (j : ℕ) → Summable w a → natAbs (dot (take j w) (take j a)) < 2 ^ 31
+sum-bound w a j s =
+    omega (
+      arith,
+      s .bound,
+      dot-bound (2 ^ 14) (largest (magnitudes a)) (take j w) (take j a) (each-take _ j w small) (each-take _ j a (each-magnitude a)),
+      mul-le-mul-right (2 ^ 14 * largest (magnitudes a)) shorter,
+    )
+  where
+    small : Each (λ (x : ℤ). natAbs x ≤ 2 ^ 14) w
+    small = each-weaken Small (λ (x : ℤ). natAbs x ≤ 2 ^ 14) (λ x l. le-of-lt l) w (s .small)
+
+    shorter : length (take j w) ≤ length w
+    shorter = rw length-take (min-le-right j (length w))
+
+-- ---- the new weights
+
+pub adapt-length : (k : ℤ) (w a : List ℤ) → length (adapt k w a) ≡ length w
+unfolding adapt
+adapt-length k [] a = refl
+adapt-length k (w ∷ ws) [] = refl
+adapt-length k (w ∷ ws) (a ∷ b) = ap suc (adapt-length k ws b)
+
+pub adapt-at : (k : ℤ) (w a : List ℤ) (i : ℕ) → i < length w → i < length a → getD (adapt k w a) i (pos 0) ≡ adapted k (getD w i (pos 0)) (getD a i (pos 0))
+unfolding adapt
+adapt-at k [] a i h g = absurd (not-suc-le-zero h)
+adapt-at k (w ∷ ws) [] i h g = absurd (not-suc-le-zero g)
+adapt-at k (w ∷ ws) (a ∷ b) zero h g = refl
+adapt-at k (w ∷ ws) (a ∷ b) (suc i) h g = adapt-at k ws b i (le-of-suc-le-suc h) (le-of-suc-le-suc g)
+
+-- data raised by e places
+pub adapt-raise : (e : ℕ) (k : ℤ) (w a : List ℤ) → adapt k w (map (λ (x : ℤ). raise x e) a) ≡ adapt (raise k e) w a
+unfolding adapt
+adapt-raise e k [] a = refl
+adapt-raise e k (w ∷ ws) [] = refl
+adapt-raise e k (w ∷ ws) (a ∷ b) = ap₂ (λ (y : ℤ) (z : List ℤ). y ∷ z) (ap (λ (y : ℤ). w +ℤ cut y 30) turned) (adapt-raise e k ws b)
+  where
+    turned : k *ℤ raise a e ≡ raise k e *ℤ a
+    turned = ap (λ (y : ℤ). k *ℤ y) (*ℤ-comm a (pos (2 ^ e))) ∙ sym (*ℤ-assoc k (pos (2 ^ e)) a)
+
+-- what one weight asks
+pub adapt-room : (k : ℤ) (w a : List ℤ) (i : ℕ) → Adaptable k w a → i < length w →
+    (natAbs (getD w i (pos 0)) < 2 ^ 14) × (natAbs k * natAbs (getD a i (pos 0)) < 2 ^ 44)
+adapt-room k w a i s h = (each-at Small w i (pos 0) (s .small) h, lt-of-le-of-lt (mul-le-mul-left (natAbs k) (magnitude-at a i)) (s .bound))
+
+-- ---- half of each weight
+
+pub half : (z : ℤ) → quotZ z (pos 2) ≡ cut z 1
+unfolding cut
+half (pos n) = refl
+half (negsuc n) = refl
+
+pub half-fits : (z : ℤ) → SFits w16 z → SFits w16 (quotZ z (pos 2))
+half-fits z f = rw half (fits-abs (cut z 1) (cut-lt z 16 15 1 refl (omega (arith, abs-fits f))))
+
+pub halved-at : (w : List ℤ) (i : ℕ) → getD (halved w) i (pos 0) ≡ cut (getD w i (pos 0)) 1
+halved-at w i = ap (λ (d : ℤ). getD (halved w) i d) (sym (cut-zero 1)) ∙ List·getD-map (λ (x : ℤ). cut x 1) w i (pos 0)
+
+-- ---- a new element in front
+
+pub push-length : (x : ℤ) (xs : List ℤ) → length (push x xs) ≡ length xs
+push-length x xs = length-take-le (length xs) (x ∷ xs) (omega arith)
+
+pub push-at : (x : ℤ) (xs : List ℤ) (i : ℕ) → i < length xs → getD (push x xs) i (pos 0) ≡ getD (x ∷ xs) i (pos 0)
+push-at x xs i h = getD-take (length xs) (x ∷ xs) i (pos 0) h
+
+pub push-each : (P : ℤ → Type 0) (x : ℤ) (xs : List ℤ) → P x → Each P xs → Each P (push x xs)
+push-each P x xs p h = each-take P (length xs) (x ∷ xs) (p, h)
+
+-- ---- whether each weight is below the halving limit
+
+pub low-large : (x : ℤ) → x ≤ℤ negsuc 16383 → isSmall x ≡ false
+low-large x h = le-ltb (natAbs x) halvingLimit (omega (arith, of-le (atom x) (neg (nat 16384)) h, abs-parts x))
+
+pub high-large : (x : ℤ) → pos 16384 ≤ℤ x → isSmall x ≡ false
+high-large x h = le-ltb (natAbs x) halvingLimit (omega (arith, of-le (nat 16384) (atom x) h, abs-parts x))
+
+pub between-small : (x : ℤ) → negsuc 16383 <ℤ x → x <ℤ pos 16384 → isSmall x ≡ true
+between-small x h g =
+    lt-ltb (natAbs x) halvingLimit (by-abs-lt x (atom x) (omega (arith, of-lt (neg (nat 16384)) (atom x) h, of-lt (atom x) (nat 16384) g)))

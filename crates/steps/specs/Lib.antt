@@ -1,0 +1,6 @@
+pub mod Settings
+pub mod Side
+pub mod Output
+pub mod Decision
+pub mod Error
+pub mod Sound

@@ -1,0 +1,72 @@
+-- One side of the equaliser at a sample: the feed forward filter or the feedback filter. Both are one filter.
+use mathlib.Core.Bool.{Bool}
+use mathlib.Core.List.{List, [], _∷_, map}
+use Prim.Native.Nat.{ℕ, _+_, _-_, max}
+use lib.IntN.{ℤ, pos, natAbs, _+ℤ_, _*ℤ_}
+use lib.Dec.{ltb}
+use lib.ListN.{length, take}
+use Rattle.laws.specs.Lists.{all}
+use Rattle.laws.specs.Sums.{dot}
+use Rattle.numbers.specs.BitLength.{bitLength}
+use Rattle.numbers.specs.Cut.{cut, raise}
+use Rattle.steps.specs.Settings.{halvingLimit}
+
+-- A weight W means W·2^(ψ−15), a mantissa a means a·2^(exponent − 45).
+pub record Side : Type 0 where
+  pub weights : List ℤ
+  pub mantissas : List ℤ
+  pub scale : ℕ
+  pub exponent : ℕ
+
+-- step 2: F or H
+abbrev pub sum : Side → ℤ
+sum f = dot (f .weights) (f .mantissas)
+
+-- step 6: the places by which M·Z is cut, from ψ and θ
+abbrev pub factorPlaces : ℕ → ℕ → Side → ℕ
+factorPlaces ψ θ f = 60 + ψ + f .scale - (f .exponent + θ)
+
+-- step 6: J
+abbrev pub factor : ℕ → ℤ → ℕ → ℕ → Side → ℤ
+factor M Z ψ θ f = cut (pos M *ℤ Z) (factorPlaces ψ θ f)
+
+-- step 6: a weight and what it gains, where K is J·2^s
+abbrev pub adapted : ℤ → ℤ → ℤ → ℤ
+adapted K w a = w +ℤ cut (K *ℤ a) 30
+
+unfoldable pub adapt : ℤ → List ℤ → List ℤ → List ℤ
+adapt K [] a = []
+adapt K (w ∷ ws) [] = w ∷ ws
+adapt K (w ∷ ws) (a ∷ b) = adapted K w a ∷ adapt K ws b
+
+-- step 6: the new weights of a side
+abbrev pub learnt : ℤ → Side → List ℤ
+learnt J f = adapt (raise J (f .scale)) (f .weights) (f .mantissas)
+
+-- step 7: a weight has not reached the halving limit
+abbrev pub isSmall : ℤ → Bool
+isSmall w = ltb (natAbs w) halvingLimit
+
+-- step 7: none has
+abbrev pub allSmall : List ℤ → Bool
+allSmall w = all isSmall w
+
+-- step 7: half of each weight
+abbrev pub halved : List ℤ → List ℤ
+halved w = map (λ (x : ℤ). cut x 1) w
+
+-- a new element in front, and the oldest falls off
+abbrev pub push : ℤ → List ℤ → List ℤ
+push x xs = take (length xs) (x ∷ xs)
+
+abbrev pub magnitudes : List ℤ → List ℕ
+magnitudes l = map natAbs l
+
+-- the largest number of a list, 0 of none
+unfoldable pub largest : List ℕ → ℕ
+largest [] = 0
+largest (n ∷ ns) = max n (largest ns)
+
+-- step 1: c, the largest bit length
+unfoldable pub longest : List ℤ → ℕ
+longest l = largest (map bitLength (magnitudes l))

@@ -1,0 +1,42 @@
+-- What the functions of the steps ask, as plain bounds.
+use mathlib.Core.Path.{_≡_}
+use mathlib.Core.List.{List}
+use Prim.Native.Nat.{ℕ, _*_, _-_, _^_, _≤_, _<_}
+use lib.ListN.{length}
+use lib.IntN.{ℤ, natAbs}
+use Rattle.laws.specs.Sums.{Each}
+use Rattle.steps.specs.Settings.{halvingLimit}
+use Rattle.steps.specs.Side.{largest, magnitudes}
+use Rattle.steps.specs.Error.{errorExponent}
+
+-- weights: |W| ≤ 16383
+abbrev pub Small : ℤ → Type 0
+Small w = natAbs w < halvingLimit
+
+-- a sum of products whose partial sums fit 32 bits
+pub record Summable (w a : List ℤ) : Type 0 where
+  pub same-length : length w ≡ length a
+  pub small : Each Small w
+  pub bound : length w * (2 ^ 14 * largest (magnitudes a)) < 2 ^ 31
+
+-- new weights that fit 16 bits
+pub record Adaptable (K : ℤ) (w a : List ℤ) : Type 0 where
+  pub same-length : length w ≡ length a
+  pub small : Each Small w
+  pub bound : natAbs K * largest (magnitudes a) < 2 ^ 44
+
+-- the two sums of a sample and their exponents
+pub record Joinable (f h : ℤ) (g ν ψ : ℕ) : Type 0 where
+  pub f-small : natAbs f < 2 ^ 28
+  pub h-small : natAbs h < 2 ^ 28
+  pub ψ-most : ψ ≤ 15
+  pub ν-most : ν ≤ 9
+  pub g-most : g ≤ 100
+
+-- a symbol beside an output
+pub record Missable (v y : ℤ) (ξ κ : ℕ) : Type 0 where
+  pub y-small : natAbs y < 2 ^ 29
+  pub ξ-least : 1 ≤ ξ
+  pub ξ-most : ξ ≤ 30
+  pub κ-most : κ ≤ 30
+  pub room : natAbs v * 2 ^ (30 - errorExponent ξ κ) ≤ 2 ^ 29

@@ -1,0 +1,6 @@
+// The steps of a sample one by one.
+pub mod decision;
+pub mod error;
+pub mod factor;
+pub mod output;
+pub mod side;
