@@ -148,9 +148,9 @@ module _ (s : Equaliser) (g : Good s) (l : Lent) (t : Typed l) (ok : runNumber s
   near-next l′ = record {
     old = λ n j h k e.
         subst (λ (o : Memory).
-            Off (newB (settings s) o (block l′) + scaleForward (settings s))
-            (max (newB (settings s) (memory s) (block l)) (newB (settings s) o (block l′)) + scaleForward (settings s))
-            (getD (at (settings s) o (block l′) n .samples) j (pos 0)) (getD (receivedAll (l .m) (l .gains)) (s .n + n - j) (pos 0)))
+        Off (newB (settings s) o (block l′) + scaleForward (settings s))
+        (max (newB (settings s) (memory s) (block l)) (newB (settings s) o (block l′)) + scaleForward (settings s))
+        (getD (at (settings s) o (block l′) n .samples) j (pos 0)) (getD (receivedAll (l .m) (l .gains)) (s .n + n - j) (pos 0)))
         (sym (memory-is (settings s) (next s g l t ok) (next-sound s g l t ok))) (near .later (block l′) n j h k e);
   }
 
