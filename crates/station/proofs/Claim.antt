@@ -64,14 +64,14 @@ settings-tests : (k : Settings) → settingsNumber k ≡ 0 → (sizesFit k ≡ t
 unfolding settingsNumber
 settings-tests k h = two (sizesFit k) (admits k) h
 
-good-set-up : (k : Settings) → Good (setUpState k)
+pub good-set-up : (k : Settings) → Good (setUpState k)
 good-set-up k = go (eqb (settingsNumber k) 0) refl
   where
     go : (b : Bool) → eqb (settingsNumber k) 0 ≡ b → Good (cond b (fresh k) refused)
     go true e = let t = settings-tests k (eqb-true (settingsNumber k) 0 e) in good-fresh k (t .0) (t .1)
     go false e = good-refused
 
-good-load : (bytes : List ℕ) → Each Byte bytes → Good (loadState bytes)
+pub good-load : (bytes : List ℕ) → Each Byte bytes → Good (loadState bytes)
 unfolding loadState
 good-load bytes b = go (eqb (loadNumber bytes) 0) refl
   where
@@ -82,7 +82,7 @@ good-load bytes b = go (eqb (loadNumber bytes) 0) refl
         good-of (stateIn bytes) (long .0) (long .1) (loaded-sound bytes b ok)
     go false e = good-refused
 
-good-start : (s : Equaliser) → Start s → Good s
+pub good-start : (s : Equaliser) → Start s → Good s
 good-start s (set-up k e) = subst Good (sym e) (good-set-up k)
 good-start s (loaded bytes b e) = subst Good (sym e) (good-load bytes b)
 
@@ -114,14 +114,14 @@ module _ (s : Equaliser) (g : Good s) (l : Lent) (t : Typed l) (ok : runNumber s
       let long = kept-long (settings s) next next-sound in
       good-of (stateOf (settings s) next) (long .0) (long .1) (kept-examined (settings s) next next-sound (g .sizes) (g .admitted))
 
-good-run : (s : Equaliser) → Good s → (l : Lent) → Typed l → Good (runState s l)
+pub good-run : (s : Equaliser) → Good s → (l : Lent) → Typed l → Good (runState s l)
 good-run s g l t = go (eqb (runNumber s l) 0) refl
   where
     go : (b : Bool) → eqb (runNumber s l) 0 ≡ b → Good (runState s l)
     go true e = let ok = eqb-true (runNumber s l) 0 e in subst Good (sym (accepted-leaves s l ok)) (good-next s g l t ok)
     go false e = subst Good (sym (refused-same s l (eqb-false (runNumber s l) 0 e))) g
 
-good-left : (s : Equaliser) → Good s → (c : Call) → Good (left s c)
+pub good-left : (s : Equaliser) → Good s → (c : Call) → Good (left s c)
 good-left s g (run l t) = good-run s g l t
 good-left s g (save buffer t) = g
 good-left s g (load bytes t) = good-load bytes t
