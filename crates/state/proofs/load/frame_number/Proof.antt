@@ -81,13 +81,13 @@ returns-3 : tie.Need-returns-3
 returns-3 c =
     let e = c .before .before .before in
     let f = e .before in
-    frame-exact (bytes f) (long f) (fitting f ∙ not-false (f .sizes-fit .result) (e .if2 .left)) (c .if3 .taken)
+    frame-exact (bytes f) (long f) (fitting f ∙ not-false (f .sizes-fit .result) (e .if2 .left)) (omega (arith, c .if3 .taken))
 
 returns-4 : tie.Need-returns-4
 returns-4 c =
     let e = c .before .before .before in
     let f = e .before in
-    frame-other (bytes f) (long f) (fitting f ∙ not-false (f .sizes-fit .result) (e .if2 .left)) (c .if3 .left)
+    frame-other (bytes f) (long f) (fitting f ∙ not-false (f .sizes-fit .result) (e .if2 .left)) (λ e. omega (arith, e, c .if3 .left))
 
 pub frame-number-spec : {M : Type 1} → statement M
 frame-number-spec =
