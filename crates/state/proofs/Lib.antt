@@ -8,6 +8,6 @@ pub mod ImageLaws
 pub mod StateBits
 pub mod ByteLaws
 pub mod WordLaws
-pub mod FrameLaws
 pub mod LoadLaws
+pub mod FrameLaws
 pub mod LoadAnswers

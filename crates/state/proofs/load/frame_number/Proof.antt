@@ -4,11 +4,11 @@ use mathlib.Core.List.{List}
 use Prim.Native.Nat.{ℕ, _≤_}
 use native.Mathlib.Omega.{arith}
 use lib.ListN.{length}
+use borrow.Author.Needs.{needs}
 use borrow.Author.Tests.{not-true, not-false}
 use Rattle.state.specs.Sizes.{sizesFit, given}
 use Rattle.state.specs.Load.{byteAt, tapsIn}
 use Rattle.state.proofs.FrameLaws.{frame-short, frame-sizes, frame-exact, frame-other}
-use borrow.Author.Needs.{needs}
 use Rattle.state.proofs.load.frame_number.Statement.{statement}
 use Rattle.state.proofs.load.frame_number.Tie as tie
 
