@@ -8,7 +8,7 @@ pub mod ImageLaws
 pub mod StateBits
 pub mod ByteLaws
 pub mod WordLaws
-pub mod FrameLaws
 pub mod LoadLaws
 pub mod KeptLaws
+pub mod FrameLaws
 pub mod LoadAnswers

@@ -1,9 +1,7 @@
 -- What loading answers, from the number of the bytes and the number of the state.
 use mathlib.Core.Path.{_≡_, sym, ap, _∙_}
-use mathlib.Core.Bool.{Bool, cond}
 use mathlib.Core.List.{List}
 use Prim.Native.Nat.{ℕ}
-use lib.Dec.{eqb}
 use borrow.Author.Tests.{eq-eqb, ne-eqb}
 use Rattle.state.specs.Sizes.{given}
 use Rattle.state.specs.State.{fresh, refused}
@@ -15,26 +13,26 @@ use Rattle.state.proofs.SetUpLaws.{smallest}
 module _ (l : List ℕ) where
   number-frame : (frameNumber l ≡ 0 → ⊥) → loadNumber l ≡ frameNumber l
   unfolding loadNumber
-  number-frame h = ap (λ (b : Bool). cond b (examined (stateIn l)) (frameNumber l)) (ne-eqb (frameNumber l) 0 h)
+  number-frame h = rw (ne-eqb (frameNumber l) 0 h)
 
   number-state : frameNumber l ≡ 0 → loadNumber l ≡ examined (stateIn l)
   unfolding loadNumber
-  number-state h = ap (λ (b : Bool). cond b (examined (stateIn l)) (frameNumber l)) (eq-eqb (frameNumber l) 0 h)
+  number-state h = rw (eq-eqb (frameNumber l) 0 h)
+
+  state-refused : (loadNumber l ≡ 0 → ⊥) → loadState l ≡ refused
+  unfolding loadState
+  state-refused h = rw (ne-eqb (loadNumber l) 0 h)
+
+  state-loaded : loadNumber l ≡ 0 → loadState l ≡ stateIn l
+  unfolding loadState
+  state-loaded h = rw (eq-eqb (loadNumber l) 0 h)
 
   module _ (n : ℕ) (s : Equaliser) (e : n ≡ loadNumber l) where
     answer-refused : (n ≡ 0 → ⊥) → s ≡ fresh (given 1 1 1 0 0 0) → Load l (record { number = n; state = s })
-    unfolding loadState
-    answer-refused z f = record {
-      number = e;
-      state = f ∙ smallest ∙ sym (ap (λ (b : Bool). cond b (stateIn l) refused) (ne-eqb (loadNumber l) 0 (λ q. z (e ∙ q))));
-    }
+    answer-refused z f = record { number = e; state = f ∙ smallest ∙ sym (state-refused (λ q. z (e ∙ q))) }
 
     answer-state : n ≡ 0 → s ≡ stateIn l → Load l (record { number = 0; state = s })
-    unfolding loadState
-    answer-state z f = record {
-      number = sym z ∙ e;
-      state = f ∙ sym (ap (λ (b : Bool). cond b (stateIn l) refused) (eq-eqb (loadNumber l) 0 (sym e ∙ z)));
-    }
+    answer-state z f = record { number = sym z ∙ e; state = f ∙ sym (state-loaded (sym e ∙ z)) }
 
   module _ (f : ℕ) (g : f ≡ frameNumber l) where
     pub load-frame : (s : Equaliser) → (f ≡ 0 → ⊥) → s ≡ fresh (given 1 1 1 0 0 0) → Load l (record { number = f; state = s })

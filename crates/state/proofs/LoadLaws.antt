@@ -23,18 +23,21 @@ use Rattle.state.proofs.ByteLaws.{number-bytes, bytes-number, words-bac
 
 -- ---- the tests of loading
 
-three : (a b c : Bool) → _≡_ {A = ℕ} (cond a (cond b (cond c 0 8) 1) 8) 0 → (a ≡ true) × (b ≡ true) × (c ≡ true)
-three true true true h = (refl, refl, refl)
-three true true false h = absurd (omega arith)
-three true false c h = absurd (omega arith)
-three false b c h = absurd (omega arith)
+module _ (l : List ℕ) where
+  three : (a b c : Bool) → leb 12 (length l) ≡ a → sizesFit (settings (stateIn l)) ≡ b → eqb (length l) (imageLength (stateIn l)) ≡ c →
+      frameNumber l ≡ 0 → (a ≡ true) × (b ≡ true) × (c ≡ true)
+  unfolding frameNumber
+  three true true true x y z h = (refl, refl, refl)
+  three true true false x y z h = absurd (omega (arith, simp (x, y, z) at h))
+  three true false true x y z h = absurd (omega (arith, simp (x, y, z) at h))
+  three true false false x y z h = absurd (omega (arith, simp (x, y, z) at h))
+  three false b c x y z h = absurd (omega (arith, simp x at h))
 
-pub frame-tests : (l : List ℕ) → frameNumber l ≡ 0 → (12 ≤ length l) × (sizesFit (settings (stateIn l)) ≡ true) × (length l ≡ imageLength (stateIn l))
-unfolding frameNumber
-frame-tests l h =
-    let s = stateIn l in
-    let t = three (leb 12 (length l)) (sizesFit (settings s)) (eqb (length l) (imageLength s)) h in
-    (leb-true 12 (length l) (t .0), t .1, eqb-true (length l) (imageLength s) (t .2))
+  pub frame-tests : frameNumber l ≡ 0 → (12 ≤ length l) × (sizesFit (settings (stateIn l)) ≡ true) × (length l ≡ imageLength (stateIn l))
+  frame-tests h =
+      let s = stateIn l in
+      let t = three (leb 12 (length l)) (sizesFit (settings s)) (eqb (length l) (imageLength s)) refl refl refl h in
+      (leb-true 12 (length l) (t .0), t .1, eqb-true (length l) (imageLength s) (t .2))
 
 both-zero : (f x : ℕ) (t : Bool) → eqb f 0 ≡ t → cond t x f ≡ 0 → (f ≡ 0) × (x ≡ 0)
 both-zero f x true e h = (eqb-true f 0 e, h)

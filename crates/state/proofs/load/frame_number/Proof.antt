@@ -4,11 +4,11 @@ use mathlib.Core.List.{List}
 use Prim.Native.Nat.{ℕ, _≤_}
 use native.Mathlib.Omega.{arith}
 use lib.ListN.{length}
+use borrow.Author.Needs.{needs}
 use borrow.Author.Tests.{not-true, not-false}
 use Rattle.state.specs.Sizes.{sizesFit, given}
 use Rattle.state.specs.Load.{byteAt, tapsIn}
 use Rattle.state.proofs.FrameLaws.{frame-short, frame-sizes, frame-exact, frame-other}
-use borrow.Author.Needs.{needs}
 use Rattle.state.proofs.load.frame_number.Statement.{statement}
 use Rattle.state.proofs.load.frame_number.Tie as tie
 
@@ -81,13 +81,13 @@ returns-3 : tie.Need-returns-3
 returns-3 c =
     let e = c .before .before .before in
     let f = e .before in
-    frame-exact (bytes f) (long f) (fitting f ∙ not-false (f .sizes-fit .result) (e .if2 .left)) (c .if3 .taken)
+    frame-exact (bytes f) (long f) (fitting f ∙ not-false (f .sizes-fit .result) (e .if2 .left)) (omega (arith, c .if3 .taken))
 
 returns-4 : tie.Need-returns-4
 returns-4 c =
     let e = c .before .before .before in
     let f = e .before in
-    frame-other (bytes f) (long f) (fitting f ∙ not-false (f .sizes-fit .result) (e .if2 .left)) (c .if3 .left)
+    frame-other (bytes f) (long f) (fitting f ∙ not-false (f .sizes-fit .result) (e .if2 .left)) (λ e. omega (arith, e, c .if3 .left))
 
 pub frame-number-spec : {M : Type 1} → statement M
 frame-number-spec =

@@ -2,9 +2,9 @@
 use mathlib.Core.Path.{refl}
 use Prim.Native.Nat.{_+_, _*_}
 use native.Mathlib.Omega.{arith}
+use borrow.Author.Needs.{needs}
 use Rattle.state.specs.Load.{tapsIn}
 use Rattle.state.proofs.FrameLaws.{state-made}
-use borrow.Author.Needs.{needs}
 use Rattle.state.proofs.load.state_in.Statement.{statement}
 use Rattle.state.proofs.load.state_in.Tie as tie
 
