@@ -1,18 +1,21 @@
 -- Laws of the largest number of a list, and of the largest bit length.
 use mathlib.Core.Path.{_≡_, refl, sym, ap, _∙_, subst}
+use mathlib.Core.Bool.{Bool, true, false, _&&_}
 use mathlib.Core.List.{List, [], _∷_, map}
 use Prim.Native.Nat.{ℕ, zero, suc, _+_, _^_, _≤_, _<_, max}
 use native.Mathlib.Omega.{arith, max-cases}
 use native.Mathlib.Nat.{max-eq-left, max-eq-right}
 use native.Mathlib.Numerals.{add-one}
+use lib.Dec.{ltb}
 use lib.IntN.{ℤ, pos, natAbs}
 use lib.ListN.{length, getD, take, List·getD-map}
 use lib.Seq.{take-all}
+use borrow.Author.Tests.{lt-ltb, le-ltb, ltb-true, ltb-false}
 use Rattle.laws.specs.Sums.{Each, each-map, each-of, each-weaken}
 use Rattle.numbers.specs.BitLength.{bitLength}
 use Rattle.numbers.proofs.BitLengthLaws.{bit-length-zero, bit-length-mono, bit-length-lt}
-use Rattle.steps.specs.Side.{largest, magnitudes}
-use Rattle.steps.specs.Side.{longest}
+use Rattle.steps.specs.Settings.{halvingLimit}
+use Rattle.steps.specs.Side.{isSmall, allSmall, magnitudes, largest, longest}
 
 pub largest-none : largest [] ≡ 0
 unfolding largest
@@ -62,6 +65,21 @@ largest-stays ns i m e h = e ∙ sym (ap (λ j. largest (take j ns)) (add-one i)
 
 pub largest-end : (ns : List ℕ) (i : ℕ) → length ns ≤ i → largest (take i ns) ≡ largest ns
 largest-end ns i h = ap largest (take-all i ns h)
+
+-- ---- below a limit
+
+max-below : (k m n : ℕ) (a b : Bool) → ltb m k ≡ a → ltb n k ≡ b → (a && b) ≡ ltb (max m n) k
+max-below k m n true true e f = sym (lt-ltb (max m n) k (omega (arith, ltb-true m k e, ltb-true n k f)))
+max-below k m n true false e f = sym (le-ltb (max m n) k (omega (arith, ltb-false n k f)))
+max-below k m n false b e f = sym (le-ltb (max m n) k (omega (arith, ltb-false m k e)))
+
+-- no weight has reached the halving limit where the largest magnitude has not
+pub all-small-is : (w : List ℤ) → allSmall w ≡ ltb (largest (magnitudes w)) halvingLimit
+unfolding largest
+all-small-is [] = refl
+all-small-is (x ∷ w) =
+    ap (λ (b : Bool). isSmall x && b) (all-small-is w)
+    ∙ max-below halvingLimit (natAbs x) (largest (magnitudes w)) (isSmall x) (ltb (largest (magnitudes w)) halvingLimit) refl refl
 
 -- ---- the bit length
 

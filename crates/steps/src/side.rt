@@ -3,9 +3,8 @@ ghost use mathlib.Core.Path.{_≡_};
 ghost use Prim.Native.Nat.{_*_, _^_, _<_};
 ghost use lib.IntN.{_+ℤ_, _*ℤ_, natAbs};
 ghost use Rattle.laws.specs.Sums.{dot};
-ghost use Rattle.steps.specs.Side.{adapted, adapt, allSmall, halved, push};
+ghost use Rattle.steps.specs.Side.{adapted, adapt, allSmall, halved, push, magnitudes, largest, longest};
 ghost use Rattle.numbers.specs.Cut.{raise};
-ghost use Rattle.steps.specs.Side.{longest};
 ghost use Rattle.steps.specs.Sound.{Summable, Adaptable};
 
 // One product more.
@@ -50,19 +49,27 @@ pub fn adapt(w: &mut [i16], a: &[i16], k: i64)
     }
 }
 
+// The largest magnitude of a list.
+fn peak(xs: &[i16]) -> u16
+    ensures { λ r. ⌜ r ≡ largest (magnitudes (now (xs .entry))) ⌝ }
+{
+    let mut most: u16 = 0;
+    let mut i: usize = 0;
+    while i < xs.len() {
+        let size = numbers::bit_length::magnitude(xs[i] as i64) as u16;
+        if most < size {
+            most = size;
+        }
+        i += 1;
+    }
+    most
+}
+
 // Step 7: whether no weight has reached the halving limit.
 pub fn all_small(w: &[i16]) -> bool
     ensures { λ r. ⌜ r ≡ allSmall (now (w .entry)) ⌝ }
 {
-    let mut i: usize = 0;
-    while i < w.len() {
-        let x = w[i];
-        if x <= -16384 || 16384 <= x {
-            return false;
-        }
-        i += 1;
-    }
-    true
+    peak(w) < 16384
 }
 
 // Step 7: half of each weight.
@@ -94,16 +101,7 @@ pub fn push(xs: &mut [i16], x: i16)
 pub fn longest(xs: &[i16]) -> u32
     ensures { λ r. ⌜ r ≡ longest (now (xs .entry)) ⌝ }
 {
-    let mut most: u64 = 0;
-    let mut i: usize = 0;
-    while i < xs.len() {
-        let size = numbers::bit_length::magnitude(xs[i] as i64);
-        if most < size {
-            most = size;
-        }
-        i += 1;
-    }
-    numbers::bit_length::bit_length(most)
+    numbers::bit_length::bit_length(peak(xs) as u64)
 }
 
 // A sum of products with symbols as they are held.
