@@ -99,11 +99,15 @@ module _ (k : Settings) (g : ℕ) (t : Taps) (entry : ℤ) (h : Fit k g t) where
     J-back : natAbs (J k g t entry (backSide k g t entry)) ≤ 2 ^ 29
     J-back = J-small (backSide k g t entry) (Sides.back-fit k g t entry h)
 
-    pub forward-adaptable : Adaptable (raise (J k g t entry (forwardSide k g t entry)) (scaleForward k)) (t .forward) (t .samples)
-    forward-adaptable = adaptable (forwardSide k g t entry) (Sides.forward-fit k g t entry h) (J k g t entry (forwardSide k g t entry)) J-forward
+    pub forward-adaptable : Adaptable (J k g t entry (forwardSide k g t entry)) (15 - scaleForward k) (t .forward) (t .samples)
+    forward-adaptable =
+        adaptable (forwardSide k g t entry) (Sides.forward-fit k g t entry h) (J k g t entry (forwardSide k g t entry)) J-forward
+        (omega (arith, Sides.scaleForward-most k g t entry h))
 
-    pub back-adaptable : Adaptable (raise (J k g t entry (backSide k g t entry)) (scaleBack k + (15 - ν k g t entry))) (t .back) (t .symbols)
-    back-adaptable = adaptable (Sides.symbolSide k g t entry) (Sides.symbol-fit k g t entry h) (J k g t entry (backSide k g t entry)) J-back
+    pub back-adaptable : Adaptable (J k g t entry (backSide k g t entry)) (15 - (scaleBack k + (15 - ν k g t entry))) (t .back) (t .symbols)
+    back-adaptable =
+        adaptable (Sides.symbolSide k g t entry) (Sides.symbol-fit k g t entry h) (J k g t entry (backSide k g t entry)) J-back
+        (Sides.symbol-scale-most k g t entry h)
 
     -- ---- step 7
 

@@ -61,6 +61,12 @@ module _ (k : Settings) (g : ℕ) (t : Taps) (entry : ℤ) (h : Fit k g t) where
 
   -- ---- the past symbols
 
+  symbol-scale : scaleBack k + (15 - ν k g t entry) ≡ 15 - longest (t .symbols)
+  symbol-scale = omega (arith, ν-is, ν-most)
+
+  pub symbol-scale-most : scaleBack k + (15 - ν k g t entry) ≤ 15
+  symbol-scale-most = omega (arith, symbol-scale)
+
   symbols-raised : Each (λ (u : ℤ). natAbs u * 2 ^ (15 - longest (t .symbols)) < 2 ^ 15) (t .symbols)
   symbols-raised = each-weaken (λ (u : ℤ). natAbs u < 2 ^ longest (t .symbols)) (λ (u : ℤ). natAbs u * 2 ^ (15 - longest (t .symbols)) < 2 ^ 15)
       (λ u l. Powers.raise (natAbs u) 15 (longest (t .symbols)) (15 - longest (t .symbols)) (omega (arith, longest-most, h .within .r-most)) l)
@@ -116,9 +122,6 @@ module _ (k : Settings) (g : ℕ) (t : Taps) (entry : ℤ) (h : Fit k g t) where
     scale-enough = omega (arith, h .within .q-most, rises {a = 11} {b = scaleBack k + (15 - ν k g t entry)} (omega (arith, symbol-scale, longest-most, h .within .r-most)));
     exponent-most = omega (arith, symbol-scale, longest-most, h .within .r-most);
   }
-    where
-      symbol-scale : scaleBack k + (15 - ν k g t entry) ≡ 15 - longest (t .symbols)
-      symbol-scale = omega (arith, ν-is, ν-most)
 
   -- ---- v and the exponents
 

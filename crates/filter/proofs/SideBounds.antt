@@ -2,7 +2,7 @@
 use mathlib.Core.Path.{_≡_, refl, sym, ap, _∙_}
 use mathlib.Core.Bool.{Bool, true, false}
 use mathlib.Core.List.{List, [], _∷_}
-use Prim.Native.Nat.{ℕ, _+_, _*_, _^_, _≤_, _<_}
+use Prim.Native.Nat.{ℕ, _+_, _*_, _-_, _^_, _≤_, _<_}
 use native.Mathlib.Omega.{arith}
 use native.Mathlib.Nat.{mul-le-mul-left, mul-le-mul-right}
 use borrow.Author.Tests.{ltb-true}
@@ -10,7 +10,7 @@ use lib.ListN.{length}
 use lib.IntN.{ℤ, pos, natAbs, _*ℤ_}
 use Rattle.laws.specs.Integers.{abs-mul, abs-add}
 use Rattle.laws.specs.Lists.{all-at}
-use Rattle.laws.specs.Powers.{split3, rises, cancel-le}
+use Rattle.laws.specs.Powers.{split, split3, rises, cancel-le, lower}
 use Rattle.laws.specs.Sums.{Each, each-map, each-of, each-weaken, dot-bound}
 use Rattle.numbers.specs.Cut.{cut, raise}
 use Rattle.numbers.proofs.CutLaws.{cut-lt, raise-abs}
@@ -42,10 +42,6 @@ adapt-each K m b (w ∷ ws) (x ∷ a) h g = (gained, adapt-each K m b ws a (h .1
 
     gained : natAbs (adapted K w x) < 2 ^ 15
     gained = omega (arith, abs-add w (cut (K *ℤ x) 30), gain, h .0)
-
--- each gain is below 2^14, so each new weight is below 2^15
-adapt-small : (K : ℤ) (w a : List ℤ) → Adaptable K w a → Each (λ (x : ℤ). natAbs x < 2 ^ 15) (adapt K w a)
-adapt-small K w a f = adapt-each K (largest (magnitudes a)) (f .bound) w a (f .small) (each-magnitude a)
 
 -- one halving makes them small again
 halved-small : (w : List ℤ) → Each (λ (x : ℤ). natAbs x < 2 ^ 15) w → Each Small (halved w)
@@ -100,18 +96,26 @@ module _ {r n : ℕ} (f : Side) (h : SideFit r n f) where
       go : (m : ℕ) → m * 2 ^ f .scale < 2 ^ 15 → length (f .weights) * (2 ^ 14 * m) < 2 ^ 31
       go m b = omega (arith, mul-le-mul-right m (h .scale-enough), ap (λ (l : ℕ). l * m) (h .weights-long))
 
-  pub adaptable : (J : ℤ) → natAbs J ≤ 2 ^ 29 → Adaptable (raise J (f .scale)) (f .weights) (f .mantissas)
-  adaptable J j = record {
+  pub adaptable : (J : ℤ) → natAbs J ≤ 2 ^ 29 → f .scale ≤ 15 → Adaptable J (15 - f .scale) (f .weights) (f .mantissas)
+  adaptable J j l = record {
     same-length = h .weights-long ∙ sym (h .mantissas-long);
     small = h .weights-small;
+    t-most = omega arith;
+    factor-small = j;
     bound = go (largest (magnitudes (f .mantissas))) mantissas-largest;
   }
     where
+      go : (m : ℕ) → m * 2 ^ f .scale < 2 ^ 15 → natAbs J * m < 2 ^ (29 + (15 - f .scale))
+      go m b = omega (arith, mul-le-mul-right m j, split (29 + (15 - f .scale)) 29 (15 - f .scale) refl, lower m 15 (15 - f .scale) (f .scale) (omega arith) b)
+
+  -- each gain is below 2^14, so each new weight is below 2^15
+  pub learnt-small : (J : ℤ) → natAbs J ≤ 2 ^ 29 → Each (λ (x : ℤ). natAbs x < 2 ^ 15) (learnt J f)
+  learnt-small J j =
+      adapt-each (raise J (f .scale)) (largest (magnitudes (f .mantissas))) (go (largest (magnitudes (f .mantissas))) mantissas-largest)
+      (f .weights) (f .mantissas) (h .weights-small) (each-magnitude (f .mantissas))
+    where
       go : (m : ℕ) → m * 2 ^ f .scale < 2 ^ 15 → natAbs (raise J (f .scale)) * m < 2 ^ 44
       go m b = omega (arith, ap (λ (l : ℕ). l * m) (raise-abs J (f .scale)), mul-le-mul-right (m * 2 ^ f .scale) j)
-
-  pub learnt-small : (J : ℤ) → natAbs J ≤ 2 ^ 29 → Each (λ (x : ℤ). natAbs x < 2 ^ 15) (learnt J f)
-  learnt-small J j = adapt-small (raise J (f .scale)) (f .weights) (f .mantissas) (adaptable J j)
 
   -- the places of M·Z never run below 17
   pub places-least : (ψ θ : ℕ) → r ≤ 3 → θ ≤ ψ + 9 → f .exponent + θ + 17 ≤ 60 + ψ + f .scale

@@ -93,27 +93,25 @@ module _ (k : Settings) (s sb g : ℕ) (t : Taps) (entry : ℤ) (r : Ready k s s
 
   -- ---- steps 6 to 8
 
-  teachable : {n : ℕ} (f : Side) → SideFit (k .r) n f → f .scale ≤ 5 → (more : ℕ) → more ≤ 15 → (w a : List ℤ) → Adaptable (raise (J k g t entry f) (f .scale + more)) w a →
+  teachable : {n : ℕ} (f : Side) → SideFit (k .r) n f → (more : ℕ) → f .scale + more ≤ 15 → (w a : List ℤ) → Adaptable (J k g t entry f) (15 - (f .scale + more)) w a →
       Teachable (k .M) (Z k g t entry) (t .ψ) (θ k g t entry) (f .scale) (f .exponent) more w a
   unfolding J
-  teachable f fit l more m w a h = record {
+  teachable f fit more l w a h = record {
     z-small = B.Z-small k g t entry (r .fit) (r .entry-is);
     ψ-most = r .fit .ψ-most;
-    scale-most = l;
-    more-most = m;
+    room = l;
     places = omega (arith, B.places k g t entry (r .fit) (r .entry-is) f fit);
-    factor-small = B.J-small k g t entry (r .fit) (r .entry-is) f fit;
     adaptable = h;
   }
 
   ahead : Teachable (k .M) (Z k g t entry) (t .ψ) (θ k g t entry) (scaleForward k) g 0 (t .forward) (t .samples)
   ahead =
-      teachable (forwardSide k g t entry) (S.forward-fit k g t entry (r .fit)) (S.scaleForward-most k g t entry (r .fit)) 0 (omega arith) (t .forward) (t .samples)
+      teachable (forwardSide k g t entry) (S.forward-fit k g t entry (r .fit)) 0 (omega (arith, S.scaleForward-most k g t entry (r .fit))) (t .forward) (t .samples)
       (rw add-zero (B.forward-adaptable k g t entry (r .fit) (r .entry-is)))
 
   behind : Teachable (k .M) (Z k g t entry) (t .ψ) (θ k g t entry) (scaleBack k) (ν k g t entry + 30) (15 - ν k g t entry) (t .back) (t .symbols)
   behind =
-      teachable (backSide k g t entry) (S.back-fit k g t entry (r .fit)) (S.scaleBack-most k g t entry (r .fit)) (15 - ν k g t entry) (omega arith) (t .back) (t .symbols)
+      teachable (backSide k g t entry) (S.back-fit k g t entry (r .fit)) (15 - ν k g t entry) (S.symbol-scale-most k g t entry (r .fit)) (t .back) (t .symbols)
       (B.back-adaptable k g t entry (r .fit) (r .entry-is))
 
   pub changeable : (h : Heard) (j : Judged) → Heard-as h → Judged-as j → Changeable (k .M) s sb g (t .ψ) h j (t .forward) (t .back) (t .samples) (t .symbols)

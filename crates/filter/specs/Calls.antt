@@ -76,11 +76,9 @@ taught m z ψ θ scale exponent more w a = adapt (raise (factorOf m z ψ θ scal
 pub record Teachable (m : ℕ) (z : ℤ) (ψ θ scale exponent more : ℕ) (w a : List ℤ) : Type 0 where
   pub z-small : natAbs z < 2 ^ 30
   pub ψ-most : ψ ≤ 15
-  pub scale-most : scale ≤ 5
-  pub more-most : more ≤ 15
+  pub room : scale + more ≤ 15
   pub places : exponent + θ ≤ 60 + ψ + scale
-  pub factor-small : natAbs (factorOf m z ψ θ scale exponent) ≤ 2 ^ 29
-  pub adaptable : Adaptable (raise (factorOf m z ψ θ scale exponent) (scale + more)) w a
+  pub adaptable : Adaptable (factorOf m z ψ θ scale exponent) (15 - (scale + more)) w a
 
 -- ---- step 7
 

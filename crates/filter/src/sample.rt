@@ -105,8 +105,7 @@ pub fn learn(
     ensures { λ _. ⌜ now (w .exit) ≡ taught m z psi theta scale exponent more (now (w .entry)) (now (a .entry)) ⌝ }
 {
     let j = steps::factor::factor(m, z, 60 + psi + scale - (exponent + theta));
-    let k = numbers::cut::raise(j, scale + more);
-    steps::side::adapt(w, a, k);
+    steps::side::adapt(w, a, j as i32, 15 - (scale + more));
 }
 
 // Step 7: whether no weight of either side has reached the halving limit.

@@ -1,5 +1,6 @@
 pub mod LargestLaws
 pub mod SideLaws
+pub mod GainLaws
 pub mod DecisionLaws
 pub mod OutputLaws
 pub mod SymbolLaws

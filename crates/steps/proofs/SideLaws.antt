@@ -87,9 +87,9 @@ adapt-raise e k (w ∷ ws) (a ∷ b) = ap₂ (λ (y : ℤ) (z : List ℤ). y ∷
     turned = ap (λ (y : ℤ). k *ℤ y) (*ℤ-comm a (pos (2 ^ e))) ∙ sym (*ℤ-assoc k (pos (2 ^ e)) a)
 
 -- what one weight asks
-pub adapt-room : (k : ℤ) (w a : List ℤ) (i : ℕ) → Adaptable k w a → i < length w →
-    (natAbs (getD w i (pos 0)) < 2 ^ 14) × (natAbs k * natAbs (getD a i (pos 0)) < 2 ^ 44)
-adapt-room k w a i s h = (each-at Small w i (pos 0) (s .small) h, lt-of-le-of-lt (mul-le-mul-left (natAbs k) (magnitude-at a i)) (s .bound))
+pub adapt-room : (J : ℤ) (t : ℕ) (w a : List ℤ) (i : ℕ) → Adaptable J t w a → i < length w →
+    (natAbs (getD w i (pos 0)) < 2 ^ 14) × (natAbs J * natAbs (getD a i (pos 0)) < 2 ^ (29 + t))
+adapt-room J t w a i s h = (each-at Small w i (pos 0) (s .small) h, lt-of-le-of-lt (mul-le-mul-left (natAbs J) (magnitude-at a i)) (s .bound))
 
 -- ---- half of each weight
 

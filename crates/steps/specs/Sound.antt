@@ -1,7 +1,7 @@
 -- What the functions of the steps ask, as plain bounds.
 use mathlib.Core.Path.{_≡_}
 use mathlib.Core.List.{List}
-use Prim.Native.Nat.{ℕ, _*_, _-_, _^_, _≤_, _<_}
+use Prim.Native.Nat.{ℕ, _+_, _*_, _-_, _^_, _≤_, _<_}
 use lib.ListN.{length}
 use lib.IntN.{ℤ, natAbs}
 use Rattle.laws.specs.Sums.{Each}
@@ -19,11 +19,13 @@ pub record Summable (w a : List ℤ) : Type 0 where
   pub small : Each Small w
   pub bound : length w * (2 ^ 14 * largest (magnitudes a)) < 2 ^ 31
 
--- new weights that fit 16 bits
-pub record Adaptable (K : ℤ) (w a : List ℤ) : Type 0 where
+-- new weights that fit 16 bits, where K is J·2^(15 − t)
+pub record Adaptable (J : ℤ) (t : ℕ) (w a : List ℤ) : Type 0 where
   pub same-length : length w ≡ length a
   pub small : Each Small w
-  pub bound : natAbs K * largest (magnitudes a) < 2 ^ 44
+  pub t-most : t ≤ 15
+  pub factor-small : natAbs J ≤ 2 ^ 29
+  pub bound : natAbs J * largest (magnitudes a) < 2 ^ (29 + t)
 
 -- the two sums of a sample and their exponents
 pub record Joinable (f h : ℤ) (g ν ψ : ℕ) : Type 0 where

@@ -1,15 +1,13 @@
--- J·2^s is the factor raised, and both are within 64 bits.
-use mathlib.Core.Path.{_≡_, ap, _∙_}
-use Prim.Native.Nat.{_+_}
+-- J is within 32 bits, and what it is raised by is what is left of 15 places.
+use mathlib.Core.Path.{_≡_, ap₂, _∙_}
+use Prim.Native.Nat.{ℕ, _+_, _-_, _≤_}
 use native.Mathlib.Omega.{arith}
-use native.Mathlib.Nat.{mul-le-mul}
 use lib.IntN.{ℤ}
-use mir.Syntax.{w64}
-use mir.Val.{toZ, ofZ}
+use mir.Syntax.{w32, w64}
+use mir.Val.{SFits, toZ, ofZ}
 use mir.Facts.{toZ-ofZ}
 use borrow.Author.Needs.{needs}
-use Rattle.laws.specs.Machine.{kept}
-use Rattle.laws.specs.Powers.{rises}
+use Rattle.laws.specs.Machine.{kept, fits-abs}
 use Rattle.numbers.specs.Cut.{raise}
 use Rattle.steps.specs.Side.{adapt}
 use Rattle.filter.specs.Calls.{factorOf}
@@ -31,37 +29,41 @@ sub-factor c = search needs
 factor-requires : tie.Need-factor-requires
 factor-requires c κs = search needs
 
-add-raise : tie.Need-add-raise
-add-raise c = search needs
-
 abbrev factor : tie.Start → ℤ
 factor c = let a = c .args in factorOf (a .m) (a .z) (a .psi) (a .theta) (a .scale) (a .exponent)
 
 factored : (c : tie.After-factor) → toZ w64 (ofZ w64 (c .factor .result)) ≡ factor (c .before)
 factored c = kept w64 (c .factor .result) (c .factor .ok) ∙ c .factor .ensures ∙ simp (toZ-ofZ (c .before .fits .z))
 
-raise-requires : tie.Need-raise-requires
-raise-requires c κs =
-    let p = c .before .pre in
-    let a = c .before .args in
-    rw (factored c) (
-      omega (arith, p .scale-most, p .more-most),
-      omega (arith, mul-le-mul (p .factor-small) (rises {a = a .scale + a .more} {b = 20} (omega (arith, p .scale-most, p .more-most)))),
-    )
+narrow : (c : tie.Start) → SFits w32 (factor c)
+narrow c = fits-abs (factor c) (omega (arith, c .pre .adaptable .factor-small))
 
-raised : (c : tie.After-raise) → toZ w64 (ofZ w64 (c .raise .result)) ≡ raise (factor (c .before .before)) (c .before .before .args .scale + c .before .before .args .more)
-raised c =
-    kept w64 (c .raise .result) (c .raise .ok) ∙ c .raise .ensures
-    ∙ ap (λ (z : ℤ). raise z (c .before .before .args .scale + c .before .before .args .more)) (factored (c .before))
+cast-adapt : tie.Need-cast-adapt
+cast-adapt c = simp (factored (c .before)) (narrow (c .before .before))
+
+add-adapt : tie.Need-add-adapt
+add-adapt c = search needs
+
+sub-adapt : tie.Need-sub-adapt
+sub-adapt c = search needs
+
+passed : (c : tie.After-factor) → toZ w32 (ofZ w32 (toZ w64 (ofZ w64 (c .factor .result)))) ≡ factor (c .before)
+passed c = simp (factored c) (toZ-ofZ (narrow (c .before)))
 
 adapt-requires : tie.Need-adapt-requires
-adapt-requires c κs = rw (raised (c .before)) (c .before .before .before .pre .adaptable)
+adapt-requires c κs = rw (passed (c .before)) (c .before .before .pre .adaptable)
+
+left : (n : ℕ) → n ≤ 15 → 15 - (15 - n) ≡ n
+left n h = omega arith
 
 same-length : tie.Need-same-length
 same-length c = search needs
 
 returns : tie.Need-returns
-returns c = c .before .adapt .ensures ∙ rw (raised (c .before .before .before))
+returns c =
+    let s = c .before .before .before .before in
+    c .before .adapt .ensures
+    ∙ ap₂ (λ (z : ℤ) (n : ℕ). adapt (raise z n) (s .args .w .now) (s .args .a .now)) (passed (c .before .before .before)) (left (s .args .scale + s .args .more) (s .pre .room))
 
 pub learn-spec : {M : Type 1} → statement M
 learn-spec =
@@ -72,8 +74,9 @@ learn-spec =
     add-factor-3
     sub-factor
     factor-requires
-    add-raise
-    raise-requires
+    cast-adapt
+    add-adapt
+    sub-adapt
     adapt-requires
     same-length
     returns)
