@@ -145,7 +145,10 @@ impl Assumptions {
             let sentence = format!("cable_old has {old} taps, but cable_new has {new}");
             found.push(("cable_old", sentence));
         }
-        let (room, needed) = (self.payload_symbols(), payload::symbols_of_word(self.sizes.r));
+        let (room, needed) = (
+            self.payload_symbols(),
+            payload::symbols_of_word(self.sizes.r),
+        );
         if room < needed {
             let sentence = format!("the payload has {room} symbols, but a pressure takes {needed}");
             found.push(("payload_blocks", sentence));

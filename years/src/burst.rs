@@ -34,7 +34,9 @@ impl<'a> Sender<'a> {
         let mut preamble = Random::new(given.seed, Purpose::Preamble);
         Sender {
             given,
-            known: (0..KNOWN).map(|_| symbol(&mut preamble, given.sizes.r)).collect(),
+            known: (0..KNOWN)
+                .map(|_| symbol(&mut preamble, given.sizes.r))
+                .collect(),
             filler: Random::new(given.seed, Purpose::Filler),
             scramblers: Random::new(given.seed, Purpose::Scrambler),
         }
@@ -47,7 +49,8 @@ impl<'a> Sender<'a> {
 
     /// Known symbols alone.
     pub fn commissioning(&self) -> Burst {
-        let samples = self.given.burst.commissioning_blocks as usize * usize::from(self.given.sizes.n);
+        let samples =
+            self.given.burst.commissioning_blocks as usize * usize::from(self.given.sizes.n);
         self.around(samples, Vec::new(), 0)
     }
 
@@ -56,7 +59,7 @@ impl<'a> Sender<'a> {
     pub fn reading(&mut self, number: u16) -> Burst {
         let samples = self.given.burst.preamble_blocks as usize * usize::from(self.given.sizes.n);
         let r = self.given.sizes.r;
-        let scrambler = payload::scrambler(self.scramblers.draw());
+        let scrambler = (self.scramblers.draw() >> 32) as u32;
         let mut symbols = payload::send(number, scrambler, r);
         symbols.resize_with(self.given.payload_symbols(), || symbol(&mut self.filler, r));
         self.around(samples, symbols, scrambler)

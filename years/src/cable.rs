@@ -86,7 +86,9 @@ impl<'a> CableModel<'a> {
         sent.windows(weather.taps.len())
             .map(|last| {
                 let newest_first = last.iter().rev();
-                let products = newest_first.zip(&weather.taps).map(|(v, tap)| f64::from(*v) * tap);
+                let products = newest_first
+                    .zip(&weather.taps)
+                    .map(|(v, tap)| f64::from(*v) * tap);
                 products.sum::<f64>() + weather.noise * self.noise.normal() + self.impulse(weather)
             })
             .collect()

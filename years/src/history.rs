@@ -64,7 +64,9 @@ impl World<'_> {
         let levels = self.cable.receive(weather, &burst.sent[unheard..]);
         let n = usize::from(self.given.sizes.n);
         let blocks = levels.chunks(n).zip(burst.entries.chunks(n));
-        blocks.map(|(levels, entries)| self.station.block(levels, entries)).collect()
+        blocks
+            .map(|(levels, entries)| self.station.block(levels, entries))
+            .collect()
     }
 
     fn commission(&mut self) {
@@ -122,7 +124,10 @@ impl World<'_> {
 
     fn pressure_received(&self, payload: &[Decided], scrambler: u32) -> Option<u16> {
         let r = self.given.sizes.r;
-        let decisions: Vec<i8> = payload.iter().flat_map(|b| b.decisions.iter().copied()).collect();
+        let decisions: Vec<i8> = payload
+            .iter()
+            .flat_map(|b| b.decisions.iter().copied())
+            .collect();
         if decisions.len() < self.given.payload_symbols() {
             return None;
         }
@@ -136,7 +141,9 @@ fn wrong(blocks: &[Decided], sent: &[i8]) -> u32 {
     let parts = sent.chunks(sent.len() / blocks.len());
     let right = |(block, part): (&Decided, &[i8])| {
         let pairs = block.decisions.iter().zip(part);
-        pairs.filter(|(decision, symbol)| decision == symbol).count()
+        pairs
+            .filter(|(decision, symbol)| decision == symbol)
+            .count()
     };
     (sent.len() - blocks.iter().zip(parts).map(right).sum::<usize>()) as u32
 }

@@ -26,8 +26,12 @@ fn run(path: &Path, outdir: &Path) -> Result<String, (u8, String)> {
     let text = std::fs::read_to_string(path)
         .map_err(|e| (2, format!("{}: can't be read: {e}", path.display())))?;
     let with_path = |line: &String| format!("{}: {line}", path.display());
-    let given = assumptions::parse(&text)
-        .map_err(|lines| (2, lines.iter().map(with_path).collect::<Vec<_>>().join("\n")))?;
+    let given = assumptions::parse(&text).map_err(|lines| {
+        (
+            2,
+            lines.iter().map(with_path).collect::<Vec<_>>().join("\n"),
+        )
+    })?;
     let mut progress = Progress::new(given.readings());
     let readings = history::run(&given, |done| progress.at(done));
     let summary = table::summary(&given, &readings);
@@ -38,7 +42,8 @@ fn run(path: &Path, outdir: &Path) -> Result<String, (u8, String)> {
 
 /// Writes under another name and renames when all is written.
 fn write_whole(path: &Path, text: &str) -> Result<(), (u8, String)> {
-    let part = path.with_extension("part");
+    let mut part = path.as_os_str().to_owned();
+    part.push(".part");
     let written = std::fs::write(&part, text).and_then(|()| std::fs::rename(&part, path));
     written.map_err(|e| {
         let _ = std::fs::remove_file(&part);

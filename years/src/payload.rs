@@ -1,49 +1,46 @@
-//! A pressure as symbols: a 16-bit number of units and 8 check bits, scrambled
+//! A pressure as symbols: a 16-bit number of units and 16 check bits, scrambled
 //! so that a steady pressure does not send the same symbols each time.
 
-use crate::assumptions::Pressure;
-use crate::assumptions::DAYS_A_YEAR;
+use crate::assumptions::{Pressure, DAYS_A_YEAR};
 use crate::season;
 
-const WORD_BITS: u32 = 24;
+const WORD_BITS: u32 = 32;
 
 pub fn symbols_of_word(r: u8) -> usize {
     WORD_BITS.div_ceil(u32::from(r) + 1) as usize
 }
 
-/// The check bits: the remainder by x^8 + x^2 + x + 1.
+/// The check bits: the remainder by x^16 + x^12 + x^5 + 1.
 fn check(number: u16) -> u32 {
-    let mut rest = u32::from(number) << 8;
-    for place in (8..WORD_BITS).rev() {
+    let mut rest = u64::from(number) << 16;
+    for place in (16..WORD_BITS).rev() {
         if rest >> place & 1 == 1 {
-            rest ^= 0x107 << (place - 8);
+            rest ^= 0x1_1021 << (place - 16);
         }
     }
-    rest
+    rest as u32
 }
 
 /// The symbols that carry a number, r + 1 bits each, highest first.
 pub fn send(number: u16, scrambler: u32, r: u8) -> Vec<i8> {
     let bits = u32::from(r) + 1;
-    let word = (u32::from(number) << 8 | check(number)) ^ scrambler;
+    let word = (u32::from(number) << 16 | check(number)) ^ scrambler;
     let places = (0..symbols_of_word(r) as u32).rev();
-    let symbol = |place: u32| 2 * (word >> (place * bits) & ((1 << bits) - 1)) as i8 + 1 - (1 << bits);
-    places.map(symbol).collect()
+    let level = |place: u32| (word >> (place * bits) & ((1 << bits) - 1)) as i8;
+    places
+        .map(|place| 2 * level(place) + 1 - (1 << bits))
+        .collect()
 }
 
 /// The number that decided symbols carry, where the check holds.
 pub fn receive(symbols: &[i8], scrambler: u32, r: u8) -> Option<u16> {
     let bits = u32::from(r) + 1;
-    let value = |symbol: i8| ((symbol - 1 + (1 << bits)) / 2) as u32;
-    let joined = symbols[..symbols_of_word(r)].iter().fold(0, |word, &s| word << bits | value(s));
-    let word = joined ^ scrambler;
-    let number = u16::try_from(word >> 8).ok()?;
-    (check(number) == word & 0xFF).then_some(number)
-}
-
-/// Bits to scramble a word with, none beyond what its symbols hold.
-pub fn scrambler(random: u64) -> u32 {
-    (random >> (64 - WORD_BITS)) as u32
+    let level = |symbol: i8| ((symbol - 1 + (1 << bits)) / 2) as u64;
+    let word_symbols = symbols[..symbols_of_word(r)].iter();
+    let joined = word_symbols.fold(0, |word, &symbol| word << bits | level(symbol));
+    let word = u32::try_from(joined).ok()? ^ scrambler;
+    let number = (word >> 16) as u16;
+    (check(number) == word & 0xFFFF).then_some(number)
 }
 
 impl Pressure {

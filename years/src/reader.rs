@@ -116,7 +116,9 @@ impl<'a> Reader<'a> {
         }
         self.problems.sort_by_key(|(line, _)| *line);
         let problems = self.problems.into_iter();
-        let sentences: Vec<String> = problems.map(|(line, s)| format!("line {line}: {s}")).collect();
+        let sentences: Vec<String> = problems
+            .map(|(line, s)| format!("line {line}: {s}"))
+            .collect();
         if sentences.is_empty() {
             Ok(())
         } else {

@@ -11,12 +11,18 @@ fn weights(reading: &Reading) -> Vec<f64> {
     let record = &reading.record;
     let taps = usize::from(record.p + record.q);
     let unit = power_of_two(i32::from(record.psi) - 15);
-    record.weights[..taps].iter().map(|w| f64::from(*w) * unit).collect()
+    record.weights[..taps]
+        .iter()
+        .map(|w| f64::from(*w) * unit)
+        .collect()
 }
 
 /// The one of greatest magnitude.
 fn largest(weights: &[f64]) -> f64 {
-    weights.iter().fold(0.0, |most: f64, w| if w.abs() > most.abs() { *w } else { most })
+    weights.iter().fold(
+        0.0,
+        |most: f64, w| if w.abs() > most.abs() { *w } else { most },
+    )
 }
 
 fn header(given: &Assumptions) -> String {
@@ -50,7 +56,9 @@ fn row(given: &Assumptions, reading: &Reading) -> String {
         bar(given, reading.pressure_received),
         reading.symbols.to_string(),
         reading.wrong.to_string(),
-        reading.error_power.map_or(String::new(), |e| format!("{e:.4e}")),
+        reading
+            .error_power
+            .map_or(String::new(), |e| format!("{e:.4e}")),
         format!("{:.6}", largest(forward)),
         format!("{:.6}", largest(back)),
     ];
@@ -82,7 +90,12 @@ pub fn summary(given: &Assumptions, readings: &[Reading]) -> String {
         "p {}, q {}, N {}, r {}, L {}, M {}; {} years, {} readings a day, seed {}\n",
         s.p, s.q, s.n, s.r, s.l, s.m, given.years, given.readings_a_day, given.seed
     );
-    for (name, chosen) in [("all", 0), ("quiet", 1), ("loud spell", 2), ("noisy joint", 3)] {
+    for (name, chosen) in [
+        ("all", 0),
+        ("quiet", 1),
+        ("loud spell", 2),
+        ("noisy joint", 3),
+    ] {
         let of = |x: &&Reading| match chosen {
             0 => true,
             1 => !x.loud && !x.joint,
@@ -104,14 +117,21 @@ pub fn summary(given: &Assumptions, readings: &[Reading]) -> String {
     );
     let refused = readings.last().map_or([0; 10], |x| x.refused);
     let by_number = (1..10).map(|n| format!(" {n}: {}", refused[n]));
-    let _ = writeln!(text, "calls turned down, by number:{}", by_number.collect::<Vec<_>>().join(","));
+    let _ = writeln!(
+        text,
+        "calls turned down, by number:{}",
+        by_number.collect::<Vec<_>>().join(",")
+    );
     text
 }
 
 fn counts(name: &str, part: &[&Reading]) -> String {
     let symbols: u32 = part.iter().map(|x| x.symbols).sum();
     let wrong: u32 = part.iter().map(|x| x.wrong).sum();
-    let lost = part.iter().filter(|x| x.pressure_received.is_none()).count();
+    let lost = part
+        .iter()
+        .filter(|x| x.pressure_received.is_none())
+        .count();
     let passed = |x: &&&Reading| x.pressure_received.is_some_and(|n| n != x.pressure_sent);
     let passed = part.iter().filter(passed).count();
     format!(
