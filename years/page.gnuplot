@@ -67,8 +67,8 @@ shade = 'csv using @time:(column("loud spell")) axes x1y2 with fillsteps fs soli
     csv using @time:(column("noisy joint")) axes x1y2 with fillsteps fs solid lc rgb sand notitle'
 
 set multiplot
-title = near ? sprintf("One station, the days around its %s", ARG4) : sprintf("One station, %d years of readings", to)
-set label 1 title at screen 0.085, 0.979 font ",27"
+about = near ? sprintf("the days around its %s", ARG4) : sprintf("%d years of readings", to)
+set label 1 "One station, ".about at screen 0.085, 0.979 font ",27"
 set label 2 "Simulated by assumption: cable, noise, gain control, converter. Run by the proved library: every block, save and load." \
     at screen 0.085, 0.957 font ",15"
 set label 3 ARG3 at screen 0.085, 0.940 font ",15" noenhanced
@@ -120,7 +120,8 @@ set yrange [-0.3:psi_max + 0.5]
 set ytics 1
 plot @shade, \
     csv using @time:(column("psi")) with steps lw 3 lc rgb black title "exponent ψ", \
-    csv using @spans:((column("least gain") + column("greatest gain")) / 2) smooth unique with lines lw 3 lc rgb blue title "gain g, ".over
+    csv using @spans:((column("least gain") + column("greatest gain")) / 2) smooth unique \
+        with lines lw 3 lc rgb blue title "gain g, ".over
 
 eval panel(0.74, 0.79)
 set ylabel "b, B"

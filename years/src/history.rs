@@ -85,7 +85,7 @@ impl World<'_> {
 
     fn save(&mut self, number: u32) -> bool {
         let every = self.given.power.save_every_days * self.given.readings_a_day;
-        let due = number % every == 0;
+        let due = number.is_multiple_of(every);
         if due {
             self.station.save();
         }

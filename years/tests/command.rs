@@ -41,8 +41,9 @@ fn two_runs_write_the_same_bytes() {
 fn a_bad_text_ends_with_2_and_writes_nothing() {
     let outdir = folder("bad");
     let assumptions = folder("bad-given").join("bad.txt");
+    let unmade = outdir.join("unmade");
     std::fs::write(&assumptions, text_with(&[("p", "none")])).expect("written");
-    let output = years(&assumptions, &outdir);
+    let output = years(&assumptions, &unmade);
     assert_eq!(output.status.code(), Some(2));
     let message = String::from_utf8_lossy(&output.stderr);
     assert!(
@@ -61,11 +62,22 @@ fn a_text_that_is_not_there_ends_with_2() {
 }
 
 #[test]
-fn a_folder_that_is_not_there_ends_with_1_and_leaves_no_part() {
-    let outdir = folder("no-folder");
+fn a_folder_that_cannot_be_made_ends_with_1() {
+    let outdir = folder("in-the-way");
     let assumptions = outdir.join("short.txt");
     std::fs::write(&assumptions, text_with(&[("years", "1")])).expect("written");
-    let output = years(&assumptions, &outdir.join("deeper"));
+    let output = years(&assumptions, &assumptions);
     assert_eq!(output.status.code(), Some(1));
-    assert_eq!(files(&outdir), ["short.txt"]);
+    assert!(String::from_utf8_lossy(&output.stderr).contains("short.txt: can't be made"));
+}
+
+#[test]
+fn a_table_that_cannot_be_renamed_leaves_no_part() {
+    let outdir = folder("no-rename");
+    std::fs::create_dir(outdir.join("years.csv")).expect("a folder in the way");
+    let assumptions = outdir.join("short.txt");
+    std::fs::write(&assumptions, text_with(&[("years", "1")])).expect("written");
+    let output = years(&assumptions, &outdir);
+    assert_eq!(output.status.code(), Some(1));
+    assert_eq!(files(&outdir), ["short.txt", "years.csv"]);
 }
