@@ -1,0 +1,275 @@
+//! The assumptions of a history, a field for each key of the text.
+
+use crate::payload;
+use crate::reader::{line_of, Reader};
+
+pub const DAYS_A_YEAR: f64 = 365.25;
+
+#[derive(Clone, Debug, PartialEq)]
+pub struct Assumptions {
+    pub seed: u64,
+    pub years: u32,
+    pub readings_a_day: u32,
+    pub sizes: Sizes,
+    pub burst: Burst,
+    pub cable: Cable,
+    pub gain: Gain,
+    pub loud: Loud,
+    pub joint: Joint,
+    pub power: Power,
+    pub pressure: Pressure,
+}
+
+/// The equaliser's sizes and its step M.
+#[derive(Clone, Copy, Debug, PartialEq)]
+pub struct Sizes {
+    pub p: u8,
+    pub q: u8,
+    pub n: u8,
+    pub r: u8,
+    pub l: u8,
+    pub m: u32,
+}
+
+/// What is sent, in blocks, and how many symbols later it is decided.
+#[derive(Clone, Copy, Debug, PartialEq)]
+pub struct Burst {
+    pub commissioning_blocks: u32,
+    pub preamble_blocks: u32,
+    pub payload_blocks: u32,
+    pub delay: usize,
+}
+
+#[derive(Clone, Debug, PartialEq)]
+pub struct Cable {
+    pub new: Vec<f64>,
+    pub old: Vec<f64>,
+    pub season_loss: f64,
+    pub day_loss: f64,
+    pub season_dispersion: f64,
+    pub noise_new: f64,
+    pub noise_old: f64,
+}
+
+/// The gain control's rule.
+#[derive(Clone, Copy, Debug, PartialEq)]
+pub struct Gain {
+    pub headroom: f64,
+    pub hold: f64,
+}
+
+#[derive(Clone, Copy, Debug, PartialEq)]
+pub struct Loud {
+    pub first_day: f64,
+    pub days: f64,
+    pub ramp_days: f64,
+    pub level: f64,
+    pub noise: f64,
+}
+
+#[derive(Clone, Copy, Debug, PartialEq)]
+pub struct Joint {
+    pub first_day: f64,
+    pub days: f64,
+    pub active: f64,
+    pub impulses: f64,
+    pub peak: f64,
+}
+
+#[derive(Clone, Copy, Debug, PartialEq)]
+pub struct Power {
+    pub save_every_days: u32,
+    pub loss_days: f64,
+    pub damaged_images: f64,
+}
+
+#[derive(Clone, Copy, Debug, PartialEq)]
+pub struct Pressure {
+    pub first: f64,
+    pub fall: f64,
+    pub half_years: f64,
+    pub season: f64,
+    pub shut_in_day: f64,
+    pub shut_in_days: f64,
+    pub shut_in_rise: f64,
+    pub unit: f64,
+}
+
+/// The assumptions, or every problem of the text, a line each.
+pub fn parse(text: &str) -> Result<Assumptions, Vec<String>> {
+    let mut reader = Reader::new(text);
+    let assumptions = Assumptions::take(&mut reader);
+    reader.finish()?;
+    let problems = assumptions.disagreements();
+    if problems.is_empty() {
+        return Ok(assumptions);
+    }
+    let with_line = |(key, what): &(&str, String)| format!("line {}: {what}", line_of(text, key));
+    Err(problems.iter().map(with_line).collect())
+}
+
+impl Assumptions {
+    fn take(t: &mut Reader) -> Assumptions {
+        Assumptions {
+            seed: t.whole("seed", 0..=u64::MAX),
+            years: t.whole("years", 1..=100) as u32,
+            readings_a_day: t.whole("readings_a_day", 1..=24) as u32,
+            sizes: Sizes::take(t),
+            burst: Burst::take(t),
+            cable: Cable::take(t),
+            gain: Gain::take(t),
+            loud: Loud::take(t),
+            joint: Joint::take(t),
+            power: Power::take(t),
+            pressure: Pressure::take(t),
+        }
+    }
+
+    /// What is wrong with the values together: a key and a sentence.
+    fn disagreements(&self) -> Vec<(&'static str, String)> {
+        let mut found = Vec::new();
+        match self.sizes.set_up().number {
+            1 => {
+                let limits = "p and q are 1 to 16, N is 1 to 128 and at least p - 1, r is 0 to 3, L is 0 to 15";
+                let sentence = format!("set-up turns p, q, N, r, L down with 1: {limits}");
+                return vec![("p", sentence)];
+            }
+            2 => {
+                let sentence = "set-up turns M down with 2: too large a step for these p, q, r, L";
+                found.push(("M", sentence.to_string()));
+            }
+            _ => {}
+        }
+        let (new, old) = (self.cable.new.len(), self.cable.old.len());
+        if new != old {
+            let sentence = format!("cable_old has {old} taps, but cable_new has {new}");
+            found.push(("cable_old", sentence));
+        }
+        let (room, needed) = (
+            self.payload_symbols(),
+            payload::symbols_of_word(self.sizes.r),
+        );
+        if room < needed {
+            let sentence = format!("the payload has {room} symbols, but a pressure takes {needed}");
+            found.push(("payload_blocks", sentence));
+        }
+        found
+    }
+
+    pub fn payload_symbols(&self) -> usize {
+        self.burst.payload_blocks as usize * usize::from(self.sizes.n)
+    }
+
+    pub fn days(&self) -> u32 {
+        (f64::from(self.years) * DAYS_A_YEAR) as u32
+    }
+
+    pub fn readings(&self) -> u32 {
+        self.days() * self.readings_a_day
+    }
+
+    /// The day of a reading, which stands in the middle of its part of the day.
+    pub fn day_of(&self, reading: u32) -> f64 {
+        (f64::from(reading) + 0.5) / f64::from(self.readings_a_day)
+    }
+}
+
+impl Sizes {
+    fn take(t: &mut Reader) -> Sizes {
+        Sizes {
+            p: t.whole("p", 0..=255) as u8,
+            q: t.whole("q", 0..=255) as u8,
+            n: t.whole("N", 0..=255) as u8,
+            r: t.whole("r", 0..=255) as u8,
+            l: t.whole("L", 0..=255) as u8,
+            m: t.whole("M", 0..=u32::MAX.into()) as u32,
+        }
+    }
+
+    pub fn set_up(&self) -> tigbulode::Answer {
+        tigbulode::set_up(self.p, self.q, self.n, self.r, self.l, self.m)
+    }
+}
+
+impl Burst {
+    fn take(t: &mut Reader) -> Burst {
+        Burst {
+            commissioning_blocks: t.whole("commissioning_blocks", 0..=10_000) as u32,
+            preamble_blocks: t.whole("preamble_blocks", 0..=100) as u32,
+            payload_blocks: t.whole("payload_blocks", 1..=100) as u32,
+            delay: t.whole("delay", 0..=30) as usize,
+        }
+    }
+}
+
+impl Cable {
+    fn take(t: &mut Reader) -> Cable {
+        Cable {
+            new: t.numbers("cable_new", -8.0..=8.0),
+            old: t.numbers("cable_old", -8.0..=8.0),
+            season_loss: t.number("season_loss", 0.0..=1.0),
+            day_loss: t.number("day_loss", 0.0..=1.0),
+            season_dispersion: t.number("season_dispersion", 0.0..=1.0),
+            noise_new: t.number("noise_new", 0.0..=8.0),
+            noise_old: t.number("noise_old", 0.0..=8.0),
+        }
+    }
+}
+
+impl Gain {
+    fn take(t: &mut Reader) -> Gain {
+        Gain {
+            headroom: t.number("headroom", 0.01..=100.0),
+            hold: t.number("hold", 0.0..=1.0),
+        }
+    }
+}
+
+impl Loud {
+    fn take(t: &mut Reader) -> Loud {
+        Loud {
+            first_day: t.number("loud_first_day", 0.0..=36525.0),
+            days: t.number("loud_days", 0.0..=36525.0),
+            ramp_days: t.number("loud_ramp_days", 0.0..=36525.0),
+            level: t.number("loud_level", 0.0..=100.0),
+            noise: t.number("loud_noise", 0.0..=100.0),
+        }
+    }
+}
+
+impl Joint {
+    fn take(t: &mut Reader) -> Joint {
+        Joint {
+            first_day: t.number("joint_first_day", 0.0..=36525.0),
+            days: t.number("joint_days", 0.0..=36525.0),
+            active: t.number("joint_active", 0.0..=1.0),
+            impulses: t.number("joint_impulses", 0.0..=1.0),
+            peak: t.number("joint_peak", 0.0..=8.0),
+        }
+    }
+}
+
+impl Power {
+    fn take(t: &mut Reader) -> Power {
+        Power {
+            save_every_days: t.whole("save_every_days", 1..=36525) as u32,
+            loss_days: t.number("power_loss_days", 0.0..=36525.0),
+            damaged_images: t.number("damaged_images", 0.0..=1.0),
+        }
+    }
+}
+
+impl Pressure {
+    fn take(t: &mut Reader) -> Pressure {
+        Pressure {
+            first: t.number("pressure_first", 0.0..=10000.0),
+            fall: t.number("pressure_fall", -10000.0..=10000.0),
+            half_years: t.number("pressure_half_years", 0.01..=1000.0),
+            season: t.number("pressure_season", 0.0..=1000.0),
+            shut_in_day: t.number("shut_in_day", 0.0..=365.0),
+            shut_in_days: t.number("shut_in_days", 0.0..=365.0),
+            shut_in_rise: t.number("shut_in_rise", -1000.0..=1000.0),
+            unit: t.number("pressure_unit", 0.0001..=100.0),
+        }
+    }
+}

@@ -1,0 +1,156 @@
+//! The history of one station, reading by reading.
+
+use crate::assumptions::Assumptions;
+use crate::burst::{Burst, Sender};
+use crate::cable::{CableModel, Weather};
+use crate::payload;
+use crate::random::{Purpose, Random};
+use crate::station::{Decided, Return, Station};
+use tigbulode::Equaliser;
+
+/// One reading: a row of the table.
+#[derive(Clone, Debug)]
+pub struct Reading {
+    pub number: u32,
+    pub day: f64,
+    pub pressure_true: f64,
+    pub pressure_sent: u16,
+    pub pressure_received: Option<u16>,
+    pub symbols: u32,
+    pub wrong: u32,
+    /// None where no payload block was accepted.
+    pub error_power: Option<f64>,
+    pub gain_least: u8,
+    pub gain_most: u8,
+    pub clipped: u32,
+    pub record: Equaliser,
+    pub loud: bool,
+    pub joint: bool,
+    pub saved: bool,
+    pub power_lost: Option<Return>,
+    pub refused: [u32; 10],
+}
+
+struct World<'a> {
+    given: &'a Assumptions,
+    sender: Sender<'a>,
+    cable: CableModel<'a>,
+    station: Station<'a>,
+    losses: Random,
+}
+
+/// Every reading in turn; `done` is told how many there are so far.
+pub fn run(given: &Assumptions, mut done: impl FnMut(u32)) -> Vec<Reading> {
+    let mut world = World {
+        given,
+        sender: Sender::new(given),
+        cable: CableModel::new(given),
+        station: Station::new(given),
+        losses: Random::new(given.seed, Purpose::Power),
+    };
+    world.commission();
+    let mut readings = Vec::new();
+    for number in 0..given.readings() {
+        readings.push(world.reading(number));
+        done(number + 1);
+    }
+    readings
+}
+
+impl World<'_> {
+    /// Passes a burst through the cable and the station, block by block.
+    fn pass(&mut self, burst: &Burst, weather: &Weather) -> Vec<Decided> {
+        let unheard = self.sender.lead() + 1 - weather.taps.len();
+        let levels = self.cable.receive(weather, &burst.sent[unheard..]);
+        let n = usize::from(self.given.sizes.n);
+        let blocks = levels.chunks(n).zip(burst.entries.chunks(n));
+        blocks
+            .map(|(levels, entries)| self.station.block(levels, entries))
+            .collect()
+    }
+
+    fn commission(&mut self) {
+        let weather = self.cable.weather(0.0);
+        let burst = self.sender.commissioning();
+        self.pass(&burst, &weather);
+    }
+
+    /// Whether power is lost before a reading, and how the station came back.
+    fn lose_power(&mut self) -> Option<Return> {
+        let days = self.given.power.loss_days;
+        let readings = days * f64::from(self.given.readings_a_day);
+        let lost = days > 0.0 && self.losses.happens(1.0 / readings);
+        lost.then(|| self.station.lose_power())
+    }
+
+    fn save(&mut self, number: u32) -> bool {
+        let every = self.given.power.save_every_days * self.given.readings_a_day;
+        let due = number.is_multiple_of(every);
+        if due {
+            self.station.save();
+        }
+        due
+    }
+
+    fn reading(&mut self, number: u32) -> Reading {
+        let day = self.given.day_of(number);
+        let power_lost = self.lose_power();
+        let weather = self.cable.weather(day);
+        let pressure_sent = self.given.pressure.number_at(day);
+        let burst = self.sender.reading(pressure_sent);
+        let blocks = self.pass(&burst, &weather);
+        let payload = &blocks[self.given.burst.preamble_blocks as usize..];
+        let saved = self.save(number);
+        Reading {
+            number,
+            day,
+            pressure_true: self.given.pressure.at(day),
+            pressure_sent,
+            pressure_received: self.pressure_received(payload, burst.scrambler),
+            symbols: burst.payload.len() as u32,
+            wrong: wrong(payload, &burst.payload),
+            error_power: error_power(payload),
+            gain_least: blocks.iter().map(|b| b.gain).min().unwrap_or(0),
+            gain_most: blocks.iter().map(|b| b.gain).max().unwrap_or(0),
+            clipped: blocks.iter().map(|b| b.clipped).sum(),
+            record: *self.station.record(),
+            loud: weather.loud,
+            joint: weather.joint,
+            saved,
+            power_lost,
+            refused: self.station.refused,
+        }
+    }
+
+    fn pressure_received(&self, payload: &[Decided], scrambler: u32) -> Option<u16> {
+        let r = self.given.sizes.r;
+        let decisions: Vec<i8> = payload
+            .iter()
+            .flat_map(|b| b.decisions.iter().copied())
+            .collect();
+        if decisions.len() < self.given.payload_symbols() {
+            return None;
+        }
+        payload::receive(&decisions, scrambler, r)
+    }
+}
+
+/// Payload symbols that were not decided as sent; in a block that was turned
+/// down that is all of them.
+fn wrong(blocks: &[Decided], sent: &[i8]) -> u32 {
+    let parts = sent.chunks(sent.len() / blocks.len());
+    let right = |(block, part): (&Decided, &[i8])| {
+        let pairs = block.decisions.iter().zip(part);
+        pairs
+            .filter(|(decision, symbol)| decision == symbol)
+            .count()
+    };
+    (sent.len() - blocks.iter().zip(parts).map(right).sum::<usize>()) as u32
+}
+
+/// The mean squared error over the payload.
+fn error_power(blocks: &[Decided]) -> Option<f64> {
+    let count: usize = blocks.iter().map(|b| b.decisions.len()).sum();
+    let sum: f64 = blocks.iter().map(|b| b.squared_errors).sum();
+    (count > 0).then(|| sum / count as f64)
+}

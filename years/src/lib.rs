@@ -1,0 +1,19 @@
+//! One station through twenty years of readings. The cable, the weather, the
+//! gain control and the converter are assumed; the equaliser is the static
+//! library.
+//!
+//! Numbers are whole, or f64 with nothing but + − × ÷ and comparisons, which
+//! every machine rounds alike.
+
+pub mod assumptions;
+pub mod burst;
+pub mod cable;
+pub mod converter;
+pub mod history;
+pub mod payload;
+pub mod progress;
+pub mod random;
+pub mod reader;
+pub mod season;
+pub mod station;
+pub mod table;

@@ -1,0 +1,149 @@
+//! The station: one equaliser record, the kept image, the gain control, and a
+//! count of the calls that the library turned down.
+
+use crate::assumptions::Assumptions;
+use crate::converter::{convert, full_scale, gain_for, peak, power_of_two};
+use crate::random::{Purpose, Random};
+use tigbulode::{Block, Equaliser, Outputs, IMAGE_BYTES};
+
+pub struct Station<'a> {
+    given: &'a Assumptions,
+    record: Equaliser,
+    image: Option<Vec<u8>>,
+    damage: Random,
+    /// What the gain control holds.
+    level: f64,
+    /// Calls turned down, by number.
+    pub refused: [u32; 10],
+}
+
+/// What came of one block.
+pub struct Decided {
+    /// Empty where the block was turned down.
+    pub decisions: Vec<i8>,
+    pub squared_errors: f64,
+    pub gain: u8,
+    /// Samples beyond the converter's range.
+    pub clipped: u32,
+}
+
+/// How the station came back after a loss of power.
+#[derive(Clone, Copy, PartialEq, Eq, Debug)]
+pub enum Return {
+    Loaded = 1,
+    SetUpAnew = 2,
+    /// A damaged image that is still one of a sound state.
+    LoadedDamaged = 3,
+}
+
+impl<'a> Station<'a> {
+    pub fn new(given: &'a Assumptions) -> Station<'a> {
+        let answer = given.sizes.set_up();
+        let mut station = Station {
+            given,
+            record: answer.state,
+            image: None,
+            damage: Random::new(given.seed, Purpose::Damage),
+            level: full_scale(given.sizes.r, given.sizes.l),
+            refused: [0; 10],
+        };
+        station.count(answer.number);
+        station
+    }
+
+    pub fn record(&self) -> &Equaliser {
+        &self.record
+    }
+
+    fn count(&mut self, number: u8) {
+        if number != 0 {
+            self.refused[usize::from(number)] += 1;
+        }
+    }
+
+    /// Sets the gain by the blocks before, converts the levels and runs the block.
+    pub fn block(&mut self, levels: &[f64], entries: &[i8]) -> Decided {
+        let sizes = self.given.sizes;
+        let gain = gain_for(self.level, self.given.gain.headroom, sizes.r, sizes.l);
+        self.level = peak(levels).max(self.given.gain.hold * self.level);
+        let converted = levels.iter().map(|x| convert(*x, sizes.r, gain));
+        let (samples, beyond): (Vec<i16>, Vec<bool>) = converted.unzip();
+        let (decisions, squared_errors) = self.run(&samples, &vec![gain; samples.len()], entries);
+        Decided {
+            decisions,
+            squared_errors,
+            gain,
+            clipped: beyond.iter().filter(|b| **b).count() as u32,
+        }
+    }
+
+    /// The decisions and the sum of squared errors of one call.
+    fn run(&mut self, m: &[i16], gains: &[u8], entries: &[i8]) -> (Vec<i8>, f64) {
+        let n = m.len();
+        let (mut y, mut z) = (vec![0; n], vec![0; n]);
+        let (mut xi, mut theta) = (vec![0; n], vec![0; n]);
+        let mut decision = vec![0; n];
+        let out = Outputs {
+            y: &mut y,
+            xi: &mut xi,
+            decision: &mut decision,
+            z: &mut z,
+            theta: &mut theta,
+        };
+        let number = tigbulode::run(&mut self.record, Block { m, gains, entries }, out);
+        if number != 0 {
+            self.count(number);
+            return (Vec::new(), 0.0);
+        }
+        let errors = z.iter().zip(&theta);
+        let error = |(z, theta): (&i32, &u8)| f64::from(*z) * power_of_two(i32::from(*theta) - 30);
+        (decision, errors.map(error).map(|e| e * e).sum())
+    }
+
+    /// Keeps the image of the record.
+    pub fn save(&mut self) {
+        let mut buffer = [0; IMAGE_BYTES];
+        let saved = tigbulode::save(self.record, &mut buffer);
+        self.count(saved.number);
+        if saved.number == 0 {
+            self.image = Some(buffer[..saved.length].to_vec());
+        }
+    }
+
+    /// Forgets all but the image, which may be damaged, and loads it. Where
+    /// there is none, or it is turned down, or its sizes or M are not the
+    /// station's own, the station is set up anew.
+    pub fn lose_power(&mut self) -> Return {
+        self.level = full_scale(self.given.sizes.r, self.given.sizes.l);
+        self.record = self.given.sizes.set_up().state;
+        let Some(kept) = self.image.clone() else {
+            return Return::SetUpAnew;
+        };
+        let image = self.damaged(&kept);
+        let answer = tigbulode::load(&image);
+        self.count(answer.number);
+        if answer.number != 0 || settings(&answer.state) != settings(&self.record) {
+            return Return::SetUpAnew;
+        }
+        self.record = answer.state;
+        if image == kept {
+            Return::Loaded
+        } else {
+            Return::LoadedDamaged
+        }
+    }
+
+    /// The image, with one byte changed where damage strikes.
+    fn damaged(&mut self, kept: &[u8]) -> Vec<u8> {
+        let mut image = kept.to_vec();
+        if self.damage.happens(self.given.power.damaged_images) {
+            let place = self.damage.below(image.len() as u32) as usize;
+            image[place] ^= self.damage.below(255) as u8 + 1;
+        }
+        image
+    }
+}
+
+fn settings(e: &Equaliser) -> (u8, u8, u8, u8, u8, u32) {
+    (e.p, e.q, e.n, e.r, e.l, e.m)
+}

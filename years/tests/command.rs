@@ -1,0 +1,83 @@
+//! The program itself: its files, messages and exit statuses.
+
+mod common;
+
+use common::{folder, text_with};
+use std::path::Path;
+use std::process::{Command, Output};
+
+fn years(assumptions: &Path, outdir: &Path) -> Output {
+    let program = env!("CARGO_BIN_EXE_years");
+    let output = Command::new(program).arg(assumptions).arg(outdir).output();
+    output.expect("the program runs")
+}
+
+fn files(folder: &Path) -> Vec<String> {
+    let entries = std::fs::read_dir(folder).expect("the folder");
+    let name = |entry: std::io::Result<std::fs::DirEntry>| entry.expect("an entry").file_name();
+    let mut names: Vec<String> = entries
+        .map(|e| name(e).to_string_lossy().into_owned())
+        .collect();
+    names.sort();
+    names
+}
+
+#[test]
+fn two_runs_write_the_same_bytes() {
+    let (one, two) = (folder("one"), folder("two"));
+    let assumptions = folder("given").join("short.txt");
+    std::fs::write(&assumptions, text_with(&[("years", "1")])).expect("written");
+    for outdir in [&one, &two] {
+        assert!(years(&assumptions, outdir).status.success());
+        assert_eq!(files(outdir), ["summary.txt", "years.csv"]);
+    }
+    for name in ["summary.txt", "years.csv"] {
+        let read = |folder: &Path| std::fs::read(folder.join(name)).expect("read");
+        assert_eq!(read(&one), read(&two));
+    }
+}
+
+#[test]
+fn a_bad_text_ends_with_2_and_writes_nothing() {
+    let outdir = folder("bad");
+    let assumptions = folder("bad-given").join("bad.txt");
+    let unmade = outdir.join("unmade");
+    std::fs::write(&assumptions, text_with(&[("p", "none")])).expect("written");
+    let output = years(&assumptions, &unmade);
+    assert_eq!(output.status.code(), Some(2));
+    let message = String::from_utf8_lossy(&output.stderr);
+    assert!(
+        message.contains("bad.txt: line ") && message.contains("p = none"),
+        "{message}"
+    );
+    assert!(files(&outdir).is_empty());
+}
+
+#[test]
+fn a_text_that_is_not_there_ends_with_2() {
+    let outdir = folder("absent");
+    let output = years(&outdir.join("absent.txt"), &outdir);
+    assert_eq!(output.status.code(), Some(2));
+    assert!(String::from_utf8_lossy(&output.stderr).contains("absent.txt: can't be read"));
+}
+
+#[test]
+fn a_folder_that_cannot_be_made_ends_with_1() {
+    let outdir = folder("in-the-way");
+    let assumptions = outdir.join("short.txt");
+    std::fs::write(&assumptions, text_with(&[("years", "1")])).expect("written");
+    let output = years(&assumptions, &assumptions);
+    assert_eq!(output.status.code(), Some(1));
+    assert!(String::from_utf8_lossy(&output.stderr).contains("short.txt: can't be made"));
+}
+
+#[test]
+fn a_table_that_cannot_be_renamed_leaves_no_part() {
+    let outdir = folder("no-rename");
+    std::fs::create_dir(outdir.join("years.csv")).expect("a folder in the way");
+    let assumptions = outdir.join("short.txt");
+    std::fs::write(&assumptions, text_with(&[("years", "1")])).expect("written");
+    let output = years(&assumptions, &outdir);
+    assert_eq!(output.status.code(), Some(1));
+    assert_eq!(files(&outdir), ["short.txt", "years.csv"]);
+}

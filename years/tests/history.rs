@@ -1,0 +1,100 @@
+//! Whole histories.
+
+mod common;
+
+use common::given;
+use years::assumptions::Assumptions;
+use years::history::{run, Reading};
+use years::table::csv;
+
+fn history(given: &Assumptions) -> Vec<Reading> {
+    run(given, |_| {})
+}
+
+const STEADY: [(&str, &str); 12] = [
+    ("years", "3"),
+    ("cable_new", "0.025 0.280 0.055 -0.030 0.015"),
+    ("cable_old", "0.025 0.280 0.055 -0.030 0.015"),
+    ("season_loss", "0"),
+    ("day_loss", "0"),
+    ("season_dispersion", "0"),
+    ("noise_new", "0"),
+    ("noise_old", "0"),
+    ("loud_days", "0"),
+    ("joint_days", "0"),
+    ("power_loss_days", "0"),
+    ("commissioning_blocks", "40"),
+];
+
+#[test]
+fn a_seed_gives_the_same_table_again() {
+    let given_one = given(&[
+        ("years", "1"),
+        ("loud_first_day", "100"),
+        ("joint_first_day", "200"),
+    ]);
+    let table = csv(&given_one, &history(&given_one));
+    assert_eq!(table, csv(&given_one, &history(&given_one)));
+    let other = Assumptions {
+        seed: given_one.seed + 1,
+        ..given_one
+    };
+    assert_ne!(table, csv(&other, &history(&other)));
+}
+
+#[test]
+fn a_steady_cable_without_noise_has_no_wrong_decision_after_training() {
+    for r in ["0", "1"] {
+        let mut changes = STEADY.to_vec();
+        changes.push(("r", r));
+        for reading in history(&given(&changes)) {
+            assert_eq!(reading.wrong, 0, "reading {} with r {r}", reading.number);
+            assert_eq!(reading.pressure_received, Some(reading.pressure_sent));
+            assert_eq!(reading.refused, [0; 10]);
+        }
+    }
+}
+
+#[test]
+fn without_training_the_first_readings_are_wrong() {
+    let mut changes = STEADY.to_vec();
+    changes.extend([("commissioning_blocks", "0"), ("preamble_blocks", "0")]);
+    changes.retain(|(key, value)| (*key, *value) != ("commissioning_blocks", "40"));
+    let first = history(&given(&changes)).swap_remove(0);
+    assert!(first.wrong > 10);
+}
+
+#[test]
+fn every_row_has_the_columns_of_the_header() {
+    let given = given(&[
+        ("years", "1"),
+        ("p", "3"),
+        ("q", "2"),
+        ("readings_a_day", "1"),
+    ]);
+    let table = csv(&given, &history(&given));
+    let columns = |line: &str| line.split(',').count();
+    let mut lines = table.lines();
+    let header = lines.next().expect("a header");
+    assert_eq!(columns(header), 22 + 9 + 5);
+    assert!(table.lines().all(|line| columns(line) == columns(header)));
+    assert_eq!(lines.count(), 365);
+}
+
+#[test]
+fn a_damaged_image_never_stops_the_station() {
+    let changes = [
+        ("years", "4"),
+        ("power_loss_days", "3"),
+        ("damaged_images", "1"),
+        ("loud_days", "0"),
+        ("joint_days", "0"),
+    ];
+    let readings = history(&given(&changes));
+    let last = readings.last().expect("readings");
+    assert!(last.refused[9] > 0);
+    assert_eq!(last.refused[3..=7], [0; 5]);
+    assert!(readings
+        .iter()
+        .all(|reading| reading.record.p == 6 && reading.record.n == 64));
+}
