@@ -67,35 +67,33 @@ pub fn difference(first: &[Part], second: &[Part]) -> Option<Difference> {
 #[derive(Clone, Debug, Default)]
 pub struct Tally {
     /// By kind, then by answer.
-    pub answers: [[u32; 10]; 4],
-    pub samples: u32,
-    pub rises: u32,
-    pub rises_to_15: u32,
-    pub left_at_15: u32,
-    pub larger: u32,
-    pub smaller: u32,
-    pub other_b: u32,
-    pub saved_earlier: u32,
+    pub answers: [[u64; 10]; 4],
+    pub samples: u64,
+    pub rises: u64,
+    pub rises_to_15: u64,
+    pub left_at_15: u64,
+    pub larger: u64,
+    pub smaller: u64,
+    pub other_b: u64,
+    pub saved_earlier: u64,
     /// Blocks with one list alone of a wrong length, by list.
-    pub wrong_lengths: [u32; 8],
+    pub wrong_lengths: [u64; 8],
 }
 
 impl Tally {
-    fn count(&mut self, call: &Call, number: u8, before: &Equaliser, after: &Equaliser) {
+    pub fn count(&mut self, call: &Call, number: u8, before: &Equaliser, after: &Equaliser) {
         self.answers[call.kind()][usize::from(number)] += 1;
         if let (Call::Block(lists, None), 0) = (call, number) {
-            self.samples += lists.m.len() as u32;
-            self.rises += u32::from(after.psi > before.psi);
-            self.rises_to_15 += u32::from(after.psi == 15 && before.psi < 15);
-            self.left_at_15 += u32::from(after.psi == 15);
-            self.larger += u32::from(after.big > before.big);
-            self.smaller += u32::from(after.big < before.big);
-            self.other_b += u32::from(after.b != before.b);
+            self.samples += lists.m.len() as u64;
+            self.rises += u64::from(after.psi > before.psi);
+            self.rises_to_15 += u64::from(after.psi == 15 && before.psi < 15);
+            self.left_at_15 += u64::from(after.psi == 15);
+            self.larger += u64::from(after.big > before.big);
+            self.smaller += u64::from(after.big < before.big);
+            self.other_b += u64::from(after.b != before.b);
         }
         if let (Call::Block(lists, _), 3) = (call, number) {
-            let read = [lists.m.len(), lists.gains.len(), lists.entries.len()];
-            let lengths = read.iter().chain(&lists.rooms);
-            let wrong: Vec<bool> = lengths.map(|&l| l != usize::from(before.n)).collect();
+            let wrong = lists.lengths().map(|length| length != usize::from(before.n));
             if wrong.iter().filter(|&&wrong| wrong).count() == 1 {
                 let list = wrong.iter().position(|&wrong| wrong);
                 self.wrong_lengths[list.unwrap_or(0)] += 1;
@@ -107,7 +105,7 @@ impl Tally {
 impl fmt::Display for Tally {
     fn fmt(&self, f: &mut fmt::Formatter) -> fmt::Result {
         for (kind, answers) in Call::KINDS.iter().zip(&self.answers) {
-            write!(f, "{kind}: {} calls; answer", answers.iter().sum::<u32>())?;
+            write!(f, "{kind}: {} calls; answer", answers.iter().sum::<u64>())?;
             let given = answers.iter().enumerate().filter(|(_, &count)| count > 0);
             let texts: Vec<String> = given.map(|(n, count)| format!(" {n}: {count}")).collect();
             writeln!(f, "{}", texts.join(","))?;
@@ -162,7 +160,7 @@ impl<'a> List<'a> {
         let number = outcomes[1].number;
         self.tally.count(&call, number, &before, &self.records[1]);
         if let Call::Load(bytes) = &call {
-            self.tally.saved_earlier += u32::from(self.maker.has_kept(bytes));
+            self.tally.saved_earlier += u64::from(self.maker.has_kept(bytes));
         }
         if let Some(image) = &outcomes[0].image {
             self.maker.keep(image);
