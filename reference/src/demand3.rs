@@ -283,6 +283,9 @@ impl Checker {
         let worst = &mut self.worst;
         let bound = Exact::new(1025, -10);
         let halved = d.psi_after > d.psi_before;
+        if d.psi_after != d.psi_before + i32::from(halved) || d.psi_after > 15 {
+            return Err("ψ goes elsewhere than up by one, to 15 at most,");
+        }
         worst.halvings += u64::from(halved);
         for (i, (weight, datum)) in weights.iter().zip(data).enumerate() {
             let step = weight.plus(&pull.times(datum));

@@ -6,7 +6,7 @@ use std::path::PathBuf;
 use std::time::{SystemTime, UNIX_EPOCH};
 
 /// The calls and the seed of the short run.
-pub const CALLS: u64 = 60_000;
+pub const CALLS: u64 = 100_000;
 pub const SEED: u64 = 2026;
 /// The seconds of the long run.
 pub const LONG: u64 = 600;
@@ -55,48 +55,63 @@ pub fn asked(words: &[String]) -> Result<Asked, String> {
     }
 }
 
-fn run(words: &[&str]) -> Result<Run, String> {
-    let (mut until, mut seed, mut kind) = (None, None, None);
-    let mut out = PathBuf::from(".");
-    let mut rest = words;
-    while !rest.is_empty() {
-        let (ends, seeds) = (until.is_some(), seed.is_some());
-        rest = match rest {
-            ["--calls" | "--seconds" | "--long", ..] if ends => {
-                return Err("only one of --calls, --seconds and --long is taken".to_string());
-            }
-            ["--seed" | "--fault", ..] if seeds => return Err("two seeds".to_string()),
-            ["--calls", count, rest @ ..] => {
-                until = Some(Until::Calls(positive(count)?));
-                rest
-            }
-            ["--seconds", count, rest @ ..] => {
-                until = Some(Until::Seconds(positive(count)?));
-                rest
-            }
-            ["--long", rest @ ..] => {
-                until = Some(Until::Seconds(LONG));
-                rest
-            }
-            ["--seed", word, rest @ ..] => {
-                seed = Some(number(word)?);
-                rest
-            }
+#[derive(Default)]
+struct Options {
+    until: Option<Until>,
+    seed: Option<u64>,
+    fault: Option<Fault>,
+    out: Option<PathBuf>,
+}
+
+impl Options {
+    fn end(&mut self, until: Until) -> Result<(), String> {
+        match self.until.replace(until) {
+            None => Ok(()),
+            Some(_) => Err("only one of --calls, --seconds and --long is taken".to_string()),
+        }
+    }
+
+    fn seed(&mut self, word: &str) -> Result<(), String> {
+        match self.seed.replace(number(word)?) {
+            None => Ok(()),
+            Some(_) => Err("only one seed is taken".to_string()),
+        }
+    }
+
+    /// Takes the first option; gives the words after it.
+    fn take<'a, 'b>(&mut self, words: &'a [&'b str]) -> Result<&'a [&'b str], String> {
+        let (taken, rest) = match words {
+            ["--calls", count, rest @ ..] => (self.end(Until::Calls(positive(count)?)), rest),
+            ["--seconds", count, rest @ ..] => (self.end(Until::Seconds(positive(count)?)), rest),
+            ["--long", rest @ ..] => (self.end(Until::Seconds(LONG)), rest),
+            ["--seed", word, rest @ ..] => (self.seed(word), rest),
             ["--fault", name, word, rest @ ..] => {
-                (kind, seed) = (Some(fault(name)?), Some(number(word)?));
-                rest
+                self.fault = Some(fault(name)?);
+                (self.seed(word), rest)
             }
             ["--out", folder, rest @ ..] => {
-                out = PathBuf::from(folder);
-                rest
+                self.out = Some(PathBuf::from(folder));
+                (Ok(()), rest)
             }
-            [word, ..] => return Err(format!("{word:?} is not known or lacks its value")),
-            [] => rest,
+            _ => return Err(format!("{:?} is not known or lacks its value", words[0])),
         };
+        taken.map(|()| rest)
     }
-    let until = until.unwrap_or(Until::Calls(CALLS));
+}
+
+fn run(words: &[&str]) -> Result<Run, String> {
+    let mut options = Options::default();
+    let mut rest = words;
+    while !rest.is_empty() {
+        rest = options.take(rest)?;
+    }
+    let until = options.until.unwrap_or(Until::Calls(CALLS));
     let timed = matches!(until, Until::Seconds(_));
-    let seed = seed.unwrap_or_else(|| if timed { clock() } else { SEED });
-    let fault = kind;
-    Ok(Run { until, seed, fault, out })
+    let usual = || if timed { clock() } else { SEED };
+    Ok(Run {
+        until,
+        seed: options.seed.unwrap_or_else(usual),
+        fault: options.fault,
+        out: options.out.unwrap_or(PathBuf::from(".")),
+    })
 }

@@ -4,9 +4,11 @@ use crate::figures::{as_the_steps_give, detail};
 use crate::pieces::Accepted;
 use reference::demand3::{Checker, Received};
 use reference::State;
+use std::cell::Cell;
 use std::collections::HashMap;
 use std::fmt;
 use std::panic::{catch_unwind, AssertUnwindSafe};
+use std::sync::Once;
 use tigbulode::calls::{Call, Lists};
 use tigbulode::compare::{difference, Tally};
 use tigbulode::perform::{perform, Outcome};
@@ -37,7 +39,11 @@ pub struct Failure {
 
 impl fmt::Display for Failure {
     fn fmt(&self, f: &mut fmt::Formatter) -> fmt::Result {
-        let Failure { place, kind, failing } = self;
+        let Failure {
+            place,
+            kind,
+            failing,
+        } = self;
         write!(f, "call {place}, {kind}: {}", failing.text)
     }
 }
@@ -67,6 +73,28 @@ impl Operations for Refusing {
             state: record_of(&State::fresh()),
         }
     }
+}
+
+/// What `work` gives, or the text with which it stopped, which is not printed.
+fn stopping<T>(work: impl FnOnce() -> T) -> Result<T, String> {
+    static SILENT: Once = Once::new();
+    thread_local!(static INSIDE: Cell<bool> = const { Cell::new(false) });
+    SILENT.call_once(|| {
+        let usual = std::panic::take_hook();
+        std::panic::set_hook(Box::new(move |stop| {
+            if !INSIDE.get() {
+                usual(stop);
+            }
+        }));
+    });
+    INSIDE.set(true);
+    let given = catch_unwind(AssertUnwindSafe(work));
+    INSIDE.set(false);
+    given.map_err(|stop| {
+        let text = stop.downcast_ref::<String>().cloned();
+        let plain = stop.downcast_ref::<&str>().map(|text| text.to_string());
+        text.or(plain).unwrap_or_default()
+    })
 }
 
 /// Accepted blocks whose past samples were followed from the block before.
@@ -128,12 +156,11 @@ impl<'a> Bench<'a> {
 
     /// Makes a call on both sides; gives the image of an accepted save.
     pub fn call(&mut self, call: &Call) -> Result<Option<Vec<u8>>, Failing> {
-        let checked = catch_unwind(AssertUnwindSafe(|| self.checked(call)));
-        checked.unwrap_or_else(|panic| {
-            let text = panic.downcast_ref::<String>().cloned();
-            let plain = panic.downcast_ref::<&str>().map(|text| text.to_string());
-            let text = text.or(plain).unwrap_or_default();
-            Err(Failing::of("stop", format!("a computation stopped: {text}")))
+        stopping(|| self.checked(call)).unwrap_or_else(|text| {
+            Err(Failing::of(
+                "stop",
+                format!("a computation stopped: {text}"),
+            ))
         })
     }
 
@@ -142,7 +169,11 @@ impl<'a> Bench<'a> {
         self.start_list();
         for (place, call) in calls.iter().enumerate() {
             let kind = Call::KINDS[call.kind()];
-            self.call(call).map_err(|failing| Failure { place, kind, failing })?;
+            self.call(call).map_err(|failing| Failure {
+                place,
+                kind,
+                failing,
+            })?;
         }
         Ok(())
     }
@@ -248,7 +279,12 @@ impl<'a> Bench<'a> {
         }
         self.way = Way::default();
         let after = self.records[0];
-        self.figures(&Accepted { before, lists, outcome, after })
+        self.figures(&Accepted {
+            before,
+            lists,
+            outcome,
+            after,
+        })
     }
 
     /// A block on another record, which the list then forgets.
@@ -265,7 +301,12 @@ impl<'a> Bench<'a> {
         perform(self.library, &Call::Block(lists.clone(), None), &mut after);
         let received = self.checker.received();
         self.checker.forget();
-        let checked = self.figures(&Accepted { before, lists, outcome, after });
+        let checked = self.figures(&Accepted {
+            before,
+            lists,
+            outcome,
+            after,
+        });
         self.checker.recall(received);
         checked
     }

@@ -143,12 +143,7 @@ pub fn as_the_steps_give(block: &Accepted, detail: &BlockDetail) -> Result<(), S
 }
 
 /// The first number of a sample that its step does not give.
-fn unlike(
-    settings: &Settings,
-    gamma: i32,
-    d: &SampleDetail,
-    entry: i128,
-) -> Option<&'static str> {
+fn unlike(settings: &Settings, gamma: i32, d: &SampleDetail, entry: i128) -> Option<&'static str> {
     let before = Before {
         psi: d.psi_before,
         weights: d.weights_before.clone(),
@@ -165,7 +160,9 @@ fn unlike(
         ("psi", d.psi_after == own.psi_after),
         ("a weight", d.weights_after == own.weights_after),
     ];
-    same.into_iter().find(|(_, same)| !same).map(|(name, _)| name)
+    same.into_iter()
+        .find(|(_, same)| !same)
+        .map(|(name, _)| name)
 }
 
 /// The data of the record that the block left are its last samples and

@@ -72,7 +72,7 @@ pub fn text(saved: &Saved, about: &str) -> String {
     for call in &saved.calls {
         let _ = writeln!(text, "{}", line(call));
     }
-    text
+    text + "end\n"
 }
 
 fn number<T: FromStr>(word: &str) -> Result<T, String> {
@@ -204,9 +204,12 @@ pub fn parse(text: &str) -> Result<Saved, String> {
         calls: Vec::new(),
     };
     for (at, line) in lines.enumerate() {
+        if line.trim() == "end" {
+            return Ok(saved);
+        }
         read_line(line, &mut saved).map_err(|wrong| format!("line {}: {wrong}", at + 2))?;
     }
-    Ok(saved)
+    Err("no line \"end\": a part is missing".to_string())
 }
 
 /// The list of a file.
@@ -229,7 +232,10 @@ pub fn write(path: &Path, text: &str) -> Result<(), String> {
     name.push(format!(".{}.part", std::process::id()));
     let part = path.with_file_name(name);
     let written = std::fs::File::create(&part)
-        .and_then(|mut file| file.write_all(text.as_bytes()).and_then(|()| file.sync_all()))
+        .and_then(|mut file| {
+            file.write_all(text.as_bytes())
+                .and_then(|()| file.sync_all())
+        })
         .and_then(|()| std::fs::rename(&part, path));
     written.map_err(|error| {
         let _ = std::fs::remove_file(&part);

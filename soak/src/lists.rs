@@ -17,6 +17,8 @@ pub enum Plan {
     Corner(usize),
     /// Loud and quiet spells, trained first and decided later.
     Spells,
+    /// Symbols through a channel, so that the equaliser settles.
+    Channel,
     /// Weights about to be halved, ψ near its top.
     Top,
     /// Weights and data at their bounds, with signs that agree.
@@ -42,7 +44,14 @@ pub fn corner(place: usize) -> Settings {
     let n = [1.max(p - 1), Settings::MOST_BLOCK][choose(2)];
     let r = [0, Settings::MOST_R][choose(2)];
     let l = [0, Settings::MOST_GAIN][choose(2)];
-    let settings = Settings { p, q, n, r, l, m: 0 };
+    let settings = Settings {
+        p,
+        q,
+        n,
+        r,
+        l,
+        m: 0,
+    };
     settings.with_m([settings.largest_m(), 0, 1][m])
 }
 
@@ -56,6 +65,9 @@ pub struct Lister {
     turn: usize,
     length: usize,
     spell: (Loudness, Aim),
+    channel: [i32; 3],
+    /// The last symbols that were sent, newest first.
+    sent: [i32; 3],
 }
 
 /// The start of a list's own numbers.
@@ -68,22 +80,28 @@ fn start(seed: u64, list: u64) -> u64 {
 impl Lister {
     pub fn new(seed: u64, list: u64) -> Lister {
         let mut maker = Maker::new(start(seed, list));
-        let plan = match list % 8 {
-            0 | 4 => Plan::Corner((list / 4) as usize % CORNERS),
+        let corner = (list / 9 * 2) as usize % CORNERS;
+        let plan = match list % 9 {
+            0 => Plan::Corner(corner),
             1 => Plan::Mixed,
             2 => Plan::Spells,
             3 => Plan::Top,
+            4 => Plan::Corner(corner + 1),
             5 => Plan::Bounds,
             6 => Plan::Bent,
-            _ => Plan::Lengths,
+            7 => Plan::Lengths,
+            _ => Plan::Channel,
         };
         let length = maker.random.between(12, 36) as usize;
+        let channel = [(); 3].map(|()| maker.random.between(-300, 300) as i32);
         Lister {
             maker,
             plan,
             turn: 0,
             length,
             spell: (Loudness::Loud, Aim::Trained),
+            channel,
+            sent: [1; 3],
         }
     }
 
@@ -101,6 +119,7 @@ impl Lister {
             Plan::Mixed => self.maker.next(record),
             Plan::Corner(place) => self.corner(corner(place), record),
             Plan::Spells => self.spells(turn, record),
+            Plan::Channel => self.channel(turn, record),
             Plan::Top => self.top(turn, record),
             Plan::Bounds => self.bounds(turn, record),
             Plan::Bent => self.bent(turn, record),
@@ -118,7 +137,12 @@ impl Lister {
         let (m, gains) = self.maker.random.samples(&settings, loudness);
         let entries = self.maker.random.training(&settings, aim);
         let rooms = [usize::from(record.n); 5];
-        Lists { m, gains, entries, rooms }
+        Lists {
+            m,
+            gains,
+            entries,
+            rooms,
+        }
     }
 
     fn block(&mut self, record: &Equaliser, loudness: Loudness, aim: Aim) -> Call {
@@ -163,6 +187,35 @@ impl Lister {
         }
     }
 
+    /// A sample of the channel, and the symbol that was sent.
+    fn received(&mut self, r: u8) -> (i16, i8) {
+        let symbol = self.maker.random.symbol(r);
+        self.sent = [symbol.into(), self.sent[0], self.sent[1]];
+        let taps = self.channel.iter().zip(self.sent);
+        let noise = self.maker.random.between(-20, 20) as i32;
+        let sum: i32 = 1500 * self.sent[0] + taps.map(|(h, s)| h * s).sum::<i32>() + noise;
+        (sum.clamp(-32768, 32767) as i16, symbol)
+    }
+
+    fn channel(&mut self, turn: usize, record: &Equaliser) -> Call {
+        if turn == 0 {
+            let mut settings = self.maker.random.settings();
+            settings.n = self.maker.random.byte(32.max(settings.n), 128);
+            return Call::SetUp(settings.with_m(settings.largest_m() / 2));
+        }
+        if self.maker.random.chance(1, 8) {
+            return self.maker.save(record);
+        }
+        let mut lists = self.lists(record, Loudness::Zero, Aim::Decided);
+        lists.gains.fill(record.l);
+        for (m, entry) in lists.m.iter_mut().zip(&mut lists.entries) {
+            let (sample, symbol) = self.received(record.r);
+            *m = sample;
+            *entry = if turn < self.length / 2 { symbol } else { 0 };
+        }
+        Call::Block(lists, None)
+    }
+
     fn top(&mut self, turn: usize, record: &Equaliser) -> Call {
         if turn % 6 == 0 {
             let settings = self.maker.random.settings();
@@ -174,9 +227,17 @@ impl Lister {
         if self.maker.random.chance(1, 6) {
             return self.maker.save(record);
         }
-        let loudness = [Loudness::Loud, Loudness::LoudRandom, Loudness::Any, Loudness::Faint];
+        let loudness = [
+            Loudness::Loud,
+            Loudness::LoudRandom,
+            Loudness::Any,
+            Loudness::Faint,
+        ];
         let loudness = self.maker.random.pick(&loudness);
-        let aim = self.maker.random.pick(&[Aim::Ends, Aim::Ends, Aim::Decided]);
+        let aim = self
+            .maker
+            .random
+            .pick(&[Aim::Ends, Aim::Ends, Aim::Decided]);
         self.block(record, loudness, aim)
     }
 
@@ -189,7 +250,8 @@ impl Lister {
         settings.n = random.byte(1.max(settings.p - 1), 16);
         settings.m = random.pick(&[settings.largest_m(), settings.largest_m(), 0]);
         let mut e = record_of(&reference::State::zeros(settings));
-        e.psi = random.byte(0, 15);
+        let psi = random.byte(0, 15);
+        e.psi = random.pick(&[0, 0, 1, psi]);
         e.big = 30 - e.l;
         e.b = e.big;
         let (p, taps) = (usize::from(e.p), settings.taps());
@@ -203,6 +265,10 @@ impl Lister {
                 _ => back * settings.end_symbol() as i16,
             };
         }
+        if random.chance(1, 2) {
+            let other = random.below(taps as u64) as usize;
+            e.weights[other] *= -1;
+        }
         e
     }
 
@@ -212,7 +278,11 @@ impl Lister {
         }
         let aim = self.maker.random.pick(&[Aim::Ends, Aim::Ends, Aim::Mixed]);
         let mut lists = self.lists(record, Loudness::Loud, aim);
-        let sign = if self.maker.random.chance(1, 2) { 32767 } else { -32767 };
+        let sign = if self.maker.random.chance(1, 2) {
+            32767
+        } else {
+            -32767
+        };
         lists.m.iter_mut().for_each(|m| *m = sign);
         if self.maker.random.chance(1, 2) {
             let end = self.maker.random.end_symbol(record.r);

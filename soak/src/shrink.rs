@@ -1,10 +1,13 @@
 //! A shorter and simpler list that still fails.
 //!
-//! Calls are dropped, blocks shortened, and samples, entries, weights and data
-//! brought to 0, as long as the list still fails in the same check.
+//! Calls are dropped, a lead-in replaced by loading the state that it leads to,
+//! blocks shortened, and samples, entries, weights and data brought to 0, as
+//! long as the list still fails in the same check.
 
-use reference::Settings;
-use tigbulode::calls::{Call, Lists};
+use reference::{Settings, State};
+use tigbulode::calls::{raw_image, Call, Lists};
+use tigbulode::perform::perform;
+use tigbulode::sides::{record_of, Second};
 use tigbulode::Equaliser;
 
 /// The most lists that are tried.
@@ -26,9 +29,10 @@ pub fn shrink(calls: Vec<Call>, fails: &mut dyn FnMut(&[Call]) -> bool) -> Vec<C
     };
     loop {
         let dropped = list.drop_calls();
+        let loaded = list.load_the_start();
         let shortened = list.shorten_blocks();
         let simplified = list.simplify_calls();
-        if !(dropped || shortened || simplified) {
+        if !(dropped || loaded || shortened || simplified) {
             return list.calls;
         }
     }
@@ -61,6 +65,23 @@ impl Shrinking<'_> {
             row /= 2;
         }
         any
+    }
+
+    /// Loads the state that two or more calls lead to in their place.
+    fn load_the_start(&mut self) -> bool {
+        let mut record = record_of(&State::fresh());
+        let mut starts = Vec::new();
+        for (place, call) in self.calls.iter().enumerate() {
+            if place >= 2 {
+                starts.push((place, Call::Load(raw_image(&record))));
+            }
+            perform(&Second, call, &mut record);
+        }
+        starts.into_iter().rev().any(|(place, load)| {
+            let mut calls = vec![load];
+            calls.extend_from_slice(&self.calls[place..]);
+            self.take(calls)
+        })
     }
 
     /// Makes all blocks shorter, at their end or at their start.
@@ -125,12 +146,19 @@ fn shortened(calls: &[Call], length: u8, at_start: bool) -> Vec<Call> {
         let less = usize::from(own.saturating_sub(length));
         match call {
             Call::SetUp(settings) => settings.n = own.min(length),
-            Call::Load(bytes) => bytes.iter_mut().skip(2).take(1).for_each(|n| *n = own.min(length)),
+            Call::Load(bytes) => bytes
+                .iter_mut()
+                .skip(2)
+                .take(1)
+                .for_each(|n| *n = own.min(length)),
             Call::Block(lists, lent) => {
                 shorten(lists, less, at_start);
-                lent.iter_mut().for_each(|record| record.n = own.min(length));
+                lent.iter_mut()
+                    .for_each(|record| record.n = own.min(length));
             }
-            Call::Save(_, lent) => lent.iter_mut().for_each(|record| record.n = record.n.min(length)),
+            Call::Save(_, lent) => lent
+                .iter_mut()
+                .for_each(|record| record.n = record.n.min(length)),
         }
     }
     all
@@ -210,7 +238,10 @@ fn simpler_settings(s: &Settings) -> Vec<Settings> {
         Settings { r: 0, ..*s },
         Settings { l: 0, ..*s },
         Settings { m: 0, ..*s },
-        Settings { p: s.p.min(2), ..*s },
+        Settings {
+            p: s.p.min(2),
+            ..*s
+        },
     ];
     least.into_iter().filter(|settings| settings != s).collect()
 }
@@ -219,9 +250,15 @@ fn simpler_lists(lists: &Lists) -> Vec<Lists> {
     let m = leveled(&lists.m, 0).into_iter();
     let m = m.map(|m| Lists { m, ..lists.clone() });
     let entries = leveled(&lists.entries, 0).into_iter();
-    let entries = entries.map(|entries| Lists { entries, ..lists.clone() });
+    let entries = entries.map(|entries| Lists {
+        entries,
+        ..lists.clone()
+    });
     let gains = leveled(&lists.gains, 15).into_iter();
-    let gains = gains.map(|gains| Lists { gains, ..lists.clone() });
+    let gains = gains.map(|gains| Lists {
+        gains,
+        ..lists.clone()
+    });
     m.chain(entries).chain(gains).collect()
 }
 
@@ -231,21 +268,66 @@ fn simpler_records(record: &Equaliser) -> Vec<Option<Equaliser>> {
     let weights = leveled(&record.weights, 0).into_iter();
     let past = leveled(&record.past, 0).into_iter();
     let array = |list: Vec<i16>| list.try_into().unwrap_or(record.weights);
-    simpler.extend(weights.map(|list| Some(Equaliser { weights: array(list), ..*record })));
-    simpler.extend(past.map(|list| Some(Equaliser { past: array(list), ..*record })));
+    simpler.extend(weights.map(|list| {
+        Some(Equaliser {
+            weights: array(list),
+            ..*record
+        })
+    }));
+    simpler.extend(past.map(|list| {
+        Some(Equaliser {
+            past: array(list),
+            ..*record
+        })
+    }));
     simpler
 }
 
-/// Images with more zeros, in M, psi, b and B, then in weights and data.
+/// Images with fewer taps, or with more zeros in weights and data, then in psi,
+/// b, B and M.
 fn simpler_images(bytes: &[u8]) -> Vec<Vec<u8>> {
     if bytes.len() < 12 {
         return leveled(bytes, 0);
     }
     let (header, places) = bytes.split_at(12);
-    let join = |header: &[u8], tail: &[u8], places: &[u8]| [header, tail, places].concat();
-    let tails = leveled(&header[5..], 0).into_iter();
-    let places_zeroed = leveled(places, 0).into_iter();
-    let tails = tails.map(|tail| join(&header[..5], &tail, places));
-    let zeroed = places_zeroed.map(|places| join(&header[..5], &header[5..], &places));
-    zeroed.chain(tails).collect()
+    let (sizes, rest) = header.split_at(5);
+    let zeroed = leveled(places, 0).into_iter();
+    let zeroed = zeroed.map(|places| [header, &places].concat());
+    let rests = leveled(rest, 0).into_iter();
+    let rests = rests.map(|rest| [sizes, &rest, places].concat());
+    let fewer = fewer_taps(bytes).into_iter();
+    fewer.chain(zeroed).chain(rests).collect()
+}
+
+/// Images of the right length with fewer taps.
+fn fewer_taps(bytes: &[u8]) -> Vec<Vec<u8>> {
+    let (p, q) = (usize::from(bytes[0]), usize::from(bytes[1]));
+    if p == 0 || bytes.len() != 12 + 4 * (p + q) {
+        return Vec::new();
+    }
+    let fewer = [
+        (1, q),
+        (p, 1),
+        (p / 2, q),
+        (p, q / 2),
+        (p - 1, q),
+        (p, q.saturating_sub(1)),
+    ];
+    let fewer = fewer
+        .into_iter()
+        .filter(|&(few, back)| few > 0 && back > 0 && few + back < p + q);
+    fewer
+        .map(|(few, back)| with_taps(bytes, (p, q), (few, back)))
+        .collect()
+}
+
+/// The image with the first of its taps only.
+fn with_taps(bytes: &[u8], (p, q): (usize, usize), (few, back): (usize, usize)) -> Vec<u8> {
+    let place = |at: usize, count: usize| &bytes[12 + 2 * at..12 + 2 * (at + count)];
+    let mut header = bytes[..12].to_vec();
+    (header[0], header[1]) = (few as u8, back as u8);
+    let weights = [place(0, few), place(p, back)].concat();
+    let filler = place(p + q + p - 1, 1);
+    let data = [place(p + q, few - 1), filler, place(p + q + p, back)].concat();
+    [header, weights, data].concat()
 }

@@ -30,7 +30,7 @@ pub struct Run {
 }
 
 /// What is printed, and whether nothing failed.
-pub struct Result {
+pub struct Verdict {
     pub text: String,
     pub good: bool,
 }
@@ -43,8 +43,14 @@ pub fn with_sides<T>(
     let Some(fault) = fault else {
         return work(&Library, &Second);
     };
-    let library = Faulty { side: &Library, fault };
-    let second = Faulty { side: &Second, fault };
+    let library = Faulty {
+        side: &Library,
+        fault,
+    };
+    let second = Faulty {
+        side: &Second,
+        fault,
+    };
     if fault.in_both() {
         work(&library, &second)
     } else {
@@ -87,9 +93,17 @@ impl Running<'_> {
                 Ok(image) => image.iter().for_each(|image| lister.keep(image)),
                 Err(failing) => {
                     let (place, kind) = (calls.len() - 1, Call::KINDS[call.kind()]);
-                    let failure = Failure { place, kind, failing };
+                    let failure = Failure {
+                        place,
+                        kind,
+                        failing,
+                    };
                     let list = self.lists;
-                    return Some(Found { list, calls, failure });
+                    return Some(Found {
+                        list,
+                        calls,
+                        failure,
+                    });
                 }
             }
             self.calls += 1;
@@ -104,10 +118,8 @@ impl Running<'_> {
     /// Makes lists until the end or a failure.
     fn lists(&mut self) -> Option<Found> {
         while !self.ended() {
-            let found = self.list();
-            self.progress.clear();
-            if found.is_some() {
-                return found;
+            if let Some(found) = self.list() {
+                return Some(found);
             }
             self.lists += 1;
         }
@@ -133,11 +145,9 @@ pub fn shrunk(fault: Option<Fault>, calls: Vec<Call>, failure: &Failure) -> Vec<
 }
 
 /// Runs what is asked for. A folder that can't be had is an error.
-pub fn run(run: &Run) -> std::result::Result<Result, String> {
-    std::fs::create_dir_all(&run.out)
-        .map_err(|error| format!("{}: {error}", run.out.display()))?;
-    std::panic::set_hook(Box::new(|_| ()));
-    let result = with_sides(run.fault, |library, second| {
+pub fn run(run: &Run) -> Result<Verdict, String> {
+    std::fs::create_dir_all(&run.out).map_err(|error| format!("{}: {error}", run.out.display()))?;
+    let verdict = with_sides(run.fault, |library, second| {
         let mut running = Running {
             run,
             bench: Bench::new(library, second),
@@ -145,36 +155,46 @@ pub fn run(run: &Run) -> std::result::Result<Result, String> {
             lists: 0,
             progress: Progress::new(),
         };
-        match running.lists() {
+        let found = running.lists();
+        running.progress.clear();
+        match found {
             Some(found) => failed(run, found),
             None => {
                 let counts = format!("{} lists, {} calls\n", running.lists, running.calls);
                 let text = format!("{counts}{}no difference\n", covered(&running.bench));
-                Result { text, good: true }
+                Verdict { text, good: true }
             }
         }
     });
-    let _ = std::panic::take_hook();
-    Ok(result)
+    Ok(verdict)
 }
 
 /// Makes a failing list short and saves it.
-fn failed(run: &Run, found: Found) -> Result {
+fn failed(run: &Run, found: Found) -> Verdict {
     let from = format!("seed {}, list {}", run.seed, found.list);
     let mut text = format!("{from}, {}\n", found.failure);
     let count = found.calls.len();
     let calls = shrunk(run.fault, found.calls, &found.failure);
     let failure = failure_of(run.fault, &calls).unwrap_or(found.failure);
-    text += &format!("made short: {} of {count} calls, {} samples\n", calls.len(), samples(&calls));
+    text += &format!(
+        "made short: {} of {count} calls, {} samples\n",
+        calls.len(),
+        samples(&calls)
+    );
     text += &format!("{failure}\n");
-    let name = format!("seed-{}-list-{}.calls", run.seed, found.list);
+    let fault = run.fault.map(|fault| format!("-{}", fault.name()));
+    let place = format!("seed-{}-list-{}", run.seed, found.list);
+    let name = format!("{place}{}.calls", fault.unwrap_or_default());
     let path = run.out.join(name);
-    let saved = Saved { fault: run.fault, calls };
+    let saved = Saved {
+        fault: run.fault,
+        calls,
+    };
     match format::write(&path, &format::text(&saved, &format!("{from}\n{failure}"))) {
         Ok(()) => text += &format!("saved: {}\n", path.display()),
         Err(error) => text += &format!("not saved: {error}\n{}", format::text(&saved, "")),
     }
-    Result { text, good: false }
+    Verdict { text, good: false }
 }
 
 fn samples(calls: &[Call]) -> usize {
@@ -186,19 +206,17 @@ fn samples(calls: &[Call]) -> usize {
 }
 
 /// Makes the calls of a saved list again.
-pub fn replay(path: &Path) -> std::result::Result<Result, String> {
+pub fn replay(path: &Path) -> Result<Verdict, String> {
     let saved = format::read(path)?;
-    std::panic::set_hook(Box::new(|_| ()));
     let failure = failure_of(saved.fault, &saved.calls);
-    let _ = std::panic::take_hook();
     let fault = saved.fault.map(|fault| format!(", fault {}", fault.name()));
     let count = format!("{} calls{}\n", saved.calls.len(), fault.unwrap_or_default());
     Ok(match failure {
-        Some(failure) => Result {
+        Some(failure) => Verdict {
             text: format!("{count}{failure}\n"),
             good: false,
         },
-        None => Result {
+        None => Verdict {
             text: format!("{count}no difference\n"),
             good: true,
         },

@@ -93,7 +93,9 @@ impl Tally {
             self.other_b += u64::from(after.b != before.b);
         }
         if let (Call::Block(lists, _), 3) = (call, number) {
-            let wrong = lists.lengths().map(|length| length != usize::from(before.n));
+            let wrong = lists
+                .lengths()
+                .map(|length| length != usize::from(before.n));
             if wrong.iter().filter(|&&wrong| wrong).count() == 1 {
                 let list = wrong.iter().position(|&wrong| wrong);
                 self.wrong_lengths[list.unwrap_or(0)] += 1;
