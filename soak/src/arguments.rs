@@ -6,7 +6,7 @@ use std::path::PathBuf;
 use std::time::{SystemTime, UNIX_EPOCH};
 
 /// The calls and the seed of the short run.
-pub const CALLS: u64 = 100_000;
+pub const CALLS: u64 = 80_000;
 pub const SEED: u64 = 2026;
 /// The seconds of the long run.
 pub const LONG: u64 = 600;

@@ -166,3 +166,19 @@ fn a_folder_that_cannot_be_had_is_turned_down() {
         1
     );
 }
+
+#[test]
+fn a_list_that_cannot_be_saved_is_printed() {
+    let folder = Folder::new("unsaved");
+    let first = soak(&folder, &["--fault", "output", "1"]);
+    let name = folder.names().pop().unwrap();
+    let text = std::fs::read_to_string(folder.0.join(&name)).unwrap();
+    std::fs::remove_file(folder.0.join(&name)).unwrap();
+    std::fs::create_dir_all(folder.0.join(&name).join("taken")).unwrap();
+    let second = soak(&folder, &["--fault", "output", "1"]);
+    assert_eq!((first.status, second.status), (Some(1), Some(1)));
+    assert!(second.out.contains("not saved"), "{}", second.out);
+    let calls = text.lines().filter(|line| !line.starts_with('#'));
+    assert!(calls.into_iter().all(|line| second.out.contains(line)));
+    assert_eq!(folder.names(), [name]);
+}
