@@ -125,6 +125,8 @@ pub struct Bench<'a> {
     pub checker: Checker,
     pub tally: Tally,
     pub followed: Followed,
+    /// Accepted blocks on other records.
+    pub others: u64,
 }
 
 impl<'a> Bench<'a> {
@@ -138,6 +140,7 @@ impl<'a> Bench<'a> {
             checker: Checker::new(),
             tally: Tally::default(),
             followed: Followed::default(),
+            others: 0,
         }
     }
 
@@ -297,6 +300,7 @@ impl<'a> Bench<'a> {
         if outcome.number != 0 {
             return Ok(());
         }
+        self.others += 1;
         let mut after = before;
         perform(self.library, &Call::Block(lists.clone(), None), &mut after);
         let received = self.checker.received();

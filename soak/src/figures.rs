@@ -35,7 +35,7 @@ pub fn detail(library: &dyn Operations, block: &Accepted) -> Result<BlockDetail,
     let cut = |x: &i128| Dyadic::new(*x, 15 - big_b - s).cut();
     let mut stored: Vec<i128> = x.iter().map(cut).collect();
     for (end, record) in records.iter().enumerate().skip(1) {
-        let past = record.iter().flat_map(|record| samples_of(record));
+        let past = record.iter().flat_map(samples_of);
         let newest_first = stored[..end].iter_mut().rev();
         newest_first.zip(past).for_each(|(a, seen)| *a = seen);
     }

@@ -115,6 +115,9 @@ impl Lister {
         if turn > 0 && self.maker.random.chance(1, 5) {
             return Some(self.maker.next(record));
         }
+        if self.maker.random.chance(1, 30) {
+            return Some(self.on_another());
+        }
         Some(match self.plan {
             Plan::Mixed => self.maker.next(record),
             Plan::Corner(place) => self.corner(corner(place), record),
@@ -153,6 +156,18 @@ impl Lister {
         let loudness = self.maker.random.loudness();
         let aim = self.maker.random.aim();
         self.block(record, loudness, aim)
+    }
+
+    /// A block or a save on another sound record.
+    fn on_another(&mut self) -> Call {
+        let settings = self.maker.random.settings();
+        let other = record_of(&self.maker.random.sound_state(settings));
+        match self.any_good_block(&other) {
+            Call::Block(lists, _) if self.maker.random.chance(2, 3) => {
+                Call::Block(lists, Some(other))
+            }
+            _ => Call::Save(tigbulode::IMAGE_BYTES, Some(other)),
+        }
     }
 
     fn corner(&mut self, settings: Settings, record: &Equaliser) -> Call {

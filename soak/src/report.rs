@@ -74,5 +74,6 @@ pub fn covered(bench: &Bench) -> String {
         f.at_once, f.after_calls, f.loaded_back,
     );
     let worst = worst(&bench.checker.worst);
-    format!("{}{followed}{worst}", bench.tally)
+    let others = format!("accepted blocks on a record of no list: {}\n", bench.others);
+    format!("{}{followed}{others}{worst}", bench.tally)
 }

@@ -61,6 +61,7 @@ fn the_lists_cover_every_answer() {
         tally.wrong_lengths.iter().all(|&count| count >= 20),
         "{tally}"
     );
+    assert!(bench.others >= 50);
     let f = bench.followed;
     assert!(
         f.at_once >= 100 && f.after_calls >= 100 && f.loaded_back >= 50,

@@ -22,7 +22,7 @@ fn every_fault_is_found_saved_and_found_again() {
         assert!((1..=3).contains(&saved.calls.len()), "{name}: {text}");
         for call in &saved.calls {
             if let Call::Block(lists, _) = call {
-                assert!(lists.m.len() <= 2, "{name}: {text}");
+                assert!(lists.m.len() <= 8, "{name}: {text}");
             }
         }
         let again = soak(&folder, &["replay", &names[0]]);
