@@ -122,7 +122,7 @@ fn sum_of_products(a: &[i128], b: &[i128]) -> i128 {
 
 /// One sample. `a` holds the stored samples newest first, `symbols` the last
 /// q symbols newest first, `entry` is the training entry.
-fn one_sample(
+pub fn one_sample(
     settings: &Settings,
     psi: i32,
     weights: &[i128],
@@ -209,7 +209,7 @@ fn one_sample(
 }
 
 /// X = m·2^(15−g).
-fn scaled_sample(m: i16, g: u8) -> i128 {
+pub fn scaled_sample(m: i16, g: u8) -> i128 {
     Dyadic::new(i128::from(m), 15 - i32::from(g)).exactly()
 }
 

@@ -95,7 +95,7 @@ fn keep_greater(worst: &mut Exact, seen: Exact) {
 
 /// What the samples held in a state were when they were received.
 #[derive(Clone, Debug)]
-struct Received {
+pub struct Received {
     /// x of each past sample, newest first.
     x: Vec<Exact>,
     /// γ of their own block.
@@ -130,6 +130,16 @@ impl Checker {
         self.received = None;
     }
 
+    /// What the past samples of the state that the last block left were.
+    pub fn received(&self) -> Option<Received> {
+        self.received.clone()
+    }
+
+    /// The next block runs on a state whose past samples were these.
+    pub fn recall(&mut self, received: Option<Received>) {
+        self.received = received;
+    }
+
     /// Runs a block on the state and checks every figure. Gives the block's
     /// answer, or a description of the figure that fails.
     pub fn block(&mut self, state: &mut State, inputs: Inputs<'_>) -> Result<u8, String> {
@@ -145,51 +155,53 @@ impl Checker {
         if !after.sound() {
             return Err("the state after the block is not sound".to_string());
         }
-        self.stored(&state.settings, &detail)?;
-        for (n, sample) in detail.samples.iter().enumerate() {
-            self.sample(&state.settings, detail.gamma, sample)
-                .map_err(|figure| format!("{figure} at sample {n} of {state:?}, {inputs:?}"))?;
-        }
+        self.figures(&state.settings, &detail)
+            .map_err(|figure| format!("{figure} of {state:?}, {inputs:?}"))?;
         *state = after;
         Ok(ACCEPTED)
     }
 
+    /// Every figure of an accepted block, or a description of the one that
+    /// fails.
+    pub fn figures(&mut self, settings: &Settings, detail: &BlockDetail) -> Result<(), String> {
+        self.stored(settings, detail)?;
+        for (n, sample) in detail.samples.iter().enumerate() {
+            self.sample(settings, detail.gamma, sample)
+                .map_err(|figure| format!("{figure} at sample {n}"))?;
+        }
+        Ok(())
+    }
+
     /// The distances of the stored samples and of the past samples.
-    fn stored(&mut self, settings: &Settings, detail: &BlockDetail) -> Result<(), String> {
-        let one = Exact::new(1, 0);
+    fn stored(&mut self, settings: &Settings, detail: &BlockDetail) -> Result<(), &'static str> {
         let gamma = detail.gamma;
         let r = i32::from(settings.r);
         // x = (m / 32768)·2^(r−g) and X = m·2^(15−g), so x = X·2^(r−30).
         let x: Vec<Exact> = detail.x.iter().map(|&x| Exact::new(x, r - 30)).collect();
-        for (x, &a) in x.iter().zip(&detail.stored) {
-            let distance = Exact::new(a, gamma - 15).minus(x).magnitude();
-            let units = distance.scaled(15 - gamma);
-            if !units.less(&one) {
-                return Err("a stored sample is a unit off".to_string());
-            }
-            keep_greater(&mut self.worst.stored, units);
+        if x.len() != detail.stored.len() {
+            return Err("stored samples are missing");
+        }
+        let own = furthest(&x, &detail.stored, gamma, gamma);
+        keep_greater(&mut self.worst.stored, own.clone());
+        if !own.less(&Exact::new(1, 0)) {
+            return Err("a stored sample is a unit off");
         }
         if let Some(received) = &self.received {
             if received.x.len() != detail.past.len() {
-                return Err("past samples are missing".to_string());
+                return Err("past samples are missing");
             }
             let greater = gamma.max(received.gamma);
-            for (x, &a) in received.x.iter().zip(&detail.past) {
-                let distance = Exact::new(a, gamma - 15).minus(x).magnitude();
-                let units = distance.scaled(15 - greater);
-                if !units.less(&one) {
-                    return Err("a past sample is a unit off".to_string());
-                }
-                keep_greater(&mut self.worst.past, units);
+            let past = furthest(&received.x, &detail.past, gamma, greater);
+            keep_greater(&mut self.worst.past, past.clone());
+            if !past.less(&Exact::new(1, 0)) {
+                return Err("a past sample is a unit off");
             }
         }
         // N is at least p − 1, so every past sample of the next block is one
         // of this block.
         let kept = usize::from(settings.p) - 1;
-        self.received = Some(Received {
-            x: x.into_iter().rev().take(kept).collect(),
-            gamma,
-        });
+        let x = x.into_iter().rev().take(kept).collect();
+        self.received = Some(Received { x, gamma });
         Ok(())
     }
 
@@ -200,83 +212,104 @@ impl Checker {
         gamma: i32,
         d: &SampleDetail,
     ) -> Result<(), &'static str> {
-        let worst = &mut self.worst;
-        worst.samples += 1;
-
-        // The bounds of whole numbers.
-        let largest = |list: &[i128]| list.iter().map(|a| a.abs()).max().unwrap_or(0);
-        let weight = largest(&d.weights_before).max(largest(&d.weights_after));
-        let new_weight = largest(&d.weights_new);
-        worst.weight = worst.weight.max(weight);
-        worst.new_weight = worst.new_weight.max(new_weight);
-        worst.f = worst.f.max(d.f.abs());
-        worst.h = worst.h.max(d.h.abs());
-        worst.y = worst.y.max(d.y.abs());
-        worst.z = worst.z.max(d.z.abs());
-        // After step 7 too: one halving is enough.
-        if weight > 16383 {
-            return Err("|W| above 16383");
-        }
-        if new_weight >= 1 << 15 {
-            return Err("a new |W| of 2^15");
-        }
-        if d.f.abs() >= 1 << 28 {
-            return Err("|F| of 2^28");
-        }
-        if d.h.abs() >= 1 << 28 {
-            return Err("|H| of 2^28");
-        }
-        if d.y.abs() >= 1 << 29 {
-            return Err("|Y| of 2^29");
-        }
-        if d.z.abs() >= 1 << 30 {
-            return Err("|Z| of 2^30");
-        }
-
-        // The weights and the data as numbers.
-        let weights: Vec<Exact> = d
-            .weights_before
-            .iter()
-            .map(|&w| Exact::new(w, d.psi_before - 15))
-            .collect();
-        let forward = d.a.iter().map(|&a| Exact::new(a, gamma - 15));
-        let feedback = d.symbols.iter().map(|&v| Exact::new(v, 0));
-        let data: Vec<Exact> = forward.chain(feedback).collect();
+        self.worst.samples += 1;
+        self.bounds(d)?;
+        let numbers = |list: &[i128], exponent: i32| -> Vec<Exact> {
+            list.iter().map(|&a| Exact::new(a, exponent)).collect()
+        };
+        let weights = numbers(&d.weights_before, d.psi_before - 15);
+        let mut data = numbers(&d.a, gamma - 15);
+        data.extend(numbers(&d.symbols, 0));
         if weights.len() != data.len() || d.weights_after.len() != data.len() {
             return Err("weights and data differ in number");
         }
-
-        // y* and the distance of y to it.
         let mut y_star = Exact::zero();
         for (weight, datum) in weights.iter().zip(&data) {
             y_star = y_star.plus(&weight.times(datum));
         }
-        let y = Exact::new(d.y, d.xi - 30);
-        let off = y.minus(&y_star).magnitude().scaled(30 - d.xi);
-        if !off.less(&Exact::new(1, 0)) {
-            return Err("y is a unit off");
-        }
-        keep_greater(&mut worst.output, off);
-
-        // The exact LMS step and the distance of each new weight to it.
+        self.output(d, &y_star)?;
         let mu = Exact::new(i128::from(settings.m), -30);
-        let error = Exact::new(d.v, 0).minus(&y_star);
-        let pull = mu.times(&error);
+        let pull = mu.times(&Exact::new(d.v, 0).minus(&y_star));
+        self.steps(d, &weights, &data, &pull)
+    }
+
+    /// The bounds of whole numbers. |W| after step 7 is among them: one
+    /// halving is enough.
+    fn bounds(&mut self, d: &SampleDetail) -> Result<(), &'static str> {
+        let worst = &mut self.worst;
+        let largest = |list: &[i128]| list.iter().map(|a| a.abs()).max().unwrap_or(0);
+        let weight = largest(&d.weights_before).max(largest(&d.weights_after));
+        let new = largest(&d.weights_new);
+        let held = [
+            (&mut worst.weight, weight, 16384, "|W| above 16383"),
+            (&mut worst.new_weight, new, 1 << 15, "a new |W| of 2^15"),
+            (&mut worst.f, d.f.abs(), 1 << 28, "|F| of 2^28"),
+            (&mut worst.h, d.h.abs(), 1 << 28, "|H| of 2^28"),
+            (&mut worst.y, d.y.abs(), 1 << 29, "|Y| of 2^29"),
+            (&mut worst.z, d.z.abs(), 1 << 30, "|Z| of 2^30"),
+        ];
+        let mut good = Ok(());
+        for (largest, seen, end, failing) in held {
+            *largest = seen.max(*largest);
+            if seen >= end {
+                good = good.and(Err(failing));
+            }
+        }
+        good
+    }
+
+    /// The distance of y to y*.
+    fn output(&mut self, d: &SampleDetail, y_star: &Exact) -> Result<(), &'static str> {
+        let y = Exact::new(d.y, d.xi - 30);
+        let off = y.minus(y_star).magnitude().scaled(30 - d.xi);
+        let near = off.less(&Exact::new(1, 0));
+        keep_greater(&mut self.worst.output, off);
+        if near {
+            Ok(())
+        } else {
+            Err("y is a unit off")
+        }
+    }
+
+    /// The distance of each new weight to the exact LMS step, which is weight
+    /// + pull · datum.
+    fn steps(
+        &mut self,
+        d: &SampleDetail,
+        weights: &[Exact],
+        data: &[Exact],
+        pull: &Exact,
+    ) -> Result<(), &'static str> {
+        let worst = &mut self.worst;
         let bound = Exact::new(1025, -10);
         let halved = d.psi_after > d.psi_before;
+        if d.psi_after != d.psi_before + i32::from(halved) || d.psi_after > 15 {
+            return Err("ψ goes elsewhere than up by one, to 15 at most,");
+        }
         worst.halvings += u64::from(halved);
-        for (i, (weight, datum)) in weights.iter().zip(&data).enumerate() {
+        for (i, (weight, datum)) in weights.iter().zip(data).enumerate() {
             let step = weight.plus(&pull.times(datum));
             let reached = Exact::new(d.weights_after[i], d.psi_after - 15);
             let units = reached.minus(&step).magnitude().scaled(15 - d.psi_after);
-            if !units.at_most(&bound) {
-                return Err("a weight is too far from the exact step");
-            }
             if halved {
                 keep_greater(&mut worst.halved_step, units.clone());
             }
+            let near = units.at_most(&bound);
             keep_greater(&mut worst.step, units);
+            if !near {
+                return Err("a weight is too far from the exact step");
+            }
         }
         Ok(())
     }
+}
+
+/// The greatest distance of A·2^(γ−15) to x, in units of 2^(`unit`−15).
+fn furthest(x: &[Exact], a: &[i128], gamma: i32, unit: i32) -> Exact {
+    let mut greatest = Exact::zero();
+    for (x, &a) in x.iter().zip(a) {
+        let distance = Exact::new(a, gamma - 15).minus(x).magnitude();
+        keep_greater(&mut greatest, distance.scaled(15 - unit));
+    }
+    greatest
 }

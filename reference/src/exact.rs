@@ -138,10 +138,77 @@ impl Big {
     }
 }
 
+/// A whole number of any length, held in 128 bits where it fits.
+#[derive(Clone, Debug)]
+enum Whole {
+    Short(i128),
+    Long(Big),
+}
+
+use Whole::{Long, Short};
+
+impl Whole {
+    fn big(&self) -> Big {
+        match self {
+            Short(a) => Big::from(*a),
+            Long(a) => a.clone(),
+        }
+    }
+
+    /// An operation on two numbers: `short` where it gives a number.
+    fn with(
+        &self,
+        other: &Whole,
+        short: fn(i128, i128) -> Option<i128>,
+        long: fn(&Big, &Big) -> Big,
+    ) -> Whole {
+        if let (Short(a), Short(b)) = (self, other) {
+            if let Some(c) = short(*a, *b) {
+                return Short(c);
+            }
+        }
+        Long(long(&self.big(), &other.big()))
+    }
+
+    fn plus(&self, other: &Whole) -> Whole {
+        self.with(other, i128::checked_add, Big::plus)
+    }
+
+    fn minus(&self, other: &Whole) -> Whole {
+        self.with(other, i128::checked_sub, Big::minus)
+    }
+
+    fn times(&self, other: &Whole) -> Whole {
+        self.with(other, i128::checked_mul, Big::times)
+    }
+
+    fn magnitude(&self) -> Whole {
+        match self {
+            Short(a) if *a != i128::MIN => Short(a.abs()),
+            _ => Long(self.big().magnitude()),
+        }
+    }
+
+    fn raised(&self, places: u32) -> Whole {
+        match self {
+            Short(0) => Short(0),
+            Short(a) if places < a.unsigned_abs().leading_zeros() => Short(a << places),
+            _ => Long(self.big().raised(places)),
+        }
+    }
+
+    fn order(&self, other: &Whole) -> Ordering {
+        match (self, other) {
+            (Short(a), Short(b)) => a.cmp(b),
+            _ => self.big().order(&other.big()),
+        }
+    }
+}
+
 /// The number `mantissa` · 2^`exponent`, exactly.
 #[derive(Clone, Debug)]
 pub struct Exact {
-    mantissa: Big,
+    mantissa: Whole,
     exponent: i32,
 }
 
@@ -149,7 +216,7 @@ impl Exact {
     /// `mantissa` · 2^`exponent`.
     pub fn new(mantissa: i128, exponent: i32) -> Exact {
         Exact {
-            mantissa: Big::from(mantissa),
+            mantissa: Short(mantissa),
             exponent,
         }
     }
@@ -160,7 +227,7 @@ impl Exact {
     }
 
     /// Both mantissas over the lesser of the two exponents.
-    fn aligned(&self, other: &Exact) -> (Big, Big, i32) {
+    fn aligned(&self, other: &Exact) -> (Whole, Whole, i32) {
         let exponent = self.exponent.min(other.exponent);
         let lift = |a: &Exact| a.mantissa.raised(a.exponent.abs_diff(exponent));
         (lift(self), lift(other), exponent)
@@ -226,12 +293,13 @@ impl Exact {
 
     /// The number to a few digits, for reports only.
     pub fn roughly(&self) -> f64 {
+        let mantissa = self.mantissa.big();
         let mut value = 0.0;
-        for &digit in self.mantissa.digits.iter().rev() {
+        for &digit in mantissa.digits.iter().rev() {
             value = value * 4294967296.0 + f64::from(digit);
         }
         let value = value * f64::from(self.exponent).exp2();
-        if self.mantissa.negative {
+        if mantissa.negative {
             -value
         } else {
             value
@@ -298,6 +366,30 @@ mod tests {
                 "order and difference"
             );
             assert_eq!(a.raised(77), a.times(&Big::from(1 << 77)));
+        }
+    }
+
+    #[test]
+    fn numbers_held_either_way_agree() {
+        let mut random = Random::new(13);
+        for _ in 0..20_000 {
+            let mut any = || {
+                let bits = random.between(0, 127);
+                let wide = (i128::from(random.next() as i64) << 64) | random.next() as i128;
+                let end = random.pick(&[0, 1, -1, i128::MIN, i128::MAX]);
+                [wide >> bits, end][usize::from(random.chance(1, 8))]
+            };
+            let (a, b) = (any(), any());
+            let places = random.below(140) as u32;
+            let (x, y) = (Big::from(a), Big::from(b));
+            let (short, other) = (Short(a), Short(b));
+            assert_eq!(short.plus(&other).big(), x.plus(&y));
+            assert_eq!(short.minus(&other).big(), x.minus(&y));
+            assert_eq!(short.times(&other).big(), x.times(&y));
+            assert_eq!(short.magnitude().big(), x.magnitude());
+            assert_eq!(short.raised(places).big(), x.raised(places));
+            assert_eq!(short.order(&other), x.order(&y));
+            assert_eq!(Long(x.clone()).order(&other), x.order(&y));
         }
     }
 

@@ -7,7 +7,7 @@ use reference::{image_length, Settings, State};
 
 /// The three lists that a block reads, and the lengths of the five that it
 /// hands out.
-#[derive(Clone, Debug)]
+#[derive(Clone, Debug, PartialEq, Eq)]
 pub struct Lists {
     pub m: Vec<i16>,
     pub gains: Vec<u8>,
@@ -15,9 +15,29 @@ pub struct Lists {
     pub rooms: [usize; 5],
 }
 
+impl Lists {
+    /// Another length for one of the eight lists: m, gains, entries, Y, xi,
+    /// decision, Z, theta.
+    pub fn resize(&mut self, list: usize, length: usize) {
+        match list {
+            0 => self.m.resize(length, 1),
+            1 => self.gains.resize(length, 15),
+            2 => self.entries.resize(length, 0),
+            other => self.rooms[other - 3] = length,
+        }
+    }
+
+    /// The lengths of the eight lists.
+    pub fn lengths(&self) -> [usize; 8] {
+        let [y, xi, decision, z, theta] = self.rooms;
+        let read = [self.m.len(), self.gains.len(), self.entries.len()];
+        [read[0], read[1], read[2], y, xi, decision, z, theta]
+    }
+}
+
 /// One call with all that is lent to it. A block or a save has the list's own
 /// record, or where one is given that one, which the list then forgets.
-#[derive(Clone, Debug)]
+#[derive(Clone, Debug, PartialEq, Eq)]
 pub enum Call {
     SetUp(Settings),
     Block(Lists, Option<Equaliser>),
@@ -42,7 +62,7 @@ impl Call {
 
 /// Makes the calls of a list.
 pub struct Maker {
-    random: Random,
+    pub random: Random,
     images: Vec<Vec<u8>>,
 }
 
@@ -90,7 +110,7 @@ impl Maker {
         }
     }
 
-    fn any_settings(&mut self) -> Settings {
+    pub fn any_settings(&mut self) -> Settings {
         let mut settings = self.random.settings();
         match self.random.below(4) {
             0 => self.wrong_size(&mut settings),
@@ -117,7 +137,7 @@ impl Maker {
     }
 
     /// A block of any loudness and aim, mostly one that can be run.
-    fn block(&mut self, record: &Equaliser) -> Call {
+    pub fn block(&mut self, record: &Equaliser) -> Call {
         let settings = settings_of(record);
         let loudness = self.random.loudness();
         let (m, gains) = self.random.samples(&settings, loudness);
@@ -150,15 +170,10 @@ impl Maker {
         let n = usize::from(n);
         let any = self.random.below(140) as usize;
         let length = self.random.pick(&[0, n - 1, n - 1, n + 1, n + 1, any]);
-        match self.random.below(8) as usize {
-            0 => lists.m.resize(length, 1),
-            1 => lists.gains.resize(length, 15),
-            2 => lists.entries.resize(length, 0),
-            other => lists.rooms[other - 3] = length,
-        }
+        lists.resize(self.random.below(8) as usize, length);
     }
 
-    fn wrong_gain(&mut self, lists: &mut Lists, l: u8) {
+    pub fn wrong_gain(&mut self, lists: &mut Lists, l: u8) {
         let below = l.checked_sub(1).unwrap_or(16);
         let gain = self.random.pick(&[below, below, 16, 17, 255]);
         let place = self.random.below(lists.gains.len().max(1) as u64) as usize;
@@ -167,7 +182,7 @@ impl Maker {
         }
     }
 
-    fn wrong_entry(&mut self, lists: &mut Lists, r: u8) {
+    pub fn wrong_entry(&mut self, lists: &mut Lists, r: u8) {
         let beyond = (2 << r) + 1;
         let entry = self.random.pick(&[2, -2, beyond, -beyond, 127, -128]);
         let place = self.random.below(lists.entries.len().max(1) as u64) as usize;
@@ -176,7 +191,7 @@ impl Maker {
         }
     }
 
-    fn several_wrong(&mut self, lists: &mut Lists, record: &Equaliser) {
+    pub fn several_wrong(&mut self, lists: &mut Lists, record: &Equaliser) {
         self.wrong_entry(lists, record.r);
         self.wrong_gain(lists, record.l);
         for _ in 0..self.random.below(3) {
@@ -185,7 +200,7 @@ impl Maker {
     }
 
     /// The record with something wrong in it, or anything at all.
-    fn wrong_record(&mut self, record: &Equaliser) -> Equaliser {
+    pub fn wrong_record(&mut self, record: &Equaliser) -> Equaliser {
         let mut e = *record;
         let mut settings = settings_of(record);
         match self.random.below(8) {
@@ -237,7 +252,7 @@ impl Maker {
     }
 
     /// A save with any room, mostly enough.
-    fn save(&mut self, record: &Equaliser) -> Call {
+    pub fn save(&mut self, record: &Equaliser) -> Call {
         let exact = image_length(&settings_of(record));
         let room = match self.random.below(8) {
             0 => exact - 1,
@@ -251,7 +266,7 @@ impl Maker {
     }
 
     /// An image of an earlier save, or one of any sound state.
-    fn good_image(&mut self) -> Vec<u8> {
+    pub fn good_image(&mut self) -> Vec<u8> {
         if !self.images.is_empty() && self.random.chance(1, 2) {
             let place = self.random.below(self.images.len() as u64) as usize;
             return self.images[place].clone();
@@ -266,7 +281,7 @@ impl Maker {
 
     /// A record whose exponent is about to rise: all weights near their bound,
     /// the largest step.
-    fn near_the_limit(&mut self, e: &mut Equaliser) {
+    pub fn near_the_limit(&mut self, e: &mut Equaliser) {
         e.psi = self.random.pick(&[0, 7, 13, 14, 14, 14, 15]);
         e.m = settings_of(e).largest_m();
         let taps = usize::from(e.p + e.q);
@@ -276,7 +291,7 @@ impl Maker {
     }
 
     /// Bytes to load: good images, damaged ones and any bytes.
-    fn any_bytes(&mut self) -> Vec<u8> {
+    pub fn any_bytes(&mut self) -> Vec<u8> {
         let mut bytes = self.good_image();
         match self.random.below(20) {
             0 => bytes.truncate(bytes.len() - 1),
@@ -307,7 +322,7 @@ impl Maker {
 
 /// The image of any record, sound or not, with all its taps if they fit its
 /// places.
-fn raw_image(e: &Equaliser) -> Vec<u8> {
+pub fn raw_image(e: &Equaliser) -> Vec<u8> {
     let taps = PLACES.min(usize::from(e.p) + usize::from(e.q));
     let mut bytes = vec![e.p, e.q, e.n, e.r, e.l, e.psi, e.b, e.big];
     bytes.extend(e.m.to_le_bytes());

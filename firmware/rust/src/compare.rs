@@ -81,7 +81,7 @@ pub struct Tally {
 }
 
 impl Tally {
-    fn count(&mut self, call: &Call, number: u8, before: &Equaliser, after: &Equaliser) {
+    pub fn count(&mut self, call: &Call, number: u8, before: &Equaliser, after: &Equaliser) {
         self.answers[call.kind()][usize::from(number)] += 1;
         if let (Call::Block(lists, None), 0) = (call, number) {
             self.samples += lists.m.len() as u64;
@@ -93,9 +93,9 @@ impl Tally {
             self.other_b += u64::from(after.b != before.b);
         }
         if let (Call::Block(lists, _), 3) = (call, number) {
-            let read = [lists.m.len(), lists.gains.len(), lists.entries.len()];
-            let lengths = read.iter().chain(&lists.rooms);
-            let wrong: Vec<bool> = lengths.map(|&l| l != usize::from(before.n)).collect();
+            let wrong = lists
+                .lengths()
+                .map(|length| length != usize::from(before.n));
             if wrong.iter().filter(|&&wrong| wrong).count() == 1 {
                 let list = wrong.iter().position(|&wrong| wrong);
                 self.wrong_lengths[list.unwrap_or(0)] += 1;

@@ -14,11 +14,26 @@ pub struct Part {
     pub front: usize,
 }
 
+impl Part {
+    /// The numbers that were lent, without those around them.
+    pub fn lent(&self) -> &[i64] {
+        &self.numbers[self.front..self.numbers.len() - self.front]
+    }
+}
+
 /// What a call left. An accepted save also gives its image.
 pub struct Outcome {
     pub number: u8,
     pub parts: Vec<Part>,
     pub image: Option<Vec<u8>>,
+}
+
+impl Outcome {
+    /// The lent numbers of a part, none where it has no such part.
+    pub fn list(&self, name: &str) -> &[i64] {
+        let part = self.parts.iter().find(|part| part.name == name);
+        part.map_or(&[], Part::lent)
+    }
 }
 
 /// How many elements lie on each side of what is lent.

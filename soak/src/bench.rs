@@ -1,0 +1,347 @@
+//! One call after the other on both sides, with everything that is checked.
+
+use crate::figures::{as_the_steps_give, detail};
+use crate::pieces::Accepted;
+use reference::demand3::{Checker, Received};
+use reference::State;
+use std::cell::Cell;
+use std::collections::HashMap;
+use std::fmt;
+use std::panic::{catch_unwind, AssertUnwindSafe};
+use std::sync::Once;
+use tigbulode::calls::{Call, Lists};
+use tigbulode::compare::{difference, Tally};
+use tigbulode::perform::{perform, Outcome};
+use tigbulode::sides::{record_of, settings_of, state_of, Operations};
+use tigbulode::{Answer, Block, Equaliser, Outputs, Saved, IMAGE_BYTES};
+
+/// What failed: the check by name, and the text for a reader.
+#[derive(Clone, Debug, PartialEq, Eq)]
+pub struct Failing {
+    pub check: String,
+    pub text: String,
+}
+
+impl Failing {
+    fn of(check: &str, text: impl Into<String>) -> Failing {
+        let (check, text) = (check.to_string(), text.into());
+        Failing { check, text }
+    }
+}
+
+/// The place in a list where something failed.
+#[derive(Clone, Debug, PartialEq, Eq)]
+pub struct Failure {
+    pub place: usize,
+    pub kind: &'static str,
+    pub failing: Failing,
+}
+
+impl fmt::Display for Failure {
+    fn fmt(&self, f: &mut fmt::Formatter) -> fmt::Result {
+        let Failure {
+            place,
+            kind,
+            failing,
+        } = self;
+        write!(f, "call {place}, {kind}: {}", failing.text)
+    }
+}
+
+/// A side that turns every call down with one number and touches nothing.
+struct Refusing(u8);
+
+impl Operations for Refusing {
+    fn set_up(&self, _: reference::Settings) -> Answer {
+        self.load(&[])
+    }
+
+    fn run(&self, _: &mut Equaliser, _: Block, _: Outputs) -> u8 {
+        self.0
+    }
+
+    fn save(&self, _: Equaliser, _: &mut [u8]) -> Saved {
+        Saved {
+            number: self.0,
+            length: 0,
+        }
+    }
+
+    fn load(&self, _: &[u8]) -> Answer {
+        Answer {
+            number: self.0,
+            state: record_of(&State::fresh()),
+        }
+    }
+}
+
+/// What `work` gives, or the text with which it stopped, which is not printed.
+fn stopping<T>(work: impl FnOnce() -> T) -> Result<T, String> {
+    static SILENT: Once = Once::new();
+    thread_local!(static INSIDE: Cell<bool> = const { Cell::new(false) });
+    SILENT.call_once(|| {
+        let usual = std::panic::take_hook();
+        std::panic::set_hook(Box::new(move |stop| {
+            if !INSIDE.get() {
+                usual(stop);
+            }
+        }));
+    });
+    INSIDE.set(true);
+    let given = catch_unwind(AssertUnwindSafe(work));
+    INSIDE.set(false);
+    given.map_err(|stop| {
+        let text = stop.downcast_ref::<String>().cloned();
+        let plain = stop.downcast_ref::<&str>().map(|text| text.to_string());
+        text.or(plain).unwrap_or_default()
+    })
+}
+
+/// Accepted blocks whose past samples were followed from the block before.
+#[derive(Clone, Copy, Debug, Default)]
+pub struct Followed {
+    pub at_once: u64,
+    /// Saves or refusals came between.
+    pub after_calls: u64,
+    /// A save was loaded back between.
+    pub loaded_back: u64,
+}
+
+/// How the past samples of the list's state came there.
+#[derive(Clone, Copy, Default)]
+struct Way {
+    calls_between: bool,
+    loaded_back: bool,
+}
+
+/// The two sides, and what was seen on them.
+pub struct Bench<'a> {
+    library: &'a dyn Operations,
+    second: &'a dyn Operations,
+    records: [Equaliser; 2],
+    /// What the past samples in each saved image were, where that is known.
+    images: HashMap<Vec<u8>, Option<Received>>,
+    way: Way,
+    pub checker: Checker,
+    pub tally: Tally,
+    pub followed: Followed,
+    /// Accepted blocks on other records.
+    pub others: u64,
+}
+
+impl<'a> Bench<'a> {
+    pub fn new(library: &'a dyn Operations, second: &'a dyn Operations) -> Bench<'a> {
+        Bench {
+            library,
+            second,
+            records: [record_of(&State::fresh()); 2],
+            images: HashMap::new(),
+            way: Way::default(),
+            checker: Checker::new(),
+            tally: Tally::default(),
+            followed: Followed::default(),
+            others: 0,
+        }
+    }
+
+    /// A new list, which starts from the state of a refused set-up.
+    pub fn start_list(&mut self) {
+        self.records = [record_of(&State::fresh()); 2];
+        self.images.clear();
+        self.checker.forget();
+        self.way = Way::default();
+    }
+
+    /// The record that the list has led to.
+    pub fn record(&self) -> &Equaliser {
+        &self.records[0]
+    }
+
+    /// Makes a call on both sides; gives the image of an accepted save.
+    pub fn call(&mut self, call: &Call) -> Result<Option<Vec<u8>>, Failing> {
+        stopping(|| self.checked(call)).unwrap_or_else(|text| {
+            Err(Failing::of(
+                "stop",
+                format!("a computation stopped: {text}"),
+            ))
+        })
+    }
+
+    /// A whole list from its start.
+    pub fn list(&mut self, calls: &[Call]) -> Result<(), Failure> {
+        self.start_list();
+        for (place, call) in calls.iter().enumerate() {
+            let kind = Call::KINDS[call.kind()];
+            self.call(call).map_err(|failing| Failure {
+                place,
+                kind,
+                failing,
+            })?;
+        }
+        Ok(())
+    }
+
+    fn checked(&mut self, call: &Call) -> Result<Option<Vec<u8>>, Failing> {
+        let before = self.records[0];
+        let [first, second] = &mut self.records;
+        let outcome = perform(self.library, call, first);
+        let other = perform(self.second, call, second);
+        if let Some(difference) = difference(&outcome.parts, &other.parts) {
+            let check = format!("difference in {}", difference.part);
+            return Err(Failing::of(&check, difference.to_string()));
+        }
+        self.refused(call, outcome.number, &before, &outcome)?;
+        self.list_state(call, outcome.number)?;
+        self.round_trip(call, &outcome)?;
+        match call {
+            Call::Block(lists, None) => self.own_block(lists, before, &outcome)?,
+            Call::Block(lists, Some(lent)) => self.other_block(lists, *lent, &outcome)?,
+            _ => self.follow(call, &outcome),
+        }
+        let after = self.records[0];
+        self.tally.count(call, outcome.number, &before, &after);
+        Ok(outcome.image)
+    }
+
+    /// A call that was turned down left everything as it was.
+    fn refused(
+        &self,
+        call: &Call,
+        number: u8,
+        before: &Equaliser,
+        outcome: &Outcome,
+    ) -> Result<(), Failing> {
+        if number == 0 {
+            return Ok(());
+        }
+        let untouched = perform(&Refusing(number), call, &mut before.clone());
+        match difference(&outcome.parts, &untouched.parts) {
+            Some(d) => {
+                let text = format!("turned down with {number}, but {} is touched", d.part);
+                Err(Failing::of("refusal", text))
+            }
+            None => Ok(()),
+        }
+    }
+
+    /// Every state of a list is sound and has admitted settings, so that no
+    /// block or save on it answers 1, 2 or 9.
+    fn list_state(&self, call: &Call, number: u8) -> Result<(), Failing> {
+        let own = matches!(call, Call::Block(_, None) | Call::Save(_, None));
+        if own && [1, 2, 9].contains(&number) {
+            let text = format!("answer {number} on a state of the list");
+            return Err(Failing::of("state", text));
+        }
+        match state_of(&self.records[0]).examine() {
+            0 => Ok(()),
+            number => Err(Failing::of("state", format!("the state has a {number}"))),
+        }
+    }
+
+    /// An accepted save loads to what was saved, an accepted image saves to
+    /// the same bytes.
+    fn round_trip(&self, call: &Call, outcome: &Outcome) -> Result<(), Failing> {
+        let good = match (call, &outcome.image) {
+            (Call::Save(_, lent), Some(image)) => {
+                let loaded = self.library.load(image);
+                let saved = lent.unwrap_or(self.records[0]);
+                loaded.number == 0 && loaded.state == saved
+            }
+            (Call::Load(bytes), _) if outcome.number == 0 => {
+                let mut buffer = [0; IMAGE_BYTES];
+                let saved = self.library.save(self.records[0], &mut buffer);
+                saved.number == 0 && buffer.get(..saved.length) == Some(bytes)
+            }
+            _ => true,
+        };
+        if good {
+            Ok(())
+        } else {
+            let text = "saving and loading do not give the same back";
+            Err(Failing::of("round trip", text))
+        }
+    }
+
+    /// A block on the list's own record.
+    fn own_block(
+        &mut self,
+        lists: &Lists,
+        before: Equaliser,
+        outcome: &Outcome,
+    ) -> Result<(), Failing> {
+        if outcome.number != 0 {
+            self.way.calls_between = true;
+            return Ok(());
+        }
+        if self.checker.received().is_some() && before.p > 1 {
+            let way = std::mem::take(&mut self.way);
+            let followed = &mut self.followed;
+            followed.loaded_back += u64::from(way.loaded_back);
+            followed.after_calls += u64::from(way.calls_between && !way.loaded_back);
+            followed.at_once += u64::from(!way.calls_between && !way.loaded_back);
+        }
+        self.way = Way::default();
+        let after = self.records[0];
+        self.figures(&Accepted {
+            before,
+            lists,
+            outcome,
+            after,
+        })
+    }
+
+    /// A block on another record, which the list then forgets.
+    fn other_block(
+        &mut self,
+        lists: &Lists,
+        before: Equaliser,
+        outcome: &Outcome,
+    ) -> Result<(), Failing> {
+        if outcome.number != 0 {
+            return Ok(());
+        }
+        self.others += 1;
+        let mut after = before;
+        perform(self.library, &Call::Block(lists.clone(), None), &mut after);
+        let received = self.checker.received();
+        self.checker.forget();
+        let checked = self.figures(&Accepted {
+            before,
+            lists,
+            outcome,
+            after,
+        });
+        self.checker.recall(received);
+        checked
+    }
+
+    /// The figures of demand 3 at every sample of an accepted block.
+    fn figures(&mut self, block: &Accepted) -> Result<(), Failing> {
+        let settings = settings_of(&block.before);
+        let checked = detail(self.library, block).and_then(|detail| {
+            self.checker.figures(&settings, &detail)?;
+            as_the_steps_give(block, &detail)
+        });
+        checked.map_err(|text| Failing::of("figure", text))
+    }
+
+    /// What the past samples of the list's state were, after a call that is no
+    /// block.
+    fn follow(&mut self, call: &Call, outcome: &Outcome) {
+        self.way.calls_between = true;
+        match (call, &outcome.image) {
+            (Call::Save(_, None), Some(image)) => {
+                let received = self.checker.received();
+                self.images.insert(image.clone(), received);
+            }
+            (Call::Load(bytes), _) if outcome.number == 0 => {
+                let saved = self.images.get(bytes);
+                self.tally.saved_earlier += u64::from(saved.is_some());
+                self.checker.recall(saved.cloned().flatten());
+                self.way.loaded_back = true;
+            }
+            (Call::Load(_) | Call::SetUp(_), _) => self.checker.forget(),
+            _ => (),
+        }
+    }
+}

@@ -1,0 +1,165 @@
+//! Built-in faults: a library with one thing wrong, to see that it is found.
+
+use reference::Settings;
+use tigbulode::sides::Operations;
+use tigbulode::{Answer, Block, Equaliser, Outputs, Saved};
+
+/// What is wrong.
+#[derive(Clone, Copy, Debug, PartialEq, Eq)]
+pub enum Fault {
+    /// A bit of the last Y, where a sample is loud.
+    Output,
+    /// A bit of the last xi, where psi is at least 1.
+    Exponent,
+    /// The sign of the last decision, where that entry is 0.
+    Decision,
+    /// A bit of the first Z, where there is a training entry.
+    Error,
+    /// A bit of the first weight after a block with a training entry.
+    Weight,
+    /// A bit of the newest stored sample after a loud block.
+    Sample,
+    /// A block that raises psi leaves the old one.
+    Halving,
+    /// A bit of Z in a block that is turned down.
+    RefusedOutput,
+    /// A bit of the record in a block that is turned down with 6.
+    RefusedRecord,
+    /// The first byte of a buffer that is too short.
+    RefusedBuffer,
+    /// A bit of a saved image with a weight.
+    Image,
+    /// The byte after a saved image.
+    AfterImage,
+    /// A bit of b in a loaded record.
+    Loaded,
+    /// 8 for 9.
+    Answer,
+    /// The largest M is not admitted.
+    Step,
+    /// The first weight is two units off after a trained block, on both sides.
+    WeightInBoth,
+    /// The last Y is two units off in a loud block, on both sides.
+    OutputInBoth,
+}
+
+impl Fault {
+    /// Every fault with its name.
+    pub const ALL: [(&'static str, Fault); 17] = [
+        ("output", Fault::Output),
+        ("exponent", Fault::Exponent),
+        ("decision", Fault::Decision),
+        ("error", Fault::Error),
+        ("weight", Fault::Weight),
+        ("sample", Fault::Sample),
+        ("halving", Fault::Halving),
+        ("refused-output", Fault::RefusedOutput),
+        ("refused-record", Fault::RefusedRecord),
+        ("refused-buffer", Fault::RefusedBuffer),
+        ("image", Fault::Image),
+        ("after-image", Fault::AfterImage),
+        ("loaded", Fault::Loaded),
+        ("answer", Fault::Answer),
+        ("step", Fault::Step),
+        ("weight-in-both", Fault::WeightInBoth),
+        ("output-in-both", Fault::OutputInBoth),
+    ];
+
+    pub fn named(name: &str) -> Option<Fault> {
+        let found = Fault::ALL.iter().find(|(own, _)| *own == name);
+        found.map(|(_, fault)| *fault)
+    }
+
+    pub fn name(self) -> &'static str {
+        let found = Fault::ALL.iter().find(|(_, fault)| *fault == self);
+        found.map_or("", |(name, _)| name)
+    }
+
+    /// Whether the second implementation has the same fault, so that only the
+    /// figures can show it.
+    pub fn in_both(self) -> bool {
+        matches!(self, Fault::WeightInBoth | Fault::OutputInBoth)
+    }
+}
+
+/// A side with a fault.
+pub struct Faulty<'a> {
+    pub side: &'a dyn Operations,
+    pub fault: Fault,
+}
+
+/// Flips the lowest bit of a number.
+fn flip<T: Copy + std::ops::BitXor<Output = T> + From<u8>>(number: Option<&mut T>) {
+    if let Some(number) = number {
+        *number = *number ^ T::from(1);
+    }
+}
+
+impl Faulty<'_> {
+    fn accepted(&self, before: &Equaliser, s: &mut Equaliser, block: Block, out: Outputs) {
+        let loud = block.m.iter().any(|m| m.unsigned_abs() >= 16384);
+        let trained = block.entries.iter().any(|&entry| entry != 0);
+        match self.fault {
+            Fault::Output if loud => flip(out.y.last_mut()),
+            Fault::OutputInBoth if loud => out.y.last_mut().into_iter().for_each(|y| *y ^= 2),
+            Fault::Exponent if s.psi > 0 => flip(out.xi.last_mut()),
+            Fault::Decision if block.entries.last() == Some(&0) => {
+                out.decision.last_mut().into_iter().for_each(|d| *d = -*d);
+            }
+            Fault::Error if trained => flip(out.z.first_mut()),
+            Fault::Weight if trained => s.weights[0] ^= 1,
+            Fault::WeightInBoth if trained => s.weights[0] ^= 2,
+            Fault::Sample if loud && s.p > 1 => s.past[0] ^= 1,
+            Fault::Halving => s.psi = before.psi,
+            _ => (),
+        }
+    }
+}
+
+impl Operations for Faulty<'_> {
+    fn set_up(&self, s: Settings) -> Answer {
+        let largest = s.m < u32::MAX && s.admitted() && !s.with_m(s.m + 1).admitted();
+        let more = u32::from(self.fault == Fault::Step && largest && s.within_limits());
+        self.side.set_up(s.with_m(s.m + more))
+    }
+
+    fn run(&self, s: &mut Equaliser, block: Block, out: Outputs) -> u8 {
+        let before = *s;
+        let given = Outputs {
+            y: &mut *out.y,
+            xi: &mut *out.xi,
+            decision: &mut *out.decision,
+            z: &mut *out.z,
+            theta: &mut *out.theta,
+        };
+        let number = self.side.run(s, block, given);
+        match (self.fault, number) {
+            (_, 0) => self.accepted(&before, s, block, out),
+            (Fault::RefusedOutput, _) => flip(out.z.first_mut()),
+            (Fault::RefusedRecord, 6) => s.weights[0] ^= 1,
+            _ => (),
+        }
+        number
+    }
+
+    fn save(&self, e: Equaliser, buffer: &mut [u8]) -> Saved {
+        let saved = self.side.save(e, buffer);
+        match (self.fault, saved.number) {
+            (Fault::RefusedBuffer, 7) => flip(buffer.first_mut()),
+            (Fault::Image, 0) if e.weights.iter().any(|&w| w != 0) => flip(buffer.get_mut(12)),
+            (Fault::AfterImage, 0) => flip(buffer.get_mut(saved.length)),
+            _ => (),
+        }
+        saved
+    }
+
+    fn load(&self, bytes: &[u8]) -> Answer {
+        let mut answer = self.side.load(bytes);
+        match (self.fault, answer.number) {
+            (Fault::Loaded, 0) => answer.state.b ^= 1,
+            (Fault::Answer, 9) => answer.number = 8,
+            _ => (),
+        }
+        answer
+    }
+}

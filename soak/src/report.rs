@@ -1,0 +1,79 @@
+//! What a run has covered, and the worst figures of demand 3.
+
+use crate::bench::Bench;
+use reference::demand3::Worst;
+use reference::exact::Exact;
+
+/// A figure, its bound, and the one as a part of the other, cut to nine places.
+fn part(name: &str, seen: impl std::fmt::Display, of: &str, part: f64) -> String {
+    format!("  {name:<38} {seen:>11} of {of:<13}{:.9}\n", cut(part))
+}
+
+fn cut(number: f64) -> f64 {
+    (number * 1e9).floor() / 1e9
+}
+
+fn whole(name: &str, seen: i128, of: &str, bound: f64) -> String {
+    part(name, seen, of, seen as f64 / bound)
+}
+
+fn units(name: &str, seen: &Exact, of: &str, bound: f64) -> String {
+    let seen = seen.roughly();
+    part(name, format!("{:.9}", cut(seen)), of, seen / bound)
+}
+
+/// The worst figures, each beside its bound and as a part of it.
+pub fn worst(w: &Worst) -> String {
+    let step = 1025.0 / 1024.0;
+    [
+        format!(
+            "demand 3 at {} samples, {} halvings; ",
+            w.samples, w.halvings
+        ),
+        "the worst of each figure, and as a part of its bound:\n".to_string(),
+        whole("|W| before and after", w.weight, "16383", 16383.0),
+        whole("new |W| before step 7", w.new_weight, "2^15", 15f64.exp2()),
+        whole("|F|", w.f, "2^28", 28f64.exp2()),
+        whole("|H|", w.h, "2^28", 28f64.exp2()),
+        whole("|Y|", w.y, "2^29", 29f64.exp2()),
+        whole("|Z|", w.z, "2^30", 30f64.exp2()),
+        units(
+            "weight to the exact step, in units",
+            &w.step,
+            "1 + 1/1024",
+            step,
+        ),
+        units(
+            "the same where the weights were halved",
+            &w.halved_step,
+            "1 + 1/1024",
+            step,
+        ),
+        units("|y - y*|", &w.output, "2^(xi-30)", 1.0),
+        units(
+            "stored sample in its own block",
+            &w.stored,
+            "2^(gamma-15)",
+            1.0,
+        ),
+        units(
+            "stored sample in the next block",
+            &w.past,
+            "2^(gamma-15)",
+            1.0,
+        ),
+    ]
+    .concat()
+}
+
+/// Everything that a run has covered.
+pub fn covered(bench: &Bench) -> String {
+    let f = bench.followed;
+    let followed = format!(
+        "next blocks on past samples that were followed: at once {}, after saves or refusals {}, after a load {}\n",
+        f.at_once, f.after_calls, f.loaded_back,
+    );
+    let worst = worst(&bench.checker.worst);
+    let others = format!("accepted blocks on a record of no list: {}\n", bench.others);
+    format!("{}{followed}{others}{worst}", bench.tally)
+}
