@@ -77,13 +77,14 @@ static bool gains_fit(const uint8_t *gains, int n, int l) {
     return bad == 0;
 }
 
-static bool entries_fit(const int8_t *entries, int n, int8_t top) {
-    int8_t bad = 0;
+static bool entries_fit(const int8_t *entries, int n, uint8_t top) {
+    uint8_t loud = 0, even = 0;
     for (int i = 0; i < n; i++) {
-        int8_t v = entries[i];
-        bad |= (v != 0) & (((v & 1) == 0) | (v > top) | (v < -top));
+        uint8_t size = (uint8_t)(entries[i] < 0 ? -entries[i] : entries[i]);
+        loud |= size > top ? 255 : 0;
+        even |= size != 0 ? (uint8_t)~size : 0;
     }
-    return bad == 0;
+    return loud == 0 && (even & 1) == 0;
 }
 
 // Steps 1 and 2 of a block.
@@ -121,12 +122,14 @@ INLINE int32_t sum(const side *f, const int16_t *data) {
 
 // Each weight gains J·a / 2^down, J given as magnitude and sign; the new magnitudes, merged.
 INLINE uint16_t adapt_few(side *f, const int16_t *restrict data, uint32_t j, int16_t sign, int down) {
+    int64_t k = (((int64_t)j ^ sign) - sign) * (1 << (30 - down));
     uint16_t merged = 0;
     for (int i = 0; i < f->taps; i++) {
-        int16_t s = (int16_t)((data[i] >> 15) ^ sign);
-        int16_t gain = (int16_t)((uint64_t)j * size_of_16(data[i]) >> down);
-        f->weights[i] = (int16_t)(f->weights[i] + ((gain ^ s) - s));
-        merged |= size_of_16(f->weights[i]);
+        int64_t product = k * data[i];
+        int64_t gain = (product < 0 ? product + 0x3fffffff : product) >> 30;
+        int next = f->weights[i] + (int)gain;
+        f->weights[i] = (int16_t)next;
+        merged |= (uint16_t)size_of(next);
     }
     return merged;
 }
@@ -260,7 +263,7 @@ uint8_t careful_run(tigbulode_equaliser *s, const int16_t *m, size_t m_length, c
         decision_length != n || z_length != n || theta_length != n)
         return 3;
     if (!gains_fit(gains, (int)n, s->l)) return 4;
-    if (!entries_fit(entries, (int)n, (int8_t)((2 << s->r) - 1))) return 5;
+    if (!entries_fit(entries, (int)n, (uint8_t)((2 << s->r) - 1))) return 5;
     work k;
     set_work(&k, s);
     begin(&k, s, m, gains);
