@@ -1,0 +1,151 @@
+#define _POSIX_C_SOURCE 200809L
+#include <stdio.h>
+#include <stdlib.h>
+#include <time.h>
+
+#include "channel.h"
+#include "check.h"
+#include "plain.h"
+#include "stack.h"
+
+#define BLOCKS 32
+#define ROUNDS 301
+#define N LONGEST_BLOCK
+
+enum { PROVED, CAREFUL, NATIVE, PLAIN, CONTENDERS };
+
+static run_call *const runs[] = {tigbulode_run, careful_run, careful_native_run};
+
+typedef struct {
+    channel_block blocks[BLOCKS];
+    tigbulode_equaliser state[PLAIN];
+    plain_equaliser plain;
+} setting;
+
+typedef struct {
+    double median[CONTENDERS], least[CONTENDERS], ratio[CONTENDERS];
+} figures;
+
+static int8_t decided[N], decision[N];
+static int32_t y[N], z[N];
+static uint8_t xi[N], theta[N];
+static float error[N];
+
+static void fail(const char *what) {
+    fprintf(stderr, "bench: %s\n", what);
+    exit(1);
+}
+
+static void run_block(setting *s, int who, const channel_block *b, const int8_t *entries) {
+    if (who == PLAIN)
+        plain_run(&s->plain, b->x, entries, N, decision, error);
+    else if (runs[who](&s->state[who], b->m, N, b->gains, N, entries, N, y, N, xi, N, decision, N, z, N, theta, N))
+        fail("a block of the channel was refused");
+}
+
+// Trained on the channel, so that the timed blocks run on decisions.
+static void prepare(setting *s, int p, int q) {
+    channel c = {.r = 2, .l = 1};
+    channel_block b;
+    uint32_t m = greatest_step(p, q, c.r, c.l);
+    for (int who = 0; who < PLAIN; who++)
+        s->state[who] = tigbulode_set_up((uint8_t)p, (uint8_t)q, N, (uint8_t)c.r, (uint8_t)c.l, m).state;
+    plain_set_up(&s->plain, p, q, c.r, (float)m / 1073741824.0f);
+    for (int i = 0; i < 1000; i++) {
+        channel_next(&c, &b);
+        for (int who = 0; who < CONTENDERS; who++) run_block(s, who, &b, b.sent);
+    }
+    for (int i = 0; i < BLOCKS; i++) channel_next(&c, &s->blocks[i]);
+}
+
+static double now(void) {
+    struct timespec t;
+    clock_gettime(CLOCK_MONOTONIC, &t);
+    return (double)t.tv_sec * 1e9 + (double)t.tv_nsec;
+}
+
+// Nanoseconds per sample.
+static double timed(setting *s, int who) {
+    double start = now();
+    for (int i = 0; i < BLOCKS; i++) run_block(s, who, &s->blocks[i], decided);
+    return (now() - start) / (BLOCKS * N);
+}
+
+static int by_size(const void *a, const void *b) {
+    double x = *(const double *)a, y = *(const double *)b;
+    return (x > y) - (x < y);
+}
+
+static double median(double *xs, int n) {
+    qsort(xs, (size_t)n, sizeof *xs, by_size);
+    return xs[n / 2];
+}
+
+// Rounds of all contenders in turn; ratios are of times in the same round.
+static figures measure(int p, int q) {
+    static setting s;
+    static double times[CONTENDERS][ROUNDS], ratios[CONTENDERS][ROUNDS];
+    figures f;
+    prepare(&s, p, q);
+    for (int i = 0; i < ROUNDS; i++) {
+        for (int k = 0; k < CONTENDERS; k++) {
+            int who = (i + k) % CONTENDERS;
+            times[who][i] = timed(&s, who);
+        }
+        for (int who = 0; who < CONTENDERS; who++) ratios[who][i] = times[PROVED][i] / times[who][i];
+    }
+    for (int who = 0; who < CONTENDERS; who++) {
+        f.median[who] = median(times[who], ROUNDS);
+        f.least[who] = times[who][0];
+        f.ratio[who] = median(ratios[who], ROUNDS);
+    }
+    return f;
+}
+
+static void check_answers(void) {
+    unsigned counts[10] = {0}, wrong[3];
+    const int sizes[] = {3, 8, 16}, numbers[] = {0, 1, 2, 3, 4, 5, 6, 9};
+    if (!check_same(careful_run, 200000, counts)) fail("careful C and the proved code differ");
+    if (!check_same(careful_native_run, 50000, counts)) fail("careful C for this processor and the proved code differ");
+    printf("careful C and the proved code agree bit for bit; random calls by answer:");
+    for (int i = 0; i < 8; i++) {
+        printf(" %d: %u", numbers[i], counts[numbers[i]]);
+        if (counts[numbers[i]] == 0) fail("an answer was never seen");
+    }
+    printf("\n");
+    for (int i = 0; i < 3; i++) {
+        if (!check_channel(sizes[i], sizes[i], wrong)) fail("a block of the channel was refused");
+        printf("p = q = %d, easy channel: wrong decisions proved %u, careful %u, float %u\n", sizes[i], wrong[0],
+               wrong[1], wrong[2]);
+        if (wrong[0] + wrong[1] + wrong[2] != 0) fail("a decision on an easy channel was wrong");
+    }
+}
+
+static void print_table(const char *title, const int (*sizes)[2], int rows) {
+    printf("\n%s\n", title);
+    printf("        |      proved     |  (a) careful C  | (b) plain float | proved/careful | proved | native\n");
+    printf("  p   q |  median   least |  median   least |  median   least | median   least | /plain | median\n");
+    for (int i = 0; i < rows; i++) {
+        figures f = measure(sizes[i][0], sizes[i][1]);
+        printf("%3d %3d | %7.2f %7.2f | %7.2f %7.2f | %7.2f %7.2f | %6.2f %7.2f | %6.2f | %6.2f\n", sizes[i][0],
+               sizes[i][1], f.median[PROVED], f.least[PROVED], f.median[CAREFUL], f.least[CAREFUL],
+               f.median[PLAIN], f.least[PLAIN], f.ratio[CAREFUL], f.least[PROVED] / f.least[CAREFUL],
+               f.ratio[PLAIN], f.median[NATIVE]);
+        fflush(stdout);
+    }
+}
+
+int main(void) {
+    static const int main_sizes[][2] = {{3, 3}, {8, 8}, {16, 16}};
+    static const int growth[][2] = {{1, 1}, {2, 2}, {4, 4}, {8, 8}, {12, 12}, {16, 16}};
+    static const int uneven[][2] = {{1, 16}, {4, 12}, {8, 3}, {12, 4}, {16, 1}};
+    check_answers();
+    print_table("Nanoseconds per sample, N = 128, r = 2, L = 1, greatest admitted M, decided", main_sizes, 3);
+    print_table("The same as p + q grows", growth, 6);
+    print_table("The same with p + q split unevenly", uneven, 5);
+    printf("\nMemory of a station: %zu bytes of record, at most %d bytes of image\n", sizeof(tigbulode_equaliser),
+           12 + 4 * 32);
+    printf("Stack of a block run: proved %zu bytes, careful C %zu bytes\n", stack_of(tigbulode_run),
+           stack_of(careful_run));
+    return 0;
+}

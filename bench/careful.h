@@ -1,0 +1,18 @@
+// A block run by hand-written C, with the contract of tigbulode_run.
+#ifndef CAREFUL_H
+#define CAREFUL_H
+
+#include "interface.h"
+
+typedef uint8_t run_call(tigbulode_equaliser *s, const int16_t *m, size_t m_length, const uint8_t *gains,
+                         size_t gains_length, const int8_t *entries, size_t entries_length, int32_t *y,
+                         size_t y_length, uint8_t *xi, size_t xi_length, int8_t *decision,
+                         size_t decision_length, int32_t *z, size_t z_length, uint8_t *theta,
+                         size_t theta_length);
+
+run_call careful_run;
+
+// The same source, compiled for the processor it runs on.
+run_call careful_native_run;
+
+#endif

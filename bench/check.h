@@ -1,0 +1,14 @@
+// Right answers before any timing.
+#ifndef CHECK_H
+#define CHECK_H
+
+#include "careful.h"
+
+// Random calls, counted by their answers; 0 at the first call where the other differs from the proved code.
+int check_same(run_call *other, unsigned calls, unsigned counts[10]);
+
+// Decisions on an easy channel after training that are not the symbols sent, of the proved code, careful C
+// and float; 0 if a block is refused.
+int check_channel(int p, int q, unsigned wrong[3]);
+
+#endif
