@@ -2,7 +2,7 @@
 #ifndef CHANNEL_H
 #define CHANNEL_H
 
-#include "interface.h"
+#include "../firmware/tigbulode.h"
 
 #define LONGEST_BLOCK 128
 
