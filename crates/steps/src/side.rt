@@ -1,9 +1,9 @@
 // Both filters are one filter: loops over its weights and its data.
 ghost use mathlib.Core.Path.{_≡_};
-ghost use Prim.Native.Nat.{_+_, _*_, _-_, _/_, _%_, _^_, _<_, _≤_};
+ghost use Prim.Native.Nat.{_+_, _*_, _-_, _/_, _^_, _<_, _≤_};
 ghost use lib.IntN.{pos, _+ℤ_, _*ℤ_, natAbs};
 ghost use Rattle.laws.specs.Sums.{dot};
-ghost use Rattle.numbers.specs.Cut.{cut, raise};
+ghost use Rattle.numbers.specs.Cut.{raise};
 ghost use Rattle.steps.specs.Side.{adapted, adapt, allSmall, halved, push, magnitudes, largest, longest};
 ghost use Rattle.steps.specs.Sound.{Summable, Adaptable};
 
@@ -15,8 +15,8 @@ fn mac(sum: i32, w: i16, a: i16) -> i32
     sum + (w as i32) * (a as i32)
 }
 
-// Step 2: the sum of weights times data.
-pub fn sum(w: &[i16], a: &[i16]) -> i32
+// Step 2 for many taps.
+fn sum_many(w: &[i16], a: &[i16]) -> i32
     requires { ⌜ Summable (now w) (now a) ⌝ }
     ensures { λ r. ⌜ r ≡ dot (now (w .entry)) (now (a .entry)) ⌝ }
 {
@@ -27,6 +27,32 @@ pub fn sum(w: &[i16], a: &[i16]) -> i32
         i += 1;
     }
     total
+}
+
+// Step 2 for few taps: the same loop, which a compiler then knows to be short.
+fn sum_few(w: &[i16], a: &[i16]) -> i32
+    requires { ⌜ Summable (now w) (now a) ⌝ }
+    ensures { λ r. ⌜ r ≡ dot (now (w .entry)) (now (a .entry)) ⌝ }
+{
+    let mut total: i32 = 0;
+    let mut i: usize = 0;
+    while i < w.len() {
+        total = mac(total, w[i], a[i]);
+        i += 1;
+    }
+    total
+}
+
+// Step 2: the sum of weights times data. Up to 4 taps are few.
+pub fn sum(w: &[i16], a: &[i16]) -> i32
+    requires { ⌜ Summable (now w) (now a) ⌝ }
+    ensures { λ r. ⌜ r ≡ dot (now (w .entry)) (now (a .entry)) ⌝ }
+{
+    if w.len() <= 4 {
+        sum_few(w, a)
+    } else {
+        sum_many(w, a)
+    }
 }
 
 // |a|, also of −2^15.
@@ -40,59 +66,77 @@ fn size(a: i16) -> u16
     }
 }
 
-// The upper half of 2·|J|.
-fn upper(j: i32) -> u16
-    requires { ⌜ natAbs j ≤ 2 ^ 29 ⌝ }
-    ensures { λ r. ⌜ r ≡ 2 * natAbs j / 2 ^ 16 ⌝ }
+// |J|.
+fn factor_size(j: i32) -> u32
+    ensures { λ r. ⌜ r ≡ natAbs j ⌝ }
 {
-    (2 * numbers::bit_length::magnitude(j as i64) / 65536) as u16
+    numbers::bit_length::magnitude(j as i64) as u32
 }
 
-// The lower half of 2·|J|.
-fn lower(j: i32) -> u16
-    requires { ⌜ natAbs j ≤ 2 ^ 29 ⌝ }
-    ensures { λ r. ⌜ r ≡ 2 * natAbs j % 2 ^ 16 ⌝ }
+// Step 6: what a weight gains, without its sign, from |J| and from |a|.
+fn gain(factor: u32, size: u16, t: u32) -> i16
+    requires { ⌜ (t ≤ 15) × (factor * size < 2 ^ (29 + t)) ⌝ }
+    ensures { λ r. ⌜ r ≡ pos (factor * size / 2 ^ (15 + t)) ⌝ }
 {
-    (2 * numbers::bit_length::magnitude(j as i64) % 65536) as u16
+    (((factor as u64) * (size as u64)) >> (15 + t)) as i16
 }
 
-// Step 6: what a weight gains, without its sign, from both halves of 2·|J| and from |a|.
-fn gain(high: u16, low: u16, t: u32, size: u16) -> u32
-    requires { ⌜ (t ≤ 15) × ((high * 2 ^ 16 + low) * size < 2 ^ (30 + t)) ⌝ }
-    ensures { λ r. ⌜ r ≡ (high * 2 ^ 16 + low) * size / 2 ^ (16 + t) ⌝ }
-{
-    ((high as u32) * (size as u32) + (((low as u32) * (size as u32)) >> 16)) >> t
-}
-
-// Step 6: the gain with the sign of the datum.
-fn signed_gain(high: u16, low: u16, t: u32, a: i16) -> i16
-    requires { ⌜ (t ≤ 15) × ((high * 2 ^ 16 + low) * natAbs a < 2 ^ (30 + t)) ⌝ }
-    ensures { λ r. ⌜ r ≡ cut (pos (high * 2 ^ 16 + low) *ℤ a) (16 + t) ⌝ }
-{
-    let size = gain(high, low, t, size(a)) as i16;
-    if a >= 0 { size } else { -size }
-}
-
-// Step 6: one weight and what it gains.
-fn adapted(j: i32, high: u16, low: u16, t: u32, w: i16, a: i16) -> i16
-    requires { ⌜ (t ≤ 15) × (high * 2 ^ 16 + low ≡ 2 * natAbs j) × (natAbs w < 2 ^ 14) × (natAbs j * natAbs a < 2 ^ (29 + t)) ⌝ }
+// Step 6: one weight and what it gains, by magnitudes.
+fn adapted_by_size(j: i32, factor: u32, t: u32, w: i16, a: i16) -> i16
+    requires { ⌜ (t ≤ 15) × (factor ≡ natAbs j) × (natAbs w < 2 ^ 14) × (natAbs j * natAbs a < 2 ^ (29 + t)) ⌝ }
     ensures { λ r. ⌜ r ≡ adapted (raise j (15 - t)) w a ⌝ }
 {
-    let more = signed_gain(high, low, t, a);
-    if j >= 0 { w + more } else { w - more }
+    let more = gain(factor, size(a), t);
+    if (a < 0) != (j < 0) {
+        w - more
+    } else {
+        w + more
+    }
 }
 
-// Step 6: the new weights of a side, whose data are raised by 15 − t places. Products of 16 bits, which a compiler takes eight at a time.
+// Step 6 for many taps: products of magnitudes of 32 bits, which a compiler takes several at a time.
+fn adapt_many(w: &mut [i16], a: &[i16], j: i32, t: u32)
+    requires { ⌜ Adaptable j t (now w) (now a) ⌝ }
+    ensures { λ _. ⌜ now (w .exit) ≡ adapt (raise j (15 - t)) (now (w .entry)) (now (a .entry)) ⌝ }
+{
+    let factor = factor_size(j);
+    let mut i: usize = 0;
+    while i < w.len() {
+        w[i] = adapted_by_size(j, factor, t, w[i], a[i]);
+        i += 1;
+    }
+}
+
+// Step 6: one weight and what it gains, where k is J·2^(15 − t).
+fn adapted(k: i64, w: i16, a: i16) -> i16
+    requires { ⌜ (natAbs w < 2 ^ 14) × (natAbs k * natAbs a < 2 ^ 44) ⌝ }
+    ensures { λ r. ⌜ r ≡ adapted k w a ⌝ }
+{
+    ((w as i64) + numbers::cut::cut(k * (a as i64), 30)) as i16
+}
+
+// Step 6 for few taps: a signed product and a cut by a constant.
+fn adapt_few(w: &mut [i16], a: &[i16], j: i32, t: u32)
+    requires { ⌜ Adaptable j t (now w) (now a) ⌝ }
+    ensures { λ _. ⌜ now (w .exit) ≡ adapt (raise j (15 - t)) (now (w .entry)) (now (a .entry)) ⌝ }
+{
+    let k = numbers::cut::raise(j as i64, 15 - t);
+    let mut i: usize = 0;
+    while i < w.len() {
+        w[i] = adapted(k, w[i], a[i]);
+        i += 1;
+    }
+}
+
+// Step 6: the new weights of a side, whose data are raised by 15 − t places. Up to 4 taps are few.
 pub fn adapt(w: &mut [i16], a: &[i16], j: i32, t: u32)
     requires { ⌜ Adaptable j t (now w) (now a) ⌝ }
     ensures { λ _. ⌜ now (w .exit) ≡ adapt (raise j (15 - t)) (now (w .entry)) (now (a .entry)) ⌝ }
 {
-    let high = upper(j);
-    let low = lower(j);
-    let mut i: usize = 0;
-    while i < w.len() {
-        w[i] = adapted(j, high, low, t, w[i], a[i]);
-        i += 1;
+    if w.len() <= 4 {
+        adapt_few(w, a, j, t);
+    } else {
+        adapt_many(w, a, j, t);
     }
 }
 

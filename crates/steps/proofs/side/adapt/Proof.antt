@@ -1,125 +1,29 @@
--- The weights passed are the new ones, the others are still the old ones.
-use mathlib.Core.Path.{_≡_, sym, ap, _∙_}
-use Prim.Native.Nat.{_+_, _*_, _-_, _^_}
-use native.Mathlib.Omega.{arith}
-use lib.ListN.{length, getD}
-use lib.IntN.{ℤ, pos, natAbs}
-use mir.Syntax.{w16, w32}
-use mir.Val.{toZ, ofZ}
+-- Both ways give the same weights.
+use mathlib.Core.Path.{_∙_}
 use mir.Facts.{toZ-ofZ}
-use borrow.Author.Needs.{needs, sfits-of}
-use Rattle.laws.specs.Lists.{Written, written-none, written-read, written-next, written-all}
-use Rattle.laws.specs.Machine.{kept}
-use Rattle.numbers.specs.Cut.{raise}
-use Rattle.steps.specs.Side.{adapt}
-use Rattle.steps.proofs.SideLaws.{adapt-length, adapt-at, adapt-room}
-use Rattle.steps.proofs.GainLaws.{halves}
+use borrow.Author.Needs.{needs}
 use Rattle.steps.proofs.side.adapt.Statement.{statement}
 use Rattle.steps.proofs.side.adapt.Tie as tie
 
-abbrev Inv-loop : tie.InvT-loop
-Inv-loop w₀ a j t high low i₀ w i = Written (adapt (raise (toZ w32 j) (15 - t)) w₀ a) w₀ i w
+adapt-few-requires : tie.Need-adapt-few-requires
+adapt-few-requires c κs = search needs
 
-abbrev μ-loop : tie.MeasureT-loop
-μ-loop w₀ a j t high low i₀ w i = length w₀ - i
+adapt-many-requires : tie.Need-adapt-many-requires
+adapt-many-requires c κs = search needs
 
-upper-requires : tie.Need-upper-requires Inv-loop μ-loop
-upper-requires c κs = simp (toZ-ofZ (c .fits .j)) (c .pre .factor-small)
+same-length : tie.Need-same-length
+same-length c = search needs
 
-lower-requires : tie.Need-lower-requires Inv-loop μ-loop
-lower-requires c κs = simp (toZ-ofZ (c .before .fits .j)) (c .before .pre .factor-small)
+returns : tie.Need-returns
+returns c = c .before .adapt-few .ensures ∙ simp (toZ-ofZ (c .before .before .before .before .fits .j))
 
-loop-holds : tie.Need-loop-holds Inv-loop μ-loop
-loop-holds c = written-none _ _
+same-length-2 : tie.Need-same-length-2
+same-length-2 c = search needs
 
-mul-adapted : tie.Need-mul-adapted Inv-loop μ-loop
-mul-adapted c = search needs
-
-slice-copy-out-adapted : tie.Need-slice-copy-out-adapted Inv-loop μ-loop
-slice-copy-out-adapted c = search needs
-
-mul-adapted-2 : tie.Need-mul-adapted-2 Inv-loop μ-loop
-mul-adapted-2 c = search needs
-
-shared-slice-copy-out-adapted : tie.Need-shared-slice-copy-out-adapted Inv-loop μ-loop
-shared-slice-copy-out-adapted c = search needs
-
-abbrev start : tie.At-loop Inv-loop μ-loop → tie.Start Inv-loop μ-loop
-start c = c .before .before .before
-
-split : (c : tie.At-loop Inv-loop μ-loop) → c .before .before .upper .result * 2 ^ 16 + c .before .lower .result ≡ 2 * natAbs (start c .args .j)
-split c =
-    halves (c .before .before .upper .result) (c .before .lower .result) (2 * natAbs (start c .args .j))
-    (c .before .before .upper .ensures ∙ simp (toZ-ofZ (start c .fits .j)))
-    (c .before .lower .ensures ∙ simp (toZ-ofZ (start c .fits .j)))
-
-weight : (c : tie.After-adapted-arg Inv-loop μ-loop) →
-    let l = c .before .before .loop in
-    toZ w16 (ofZ w16 (getD (l .w) (l .i) (pos 0))) ≡ getD (start (c .before .before) .args .w .now) (l .i) (pos 0)
-weight c =
-    let l = c .before .before .loop in
-    kept w16 (getD (l .w) (l .i) (pos 0)) (c .adapted-arg .given) ∙ written-read (l .inv) (pos 0)
-
-datum : (c : tie.After-adapted-arg2 Inv-loop μ-loop) →
-    let x = getD (start (c .before .before .before) .args .a .now) (c .before .before .before .loop .i) (pos 0) in
-    toZ w16 (ofZ w16 x) ≡ x
-datum c = toZ-ofZ (sfits-of (c .adapted-arg2 .given))
-
-adapted-requires : tie.Need-adapted-requires Inv-loop μ-loop
-adapted-requires c κs =
-    let l = c .before .before .before in
-    let s = start l in
-    let r = adapt-room (s .args .j) (s .args .t) (s .args .w .now) (s .args .a .now) (l .loop .i) (s .pre) (omega arith) in
-    simp (weight (c .before), datum c, toZ-ofZ (s .fits .j)) (s .pre .t-most, split l, r .0, r .1)
-
-mul-t16 : tie.Need-mul-t16 Inv-loop μ-loop
-mul-t16 c = search needs
-
-slice-set-from-w : tie.Need-slice-set-from-w Inv-loop μ-loop
-slice-set-from-w c = search needs
-
-add-i : tie.Need-add-i Inv-loop μ-loop
-add-i c = search needs
-
-loop-less : tie.Need-loop-less Inv-loop μ-loop
-loop-less c = omega arith
-
-loop-again : tie.Need-loop-again Inv-loop μ-loop
-loop-again c =
-    let l = c .before .before .before .before in
-    let s = start l .args in
-    written-next (l .loop .inv) (pos 0) (toZ w16 (ofZ w16 (c .adapted .result))) (rw adapt-length (omega arith)) (omega arith)
-    (kept w16 (c .adapted .result) (c .adapted .ok) ∙ c .adapted .ensures
-    ∙ simp (weight (c .before .before), datum (c .before))
-    (sym (adapt-at (raise (toZ w32 (ofZ w32 (s .j))) (15 - s .t)) (s .w .now) (s .a .now) (l .loop .i) (omega arith) (omega arith))))
-
-same-length : tie.Need-same-length Inv-loop μ-loop
-same-length c = c .before .loop .inv .long
-
-returns : tie.Need-returns Inv-loop μ-loop
-returns c =
-    let s = start (c .before) in
-    written-all (c .before .loop .inv) (adapt-length _ (s .args .w .now) _) (omega arith)
-    ∙ ap (λ (z : ℤ). adapt (raise z (15 - s .args .t)) (s .args .w .now) (s .args .a .now)) (toZ-ofZ (s .fits .j))
+returns-2 : tie.Need-returns-2
+returns-2 c = c .before .adapt-many .ensures ∙ simp (toZ-ofZ (c .before .before .before .before .fits .j))
 
 pub adapt-spec : {M : Type 1} → statement M
 adapt-spec =
     tie.close
-    (tie.spec
-    Inv-loop
-    μ-loop
-    upper-requires
-    lower-requires
-    loop-holds
-    mul-adapted
-    slice-copy-out-adapted
-    mul-adapted-2
-    shared-slice-copy-out-adapted
-    adapted-requires
-    mul-t16
-    slice-set-from-w
-    add-i
-    loop-less
-    loop-again
-    same-length
-    returns)
+    (tie.spec adapt-few-requires adapt-many-requires same-length returns same-length-2 returns-2)

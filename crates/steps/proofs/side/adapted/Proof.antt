@@ -1,62 +1,60 @@
--- The weight and the gain are below 2^14, so the new weight fits 16 bits.
-use mathlib.Core.Path.{_≡_, sym, ap, _∙_}
-use Prim.Native.Nat.{_+_, _*_, _^_, _<_}
+-- The product fits 64 bits. Cut by 30 places it is below 2^14, as the weight is, so the sum fits 16 bits.
+use mathlib.Core.Path.{_≡_, refl, _∙_}
+use Prim.Native.Nat.{_^_, _<_}
 use native.Mathlib.Omega.{arith}
-use lib.IntN.{ℤ, pos, natAbs, _+ℤ_, _-ℤ_, _*ℤ_}
-use lib.Signed.{_≤ℤ_, _<ℤ_}
-use mir.Syntax.{w16}
+use lib.IntN.{natAbs, _+ℤ_, _*ℤ_}
+use mir.Syntax.{w16, w64}
 use mir.Val.{SFits, toZ, ofZ}
 use mir.Facts.{toZ-ofZ}
-use Rattle.laws.specs.Machine.{kept, fits-abs, le-tested, le-refuted}
+use borrow.Author.Needs.{needs}
+use Rattle.laws.specs.Integers.{abs-mul, abs-add}
+use Rattle.laws.specs.Machine.{fits-abs, kept}
 use Rattle.numbers.specs.Cut.{cut}
-use Rattle.steps.proofs.GainLaws.{doubled, signed-gain-small, sum-fits, difference-fits, whole-factor, negative-factor}
+use Rattle.numbers.proofs.CutLaws.{cut-lt}
+use Rattle.steps.proofs.SideLaws.{fits-64}
 use Rattle.steps.proofs.side.adapted.Statement.{statement}
 use Rattle.steps.proofs.side.adapted.Tie as tie
 
-room : (c : tie.Start) → (c .args .high * 2 ^ 16 + c .args .low) * natAbs (c .args .a) < 2 ^ (30 + c .args .t)
-room c = doubled (natAbs (c .args .j)) (natAbs (c .args .a)) (c .args .high * 2 ^ 16 + c .args .low) (c .args .t) (c .pre .1) (c .pre .3)
+cast-result : tie.Need-cast-result
+cast-result c = simp (toZ-ofZ (c .fits .w)) (fits-64 (c .fits .w))
 
-signed-gain-requires : tie.Need-signed-gain-requires
-signed-gain-requires c κs = simp (toZ-ofZ (c .fits .a)) (c .pre .0, room c)
+cast-cut : tie.Need-cast-cut
+cast-cut c = simp (toZ-ofZ (c .fits .a)) (fits-64 (c .fits .a))
 
-abbrev gain : tie.Start → ℤ
-gain c = cut (pos (c .args .high * 2 ^ 16 + c .args .low) *ℤ c .args .a) (16 + c .args .t)
+bound : (c : tie.Start) → natAbs (c .args .k *ℤ c .args .a) < 2 ^ 44
+bound c = rw abs-mul (c .pre .1)
 
-gained : (c : tie.After-signed-gain) → toZ w16 (ofZ w16 (c .signed-gain .result)) ≡ gain (c .before)
-gained c = kept w16 (c .signed-gain .result) (c .signed-gain .ok) ∙ c .signed-gain .ensures ∙ simp (toZ-ofZ (c .before .fits .a))
+product : (c : tie.Start) → SFits w64 (c .args .k *ℤ c .args .a)
+product c = fits-abs (c .args .k *ℤ c .args .a) (omega (arith, bound c))
 
-small : (c : tie.Start) → natAbs (gain c) < 2 ^ 14
-small c = signed-gain-small (c .args .high * 2 ^ 16 + c .args .low) (c .args .a) (c .args .t) (room c)
+mul-cut : tie.Need-mul-cut
+mul-cut c = simp (toZ-ofZ (c .fits .k), toZ-ofZ (c .fits .a), toZ-ofZ (fits-64 (c .fits .a))) (product c)
 
-sum : (c : tie.Start) → SFits w16 (c .args .w +ℤ gain c)
-sum c = fits-abs (c .args .w +ℤ gain c) (sum-fits (c .args .w) (gain c) (c .pre .2) (small c))
+cut-requires : tie.Need-cut-requires
+cut-requires c κs = search needs
 
-difference : (c : tie.Start) → SFits w16 (c .args .w -ℤ gain c)
-difference c = fits-abs (c .args .w -ℤ gain c) (difference-fits (c .args .w) (gain c) (c .pre .2) (small c))
+gave : (c : tie.After-cut) → toZ w64 (ofZ w64 (c .cut .result)) ≡ cut (c .before .args .k *ℤ c .before .args .a) 30
+gave c =
+    kept w64 (c .cut .result) (c .cut .ok) ∙ c .cut .ensures
+    ∙ simp (toZ-ofZ (c .before .fits .k), toZ-ofZ (c .before .fits .a), toZ-ofZ (fits-64 (c .before .fits .a)), toZ-ofZ (product (c .before)))
+
+new : (c : tie.After-cut) → natAbs (c .before .args .w +ℤ cut (c .before .args .k *ℤ c .before .args .a) 30) < 2 ^ 15
+new c =
+    let a = c .before .args in
+    omega (arith, abs-add (a .w) (cut (a .k *ℤ a .a) 30), cut-lt (a .k *ℤ a .a) 44 14 30 refl (bound (c .before)), c .before .pre .0)
+
+fits : (c : tie.After-cut) → SFits w16 (c .before .args .w +ℤ cut (c .before .args .k *ℤ c .before .args .a) 30)
+fits c = fits-abs (c .before .args .w +ℤ cut (c .before .args .k *ℤ c .before .args .a) 30) (new c)
 
 add-result : tie.Need-add-result
-add-result c = simp (toZ-ofZ (c .before .before .fits .w), gained (c .before)) (sum (c .before .before))
+add-result c = simp (toZ-ofZ (c .before .fits .w), toZ-ofZ (fits-64 (c .before .fits .w)), gave c) (fits-64 (fits c))
 
-sub-result : tie.Need-sub-result
-sub-result c = simp (toZ-ofZ (c .before .before .fits .w), gained (c .before)) (difference (c .before .before))
-
-whole : (c : tie.Then1) → pos 0 ≤ℤ c .before .before .args .j
-whole c = le-tested (rw (toZ-ofZ (c .before .before .fits .j)) at (c .if1 .taken))
-
-negative : (c : tie.Else1) → c .before .before .args .j <ℤ pos 0
-negative c = le-refuted (rw (toZ-ofZ (c .before .before .fits .j)) at (c .if1 .left))
+cast-result-2 : tie.Need-cast-result-2
+cast-result-2 c = simp (toZ-ofZ (c .before .fits .w), toZ-ofZ (fits-64 (c .before .fits .w)), gave c, toZ-ofZ (fits-64 (fits c))) (fits c)
 
 returns : tie.Need-returns
-returns c =
-    let s = c .before .before in
-    simp (toZ-ofZ (s .fits .w), gained (c .before), toZ-ofZ (sum s))
-    (ap (λ (x : ℤ). s .args .w +ℤ x) (whole-factor (s .args .j) (s .args .a) (s .args .high * 2 ^ 16 + s .args .low) (s .args .t) (s .pre .0) (s .pre .1) (whole c)))
-
-returns-2 : tie.Need-returns-2
-returns-2 c =
-    let s = c .before .before in
-    simp (toZ-ofZ (s .fits .w), gained (c .before), toZ-ofZ (difference s))
-    (ap (λ (x : ℤ). s .args .w +ℤ x) (negative-factor (s .args .j) (s .args .a) (s .args .high * 2 ^ 16 + s .args .low) (s .args .t) (s .pre .0) (s .pre .1) (negative c)))
+returns c = simp (toZ-ofZ (c .before .fits .w), toZ-ofZ (fits-64 (c .before .fits .w)), gave c, toZ-ofZ (fits-64 (fits c)), toZ-ofZ (fits c))
 
 pub adapted-spec : {M : Type 1} → statement M
-adapted-spec = tie.close (tie.spec signed-gain-requires add-result sub-result returns returns-2)
+adapted-spec =
+    tie.close (tie.spec cast-result cast-cut mul-cut cut-requires add-result cast-result-2 returns)

@@ -1,26 +1,34 @@
--- Products of 16 bits fit 32 bits, and so does their sum by the contract.
+-- The gain is below 2^14, so it fits 16 bits with a sign.
+use Prim.Native.Nat.{_+_, _*_, _/_, _^_, _<_}
 use native.Mathlib.Omega.{arith}
-use native.Mathlib.Nat.{mul-le-mul}
+use mir.Syntax.{w16}
+use mir.Facts.{toZ-pos}
 use borrow.Author.Needs.{needs}
-use Rattle.steps.proofs.GainLaws.{gain-is, gain-fits}
+use Rattle.laws.specs.Powers.{rises}
+use Rattle.steps.proofs.GainLaws.{gain-small}
 use Rattle.steps.proofs.side.gain.Statement.{statement}
 use Rattle.steps.proofs.side.gain.Tie as tie
 
 mul-result : tie.Need-mul-result
-mul-result c = record { fits = omega (arith, mul-le-mul (c .fits .high .fits) (c .fits .size .fits)) }
-
-mul-result-2 : tie.Need-mul-result-2
-mul-result-2 c = record { fits = omega (arith, mul-le-mul (c .fits .low .fits) (c .fits .size .fits)) }
+mul-result c = record { fits = omega (arith, c .pre .1, rises {a = 29 + c .args .t} {b = 44} (omega (arith, c .pre .0))) }
 
 add-result : tie.Need-add-result
-add-result c =
-    record { fits = omega (arith, gain-fits (c .args .high) (c .args .low) (c .args .size) (c .args .t) (c .pre .0) (c .pre .1)) }
+add-result c = search needs
+
+cast-result : tie.Need-cast-result
+cast-result c = search needs
 
 shr-result : tie.Need-shr-result
 shr-result c = search needs
 
+small : (c : tie.Start) → c .args .factor * c .args .size / 2 ^ (15 + c .args .t) < 2 ^ 14
+small c = gain-small (c .args .factor * c .args .size) (c .args .t) (c .pre .1)
+
+cast-result-2 : tie.Need-cast-result-2
+cast-result-2 c = record { sfits = omega (arith, small c) }
+
 returns : tie.Need-returns
-returns c = gain-is (c .args .high) (c .args .low) (c .args .size) (c .args .t)
+returns c = toZ-pos w16 (omega (arith, small c))
 
 pub gain-spec : {M : Type 1} → statement M
-gain-spec = tie.close (tie.spec mul-result mul-result-2 add-result shr-result returns)
+gain-spec = tie.close (tie.spec mul-result add-result cast-result shr-result cast-result-2 returns)

@@ -1,0 +1,132 @@
+-- The weights passed are the new ones, the others are still the old ones.
+use mathlib.Core.Path.{_≡_, sym, ap, _∙_}
+use Prim.Native.Nat.{_-_}
+use native.Mathlib.Omega.{arith}
+use lib.ListN.{length, getD}
+use lib.IntN.{ℤ, pos}
+use mir.Syntax.{w16, w32, w64}
+use mir.Val.{SFits, toZ, ofZ}
+use mir.Facts.{toZ-ofZ, sfits-widen}
+use borrow.Author.Needs.{needs, sfits-of}
+use Rattle.laws.specs.Lists.{Written, written-none, written-read, written-next, written-all}
+use Rattle.laws.specs.Machine.{kept}
+use Rattle.numbers.specs.Cut.{raise}
+use Rattle.steps.specs.Side.{adapt}
+use Rattle.steps.proofs.SideLaws.{adapt-length, adapt-at, adapt-room}
+use Rattle.steps.proofs.GainLaws.{raise-room, raised-room}
+use Rattle.steps.proofs.side.adapt_few.Statement.{statement}
+use Rattle.steps.proofs.side.adapt_few.Tie as tie
+
+abbrev Inv-loop : tie.InvT-loop
+Inv-loop w₀ a j t k i₀ w i = Written (adapt (raise (toZ w32 j) (15 - t)) w₀ a) w₀ i w
+
+abbrev μ-loop : tie.MeasureT-loop
+μ-loop w₀ a j t k i₀ w i = length w₀ - i
+
+wide : (c : tie.Start Inv-loop μ-loop) → SFits w64 (c .args .j)
+wide c = sfits-widen tt (c .fits .j)
+
+cast-raise : tie.Need-cast-raise Inv-loop μ-loop
+cast-raise c = simp (toZ-ofZ (c .fits .j)) (wide c)
+
+sub-raise : tie.Need-sub-raise Inv-loop μ-loop
+sub-raise c = c .pre .t-most
+
+raise-requires : tie.Need-raise-requires Inv-loop μ-loop
+raise-requires c κs = simp (toZ-ofZ (c .fits .j), toZ-ofZ (wide c)) (omega arith, raise-room (c .args .j) (c .args .t) (c .pre .factor-small))
+
+loop-holds : tie.Need-loop-holds Inv-loop μ-loop
+loop-holds c = written-none _ _
+
+mul-adapted : tie.Need-mul-adapted Inv-loop μ-loop
+mul-adapted c = search needs
+
+slice-copy-out-adapted : tie.Need-slice-copy-out-adapted Inv-loop μ-loop
+slice-copy-out-adapted c = search needs
+
+mul-adapted-2 : tie.Need-mul-adapted-2 Inv-loop μ-loop
+mul-adapted-2 c = search needs
+
+shared-slice-copy-out-adapted : tie.Need-shared-slice-copy-out-adapted Inv-loop μ-loop
+shared-slice-copy-out-adapted c = search needs
+
+abbrev start : tie.At-loop Inv-loop μ-loop → tie.Start Inv-loop μ-loop
+start c = c .before .before
+
+factor : (c : tie.At-loop Inv-loop μ-loop) → toZ w64 (ofZ w64 (c .before .raise .result)) ≡ raise (start c .args .j) (15 - start c .args .t)
+factor c =
+    kept w64 (c .before .raise .result) (c .before .raise .ok) ∙ c .before .raise .ensures
+    ∙ simp (toZ-ofZ (start c .fits .j), toZ-ofZ (wide (start c)))
+
+weight : (c : tie.After-adapted-arg Inv-loop μ-loop) →
+    let l = c .before .before .loop in
+    toZ w16 (ofZ w16 (getD (l .w) (l .i) (pos 0))) ≡ getD (start (c .before .before) .args .w .now) (l .i) (pos 0)
+weight c =
+    let l = c .before .before .loop in
+    kept w16 (getD (l .w) (l .i) (pos 0)) (c .adapted-arg .given) ∙ written-read (l .inv) (pos 0)
+
+datum : (c : tie.After-adapted-arg2 Inv-loop μ-loop) →
+    let x = getD (start (c .before .before .before) .args .a .now) (c .before .before .before .loop .i) (pos 0) in
+    toZ w16 (ofZ w16 x) ≡ x
+datum c = toZ-ofZ (sfits-of (c .adapted-arg2 .given))
+
+adapted-requires : tie.Need-adapted-requires Inv-loop μ-loop
+adapted-requires c κs =
+    let l = c .before .before .before in
+    let s = start l in
+    let r = adapt-room (s .args .j) (s .args .t) (s .args .w .now) (s .args .a .now) (l .loop .i) (s .pre) (omega arith) in
+    simp (factor l, weight (c .before), datum c)
+    (r .0, raised-room (s .args .j) (getD (s .args .a .now) (l .loop .i) (pos 0)) (s .args .t) (s .pre .t-most) (r .1))
+
+mul-t17 : tie.Need-mul-t17 Inv-loop μ-loop
+mul-t17 c = search needs
+
+slice-set-from-w : tie.Need-slice-set-from-w Inv-loop μ-loop
+slice-set-from-w c = search needs
+
+add-i : tie.Need-add-i Inv-loop μ-loop
+add-i c = search needs
+
+loop-less : tie.Need-loop-less Inv-loop μ-loop
+loop-less c = omega arith
+
+loop-again : tie.Need-loop-again Inv-loop μ-loop
+loop-again c =
+    let l = c .before .before .before .before in
+    let s = start l .args in
+    written-next (l .loop .inv) (pos 0) (toZ w16 (ofZ w16 (c .adapted .result))) (rw adapt-length (omega arith)) (omega arith)
+    (kept w16 (c .adapted .result) (c .adapted .ok) ∙ c .adapted .ensures
+    ∙ simp (factor l, weight (c .before .before), datum (c .before), toZ-ofZ (start l .fits .j))
+    (sym (adapt-at (raise (s .j) (15 - s .t)) (s .w .now) (s .a .now) (l .loop .i) (omega arith) (omega arith))))
+
+same-length : tie.Need-same-length Inv-loop μ-loop
+same-length c = c .before .loop .inv .long
+
+returns : tie.Need-returns Inv-loop μ-loop
+returns c =
+    let s = start (c .before) in
+    written-all (c .before .loop .inv) (adapt-length _ (s .args .w .now) _) (omega arith)
+    ∙ ap (λ (z : ℤ). adapt (raise z (15 - s .args .t)) (s .args .w .now) (s .args .a .now)) (toZ-ofZ (s .fits .j))
+
+pub adapt-few-spec : {M : Type 1} → statement M
+adapt-few-spec =
+    tie.close
+    (tie.spec
+    Inv-loop
+    μ-loop
+    cast-raise
+    sub-raise
+    raise-requires
+    loop-holds
+    mul-adapted
+    slice-copy-out-adapted
+    mul-adapted-2
+    shared-slice-copy-out-adapted
+    adapted-requires
+    mul-t17
+    slice-set-from-w
+    add-i
+    loop-less
+    loop-again
+    same-length
+    returns)
