@@ -1,6 +1,5 @@
 -- Laws of the loops over a side.
 use mathlib.Core.Path.{_≡_, refl, sym, ap, ap₂, _∙_}
-use mathlib.Core.Bool.{true, false}
 use mathlib.Core.List.{List, [], _∷_, map}
 use Prim.Native.Nat.{ℕ, zero, suc, _+_, _*_, _^_, _≤_, _<_}
 use native.Mathlib.Omega.{arith}
@@ -9,20 +8,16 @@ use native.Mathlib.Numerals.{add-one}
 use lib.ListN.{length, getD, take, length-take, List·getD-map}
 use lib.Seq.{take-all, length-take-le, getD-take}
 use lib.IntN.{ℤ, pos, negsuc, natAbs, _+ℤ_, _*ℤ_, *ℤ-comm}
-use lib.Signed.{quotZ, _≤ℤ_, _<ℤ_}
-use borrow.Author.Tests.{lt-ltb, le-ltb}
+use lib.Signed.{quotZ}
 use mir.Syntax.{w16, w32, w64}
 use mir.Val.{SFits}
 use mir.Facts.{sfits-widen}
-use Rattle.laws.specs.Parts.{abs-parts}
 use Rattle.laws.specs.Integers.{*ℤ-assoc}
-use Rattle.laws.specs.Linear.{neg, nat, atom, of-le, of-lt, by-abs-lt}
 use Rattle.laws.specs.Sums.{dot, dot-next, dot-bound, Each, each-at, each-take, each-weaken}
 use Rattle.laws.specs.Machine.{fits-abs, abs-fits}
 use Rattle.numbers.specs.Cut.{cut, raise}
 use Rattle.numbers.proofs.CutLaws.{cut-zero, cut-lt}
-use Rattle.steps.specs.Settings.{halvingLimit}
-use Rattle.steps.specs.Side.{adapted, adapt, isSmall, halved, push, largest, magnitudes}
+use Rattle.steps.specs.Side.{adapted, adapt, halved, push, largest, magnitudes}
 use Rattle.steps.specs.Sound.{Small, Summable, Adaptable}
 use Rattle.steps.proofs.LargestLaws.{magnitude-at, each-magnitude}
 
@@ -119,15 +114,3 @@ push-at x xs i h = getD-take (length xs) (x ∷ xs) i (pos 0) h
 
 pub push-each : (P : ℤ → Type 0) (x : ℤ) (xs : List ℤ) → P x → Each P xs → Each P (push x xs)
 push-each P x xs p h = each-take P (length xs) (x ∷ xs) (p, h)
-
--- ---- whether each weight is below the halving limit
-
-pub low-large : (x : ℤ) → x ≤ℤ negsuc 16383 → isSmall x ≡ false
-low-large x h = le-ltb (natAbs x) halvingLimit (omega (arith, of-le (atom x) (neg (nat 16384)) h, abs-parts x))
-
-pub high-large : (x : ℤ) → pos 16384 ≤ℤ x → isSmall x ≡ false
-high-large x h = le-ltb (natAbs x) halvingLimit (omega (arith, of-le (nat 16384) (atom x) h, abs-parts x))
-
-pub between-small : (x : ℤ) → negsuc 16383 <ℤ x → x <ℤ pos 16384 → isSmall x ≡ true
-between-small x h g =
-    lt-ltb (natAbs x) halvingLimit (by-abs-lt x (atom x) (omega (arith, of-lt (neg (nat 16384)) (atom x) h, of-lt (atom x) (nat 16384) g)))

@@ -3,9 +3,9 @@ ghost use mathlib.Core.Path.{_≡_};
 ghost use Prim.Native.Nat.{_*_, _^_, _<_};
 ghost use lib.IntN.{_+ℤ_, _*ℤ_, natAbs};
 ghost use Rattle.laws.specs.Sums.{dot};
-ghost use Rattle.steps.specs.Side.{adapted, adapt, allSmall, halved, push};
+ghost use Rattle.steps.specs.Side.{adapted, adapt, allSmall, halved, push, longest};
+ghost use Rattle.numbers.specs.BitLength.{bitLength};
 ghost use Rattle.numbers.specs.Cut.{raise};
-ghost use Rattle.steps.specs.Side.{longest};
 ghost use Rattle.steps.specs.Sound.{Summable, Adaptable};
 
 // One product more.
@@ -50,19 +50,24 @@ pub fn adapt(w: &mut [i16], a: &[i16], k: i64)
     }
 }
 
+// The bits of every magnitude of a list together: as many as the largest has.
+fn bits(xs: &[i16]) -> u16
+    ensures { λ r. ⌜ bitLength r ≡ longest (now (xs .entry)) ⌝ }
+{
+    let mut seen: u16 = 0;
+    let mut i: usize = 0;
+    while i < xs.len() {
+        seen |= numbers::bit_length::magnitude(xs[i] as i64) as u16;
+        i += 1;
+    }
+    seen
+}
+
 // Step 7: whether no weight has reached the halving limit.
 pub fn all_small(w: &[i16]) -> bool
     ensures { λ r. ⌜ r ≡ allSmall (now (w .entry)) ⌝ }
 {
-    let mut i: usize = 0;
-    while i < w.len() {
-        let x = w[i];
-        if x <= -16384 || 16384 <= x {
-            return false;
-        }
-        i += 1;
-    }
-    true
+    bits(w) < 16384
 }
 
 // Step 7: half of each weight.
@@ -94,16 +99,7 @@ pub fn push(xs: &mut [i16], x: i16)
 pub fn longest(xs: &[i16]) -> u32
     ensures { λ r. ⌜ r ≡ longest (now (xs .entry)) ⌝ }
 {
-    let mut most: u64 = 0;
-    let mut i: usize = 0;
-    while i < xs.len() {
-        let size = numbers::bit_length::magnitude(xs[i] as i64);
-        if most < size {
-            most = size;
-        }
-        i += 1;
-    }
-    numbers::bit_length::bit_length(most)
+    numbers::bit_length::bit_length(bits(xs) as u64)
 }
 
 // A sum of products with symbols as they are held.
