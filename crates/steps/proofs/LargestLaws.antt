@@ -3,17 +3,18 @@ use mathlib.Core.Path.{_≡_, refl, sym, ap, _∙_, subst}
 use mathlib.Core.Bool.{Bool, true, false, _&&_}
 use mathlib.Core.List.{List, [], _∷_, map}
 use Prim.Native.Nat.{ℕ, zero, suc, _+_, _^_, _≤_, _<_, max}
-use native.Mathlib.Omega.{arith, max-cases}
+use native.Mathlib.Omega.{arith, max-cases, by-contra}
 use native.Mathlib.Nat.{max-eq-left, max-eq-right}
 use native.Mathlib.Numerals.{add-one}
 use lib.Dec.{ltb}
 use lib.IntN.{ℤ, pos, natAbs}
-use lib.ListN.{length, getD, take, List·getD-map}
+use lib.Bits.{bitOr, and-le-l, and-le-r, or-lt, or-add-and}
+use lib.ListN.{length, getD, take, length-map, List·getD-map}
 use lib.Seq.{take-all}
 use borrow.Author.Tests.{lt-ltb, le-ltb, ltb-true, ltb-false}
 use Rattle.laws.specs.Sums.{Each, each-map, each-of, each-weaken}
 use Rattle.numbers.specs.BitLength.{bitLength}
-use Rattle.numbers.proofs.BitLengthLaws.{bit-length-zero, bit-length-mono, bit-length-lt}
+use Rattle.numbers.proofs.BitLengthLaws.{bit-length-zero, bit-length-mono, bit-length-le, bit-length-lt}
 use Rattle.steps.specs.Settings.{halvingLimit}
 use Rattle.steps.specs.Side.{isSmall, allSmall, magnitudes, largest, longest}
 
@@ -74,7 +75,7 @@ max-below k m n true false e f = sym (le-ltb (max m n) k (omega (arith, ltb-fals
 max-below k m n false b e f = sym (le-ltb (max m n) k (omega (arith, ltb-false m k e)))
 
 -- no weight has reached the halving limit where the largest magnitude has not
-pub all-small-is : (w : List ℤ) → allSmall w ≡ ltb (largest (magnitudes w)) halvingLimit
+all-small-is : (w : List ℤ) → allSmall w ≡ ltb (largest (magnitudes w)) halvingLimit
 unfolding largest
 all-small-is [] = refl
 all-small-is (x ∷ w) =
@@ -102,3 +103,37 @@ pub longest-above : (l : List ℤ) → Each (λ (x : ℤ). natAbs x < 2 ^ longes
 longest-above l =
     each-weaken (λ (x : ℤ). natAbs x ≤ largest (magnitudes l)) (λ (x : ℤ). natAbs x < 2 ^ longest l)
     (λ x h. bit-length-lt (natAbs x) (longest l) (rw longest-is (bit-length-mono h))) l (each-magnitude l)
+
+-- ---- the bits of several numbers together
+
+or-bit-length : (m n : ℕ) → bitLength (bitOr m n) ≡ max (bitLength m) (bitLength n)
+or-bit-length m n =
+    omega (
+      arith,
+      bit-length-le (bitOr m n) most (or-lt most m n (bit-length-lt m most (omega arith)) (bit-length-lt n most (omega arith))),
+      bit-length-mono {m = m} {n = bitOr m n} (omega (arith, or-add-and m n, and-le-r m n)),
+      bit-length-mono {m = n} {n = bitOr m n} (omega (arith, or-add-and m n, and-le-l m n)),
+    )
+  where
+    most : ℕ
+    most = max (bitLength m) (bitLength n)
+
+-- one element more
+pub bits-next : (ns : List ℕ) (i m : ℕ) → bitLength m ≡ bitLength (largest (take i ns)) → bitLength (bitOr m (getD ns i 0)) ≡ bitLength (largest (take (i + 1) ns))
+bits-next ns i m e =
+    or-bit-length m (getD ns i 0) ∙ ap (λ (k : ℕ). max k (bitLength (getD ns i 0))) e
+    ∙ max-bit-length (largest (take i ns)) (getD ns i 0)
+    ∙ ap bitLength (sym (ap (λ (j : ℕ). largest (take j ns)) (add-one i) ∙ next ns i))
+
+pub bits-end : (l : List ℤ) (i m : ℕ) → length l ≤ i → bitLength m ≡ bitLength (largest (take i (magnitudes l))) → bitLength m ≡ longest l
+bits-end l i m h e = e ∙ ap bitLength (largest-end (magnitudes l) i (rw length-map h)) ∙ sym (longest-is l)
+
+-- two numbers of one bit length are on the same side of a power of two
+same-side : (k m n : ℕ) (b : Bool) → bitLength m ≡ bitLength n → ltb n (2 ^ k) ≡ b → ltb m (2 ^ k) ≡ b
+same-side k m n true e t = lt-ltb m (2 ^ k) (bit-length-lt m k (omega (arith, e, bit-length-le n k (ltb-true n (2 ^ k) t))))
+same-side k m n false e t =
+    le-ltb m (2 ^ k) (by-contra (2 ^ k) m (λ h. omega (arith, ltb-false n (2 ^ k) t, bit-length-lt n k (omega (arith, e, bit-length-le m k h)))))
+
+-- no weight has reached the halving limit where the bits together have not
+pub bits-small : (w : List ℤ) (m : ℕ) → bitLength m ≡ longest w → ltb m halvingLimit ≡ allSmall w
+bits-small w m e = same-side 14 m (largest (magnitudes w)) (ltb (largest (magnitudes w)) halvingLimit) (e ∙ longest-is w) refl ∙ sym (all-small-is w)

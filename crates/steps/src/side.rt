@@ -3,8 +3,9 @@ ghost use mathlib.Core.Path.{_≡_};
 ghost use Prim.Native.Nat.{_+_, _*_, _-_, _/_, _^_, _<_, _≤_};
 ghost use lib.IntN.{pos, _+ℤ_, _*ℤ_, natAbs};
 ghost use Rattle.laws.specs.Sums.{dot};
+ghost use Rattle.numbers.specs.BitLength.{bitLength};
 ghost use Rattle.numbers.specs.Cut.{raise};
-ghost use Rattle.steps.specs.Side.{adapted, adapt, allSmall, halved, push, magnitudes, largest, longest};
+ghost use Rattle.steps.specs.Side.{adapted, adapt, allSmall, halved, push, longest};
 ghost use Rattle.steps.specs.Sound.{Summable, Adaptable};
 
 // One product more.
@@ -140,27 +141,24 @@ pub fn adapt(w: &mut [i16], a: &[i16], j: i32, t: u32)
     }
 }
 
-// The largest magnitude of a list.
-fn peak(xs: &[i16]) -> u16
-    ensures { λ r. ⌜ r ≡ largest (magnitudes (now (xs .entry))) ⌝ }
+// The bits of every magnitude of a list together: as many as the largest has.
+fn bits(xs: &[i16]) -> u16
+    ensures { λ r. ⌜ bitLength r ≡ longest (now (xs .entry)) ⌝ }
 {
-    let mut most: u16 = 0;
+    let mut seen: u16 = 0;
     let mut i: usize = 0;
     while i < xs.len() {
-        let size = numbers::bit_length::magnitude(xs[i] as i64) as u16;
-        if most < size {
-            most = size;
-        }
+        seen |= numbers::bit_length::magnitude(xs[i] as i64) as u16;
         i += 1;
     }
-    most
+    seen
 }
 
 // Step 7: whether no weight has reached the halving limit.
 pub fn all_small(w: &[i16]) -> bool
     ensures { λ r. ⌜ r ≡ allSmall (now (w .entry)) ⌝ }
 {
-    peak(w) < 16384
+    bits(w) < 16384
 }
 
 // Step 7: half of each weight.
@@ -192,7 +190,7 @@ pub fn push(xs: &mut [i16], x: i16)
 pub fn longest(xs: &[i16]) -> u32
     ensures { λ r. ⌜ r ≡ longest (now (xs .entry)) ⌝ }
 {
-    numbers::bit_length::bit_length(peak(xs) as u64)
+    numbers::bit_length::bit_length(bits(xs) as u64)
 }
 
 // A sum of products with symbols as they are held.

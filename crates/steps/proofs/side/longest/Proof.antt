@@ -1,13 +1,11 @@
--- The bit length of the largest magnitude is the largest bit length.
-use mathlib.Core.Path.{sym, ap, _∙_}
+-- The bits of the magnitudes together are as many as the largest has.
+use mathlib.Core.Path.{_∙_}
 use borrow.Author.Needs.{needs}
-use Rattle.numbers.specs.BitLength.{bitLength}
-use Rattle.steps.proofs.LargestLaws.{longest-is}
 use Rattle.steps.proofs.side.longest.Statement.{statement}
 use Rattle.steps.proofs.side.longest.Tie as tie
 
-peak-requires : tie.Need-peak-requires
-peak-requires c κs = search needs
+bits-requires : tie.Need-bits-requires
+bits-requires c κs = search needs
 
 cast-bit-length : tie.Need-cast-bit-length
 cast-bit-length c = search needs
@@ -16,7 +14,7 @@ bit-length-requires : tie.Need-bit-length-requires
 bit-length-requires c κs = search needs
 
 returns : tie.Need-returns
-returns c = c .bit-length .ensures ∙ ap bitLength (c .before .peak .ensures) ∙ sym (longest-is (c .before .before .args .xs .now))
+returns c = c .bit-length .ensures ∙ c .before .bits .ensures
 
 pub longest-spec : {M : Type 1} → statement M
-longest-spec = tie.close (tie.spec peak-requires cast-bit-length bit-length-requires returns)
+longest-spec = tie.close (tie.spec bits-requires cast-bit-length bit-length-requires returns)
