@@ -24,15 +24,20 @@ pub fn all_entries(xs: &[i8], r: u32) -> bool
 pub fn all_gains(gains: &[u8], l: u8) -> bool
     ensures { λ f. ⌜ f ≡ all (gainFits l) (now (gains .entry)) ⌝ }
 {
+    let mut low: u8 = 255;
+    let mut high: u8 = 0;
     let mut i: usize = 0;
     while i < gains.len() {
         let g = gains[i];
-        if g < l || Equaliser::GAIN < g {
-            return false;
+        if g < low {
+            low = g;
+        }
+        if high < g {
+            high = g;
         }
         i += 1;
     }
-    true
+    l <= low && high <= Equaliser::GAIN
 }
 
 // 3: whether every lent list is N long.

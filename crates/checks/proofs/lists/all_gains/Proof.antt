@@ -1,36 +1,30 @@
--- Each gain passed is from L to 15.
-use mathlib.Core.Path.{refl}
+-- The lowest and the highest gain passed.
+use mathlib.Core.Path.{_≡_, sym, ap, _∙_, subst}
+use mathlib.Core.Bool.{Bool, _&&_}
 use mathlib.Core.Logic.{⊎-elim}
-use Prim.Native.Nat.{_-_}
+use Prim.Native.Nat.{ℕ, _+_, _-_, min, max}
 use native.Mathlib.Omega.{arith}
+use lib.Dec.{leb}
 use lib.ListN.{length, getD}
 use borrow.Author.Needs.{needs}
-use borrow.Author.Tests.{ltb-true, ltb-false}
+use borrow.Author.Tests.{le-leb, lt-leb}
+use Rattle.laws.specs.Lists.{all}
 use Rattle.checks.specs.Checks.{gainFits}
-use Rattle.checks.proofs.GainLaws.{gain-passes, low-gain, high-gain}
-use Rattle.state.proofs.ListTests.{Passed, passed-next, passed-fails, passed-all}
+use Rattle.checks.proofs.GainLaws.{Ranged, ranged-next, ranged-all}
 use Rattle.checks.proofs.lists.all_gains.Statement.{statement}
 use Rattle.checks.proofs.lists.all_gains.Tie as tie
 
 abbrev Inv-loop : tie.InvT-loop
-Inv-loop gains l i₀ i = Passed (gainFits l) gains i
+Inv-loop gains l low₀ high₀ i₀ low high i = Ranged l gains low high i
 
 abbrev μ-loop : tie.MeasureT-loop
-μ-loop gains l i₀ i = length gains - i
+μ-loop gains l low₀ high₀ i₀ low high i = length gains - i
 
 loop-holds : tie.Need-loop-holds Inv-loop μ-loop
-loop-holds c = refl
+loop-holds c = simp (le-leb (c .args .l) 255 (omega arith))
 
 shared-slice-read-g : tie.Need-shared-slice-read-g Inv-loop μ-loop
 shared-slice-read-g c = search needs
-
-returns : tie.Need-returns Inv-loop μ-loop
-returns c =
-    let a = c .before .before .before .before .args in
-    let o = c .before .before .before .loop in
-    let g = getD (a .gains .now) (o .i) 0 in
-    passed-fails (gainFits (a .l)) (a .gains .now) (o .i) 0 (o .inv) (c .before .before .loop-test .taken)
-    (⊎-elim (λ h. low-gain (a .l) g (h .taken)) (λ h. high-gain (a .l) g (ltb-true 15 g (h .1 .taken))) (c .if1 .came))
 
 add-i : tie.Need-add-i Inv-loop μ-loop
 add-i c = search needs
@@ -38,18 +32,43 @@ add-i c = search needs
 loop-less : tie.Need-loop-less Inv-loop μ-loop
 loop-less c = omega arith
 
+low-is : (c : tie.Joined1 Inv-loop μ-loop) →
+    let l = c .before .before .before .loop in
+    c .if1 .low ≡ min (l .low) (getD (c .before .before .before .before .args .gains .now) (l .i) 0)
+low-is c = ⊎-elim (λ k. omega (arith, k .1, k .0 .taken)) (λ k. omega (arith, k .1, k .0 .left)) (c .if1 .came)
+
+high-is : (c : tie.Joined2 Inv-loop μ-loop) →
+    let l = c .before .before .before .before .loop in
+    c .if2 .high ≡ max (l .high) (getD (c .before .before .before .before .before .args .gains .now) (l .i) 0)
+high-is c = ⊎-elim (λ k. omega (arith, k .1, k .0 .taken)) (λ k. omega (arith, k .1, k .0 .left)) (c .if2 .came)
+
 loop-again : tie.Need-loop-again Inv-loop μ-loop
 loop-again c =
     let a = c .before .before .before .before .before .args in
-    let o = c .before .before .before .before .loop in
-    let g = getD (a .gains .now) (o .i) 0 in
-    passed-next (gainFits (a .l)) (a .gains .now) (o .i) 0 (o .inv) (c .before .before .before .loop-test .taken)
-    (gain-passes (a .l) g (c .before .if1 .left) (ltb-false 15 g (c .if2 .left)))
+    let l = c .before .before .before .before .loop in
+    let g = getD (a .gains .now) (l .i) 0 in
+    subst (λ (n : ℕ). Ranged (a .l) (a .gains .now) n (c .if2 .high) (l .i + 1)) (sym (low-is (c .before)))
+    (subst (λ (n : ℕ). Ranged (a .l) (a .gains .now) (min (l .low) g) n (l .i + 1)) (sym (high-is c))
+    (ranged-next (a .l) (a .gains .now) (l .low) (l .high) (l .i) (c .before .before .before .loop-test .taken) (l .inv)))
+
+ranged : (c : tie.After-loop Inv-loop μ-loop) →
+    let a = c .before .before .args in
+    (leb (a .l) (c .before .loop .low) && leb (c .before .loop .high) 15) ≡ all (gainFits (a .l)) (a .gains .now)
+ranged c =
+    let a = c .before .before .args in
+    let l = c .before .loop in
+    ranged-all (a .l) (a .gains .now) (l .low) (l .high) (l .i) (c .loop-test .left) (l .inv)
+
+returns : tie.Need-returns Inv-loop μ-loop
+returns c =
+    let l = c .before .before .loop in
+    ap (λ (b : Bool). b && leb (l .high) 15) (sym (le-leb (c .before .before .before .args .l) (l .low) (c .if3 .taken))) ∙ ranged (c .before)
 
 returns-2 : tie.Need-returns-2 Inv-loop μ-loop
 returns-2 c =
-    let a = c .before .before .args in
-    passed-all (gainFits (a .l)) (a .gains .now) (c .before .loop .i) (c .before .loop .inv) (c .loop-test .left)
+    let l = c .before .before .loop in
+    let e = lt-leb (c .before .before .before .args .l) (l .low) (c .if3 .left) in
+    e ∙ ap (λ (b : Bool). b && leb (l .high) 15) (sym e) ∙ ranged (c .before)
 
 pub all-gains-spec : {M : Type 1} → statement M
 all-gains-spec =
@@ -59,8 +78,8 @@ all-gains-spec =
     μ-loop
     loop-holds
     shared-slice-read-g
-    returns
     add-i
     loop-less
     loop-again
+    returns
     returns-2)
