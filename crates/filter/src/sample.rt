@@ -79,8 +79,7 @@ pub fn judge(r: u32, sb: u32, y: i32, xi: u32, entry: i16) -> Judged
 {
     let d = steps::decision::decide(y, xi, r);
     let v = chosen(entry, d);
-    let kappa = sb + numbers::bit_length::signed_bit_length(v as i64);
-    let e = steps::error::error(v, y, xi, kappa);
+    let e = steps::error::error(r, sb, v, y, xi);
     Judged {
         decision: d,
         v: v,

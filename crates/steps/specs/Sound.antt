@@ -36,9 +36,18 @@ pub record Joinable (f h : ℤ) (g ν ψ : ℕ) : Type 0 where
   pub g-most : g ≤ 100
 
 -- a symbol beside an output
-pub record Missable (v y : ℤ) (ξ κ : ℕ) : Type 0 where
+pub record Missable (r s : ℕ) (v y : ℤ) (ξ : ℕ) : Type 0 where
+  pub r-most : r ≤ 3
+  pub scale-least : 1 ≤ s
+  pub scale-most : s ≤ 5
+  pub v-small : natAbs v < 2 ^ (r + 1)
   pub y-small : natAbs y < 2 ^ 29
   pub ξ-least : 1 ≤ ξ
+  pub ξ-most : ξ ≤ 24
+
+-- both with their exponents
+pub record Comparable (v y : ℤ) (ξ κ : ℕ) : Type 0 where
+  pub y-small : natAbs y < 2 ^ 29
   pub ξ-most : ξ ≤ 30
   pub κ-most : κ ≤ 30
   pub room : natAbs v * 2 ^ (30 - errorExponent ξ κ) ≤ 2 ^ 29
