@@ -56,7 +56,7 @@ pub fn hear(
 {
     let nu = sb + steps::side::longest(symbols);
     let f = steps::side::sum(forward, samples);
-    let h = steps::side::raised(steps::side::sum(back, symbols), 15 - nu);
+    let h = steps::side::sum(back, symbols);
     let o = steps::output::output(f, h, g, nu, psi);
     Heard {
         nu: nu,

@@ -27,13 +27,13 @@ pub record Adaptable (J : ℤ) (t : ℕ) (w a : List ℤ) : Type 0 where
   pub factor-small : natAbs J ≤ 2 ^ 29
   pub bound : natAbs J * largest (magnitudes a) < 2 ^ (29 + t)
 
--- the two sums of a sample and their exponents
+-- the sums of weights times samples and times symbols, and their exponents
 pub record Joinable (f h : ℤ) (g ν ψ : ℕ) : Type 0 where
   pub f-small : natAbs f < 2 ^ 28
-  pub h-small : natAbs h < 2 ^ 28
+  pub h-small : natAbs h * 2 ^ (15 - ν) < 2 ^ 28
   pub ψ-most : ψ ≤ 15
   pub ν-most : ν ≤ 9
-  pub g-most : g ≤ 100
+  pub g-most : g ≤ 39
 
 -- a symbol beside an output
 pub record Missable (r s : ℕ) (v y : ℤ) (ξ : ℕ) : Type 0 where
