@@ -14,7 +14,7 @@ use Rattle.filter.proofs.sample.judge.Statement.{statement}
 use Rattle.filter.proofs.sample.judge.Tie as tie
 
 decide-requires : tie.Need-decide-requires
-decide-requires c κs = omega (arith, c .pre)
+decide-requires c κs = simp (toZ-ofZ (c .fits .y)) (omega (arith, c .pre))
 
 chosen-requires : tie.Need-chosen-requires
 chosen-requires c κs = search needs
