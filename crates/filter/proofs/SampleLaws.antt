@@ -2,23 +2,15 @@
 use mathlib.Core.Path.{_≡_, subst₂}
 use mathlib.Core.Bool.{true, false, _&&_}
 use mathlib.Core.List.{List}
-use Prim.Native.Nat.{ℕ, _+_, _*_, _-_, _^_, _≤_, _<_}
+use Prim.Native.Nat.{ℕ, _+_}
 use native.Mathlib.Numerals.{add-one}
-use native.Mathlib.Nat.{le-max-left, mul-le-mul-left}
-use native.Mathlib.Omega.{arith}
-use lib.IntN.{ℤ, natAbs}
-use Rattle.laws.specs.Powers.{rises, raise}
-use Rattle.numbers.specs.BitLength.{bitLength}
-use Rattle.numbers.proofs.BitLengthLaws.{bit-length-le, bit-length-above}
-use Rattle.steps.specs.Settings.{Settings, isEntry}
+use lib.IntN.{ℤ}
+use Rattle.steps.specs.Settings.{Settings}
 use Rattle.steps.specs.Decision.{decide}
-use Rattle.steps.specs.Error.{errorExponent}
 use Rattle.steps.specs.Sound.{Missable}
 use Rattle.steps.proofs.SymbolLaws.{symbol-below, decide-symbol, chosen-symbol}
-use Rattle.steps.proofs.DecisionLaws.{symbol-most}
-use Rattle.steps.proofs.OutputLaws.{error-exponent-form}
 use Rattle.steps.specs.Side.{allSmall, halved}
-use Rattle.filter.specs.Calls.{Settled-is, Taken-is, chosen, tapsOf}
+use Rattle.filter.specs.Calls.{Decidable, Settled-is, Taken-is, chosen, tapsOf}
 use Rattle.filter.specs.declared.sample.Taken.{Taken}
 
 -- ---- step 7
@@ -31,27 +23,16 @@ settled-halved ψ f b f′ b′ e g h = record { exponent = simp e (add-one ψ);
 
 -- ---- steps 4 and 5
 
-pub chosen-below : (r : ℕ) (y : ℤ) (ξ : ℕ) (entry : ℤ) → r ≤ 3 → isEntry r entry ≡ true → natAbs (chosen entry (decide r y ξ)) < 2 ^ 4
-chosen-below r y ξ entry h e =
-    omega (arith, symbol-most r h, symbol-below r (chosen entry (decide r y ξ)) (chosen-symbol r entry (decide r y ξ) e (decide-symbol r y ξ)))
-
--- v·2^(30−θ) has room, since θ is at least the bit length and one
-pub missable : (v y : ℤ) (ξ s : ℕ) → natAbs y < 2 ^ 29 → 1 ≤ ξ → ξ ≤ 24 → 1 ≤ s → s ≤ 5 → natAbs v < 2 ^ 4 → Missable v y ξ (s + bitLength (natAbs v))
-missable v y ξ s h l m a b u = record {
-  y-small = h;
-  ξ-least = l;
-  ξ-most = omega arith;
-  κ-most = omega (arith, bit-length-le (natAbs v) 4 u);
-  room = room;
+pub missable : {r s ξ : ℕ} {y entry : ℤ} → Decidable r s y ξ entry → Missable r s (chosen entry (decide r y ξ)) y ξ
+missable {r} {s} {ξ} {y} {entry} d = record {
+  r-most = d .r-most;
+  scale-least = d .scale-least;
+  scale-most = d .scale-most;
+  v-small = symbol-below r (chosen entry (decide r y ξ)) (chosen-symbol r entry (decide r y ξ) (d .entry-is) (decide-symbol r y ξ));
+  y-small = d .y-small;
+  ξ-least = d .ξ-least;
+  ξ-most = d .ξ-most;
 }
-  where
-    room : natAbs v * 2 ^ (30 - errorExponent ξ (s + bitLength (natAbs v))) ≤ 2 ^ 29
-    room =
-        let n = bitLength (natAbs v) in
-        let x = errorExponent ξ (s + n) in
-        let lower : 2 ^ (30 - x) ≤ 2 ^ (30 - (s + n)) = rises (omega (arith, error-exponent-form ξ (s + n), le-max-left (s + n) ξ)) in
-        let top : 2 ^ (30 - s) ≤ 2 ^ 29 = rises {a = 30 - s} {b = 29} (omega arith) in
-        omega (arith, mul-le-mul-left (natAbs v) lower, raise (natAbs v) (30 - s) n (30 - (s + n)) (omega (arith, bit-length-le (natAbs v) 4 u)) (bit-length-above (natAbs v)), top)
 
 -- ---- steps 6 to 8
 

@@ -40,10 +40,9 @@ module _ (k : Settings) (s sb g : ℕ) (t : Taps) (entry : ℤ) (r : Ready k s s
     forward-sum = B.forward-summable k g t entry (r .fit);
     back-sum = B.back-summable k g t entry (r .fit);
     ν-most = rw ν-of (S.ν-most k g t entry (r .fit));
-    room = rw (← raise-abs, held) (B.H-small k g t entry (r .fit));
-    joinable = rw (held, ν-of) (record {
+    joinable = rw ν-of (record {
       f-small = B.F-small k g t entry (r .fit);
-      h-small = B.H-small k g t entry (r .fit);
+      h-small = rw (← raise-abs, ← S.H-raised k g t entry (r .fit)) (B.H-small k g t entry (r .fit));
       ψ-most = r .fit .ψ-most;
       ν-most = S.ν-most k g t entry (r .fit);
       g-most = omega (arith, r .fit .g-most, r .fit .within .r-most, S.scaleForward-most k g t entry (r .fit));

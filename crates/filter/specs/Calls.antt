@@ -35,8 +35,7 @@ pub record Audible (sb g ψ : ℕ) (forward back samples symbols : List ℤ) : T
   pub forward-sum : Summable forward samples
   pub back-sum : Summable back symbols
   pub ν-most : sb + longest symbols ≤ 9
-  pub room : natAbs (dot back symbols) * 2 ^ (15 - (sb + longest symbols)) < 2 ^ 28
-  pub joinable : Joinable (dot forward samples) (raise (dot back symbols) (15 - (sb + longest symbols))) g (sb + longest symbols) ψ
+  pub joinable : Joinable (dot forward samples) (dot back symbols) g (sb + longest symbols) ψ
 
 pub record Heard-is (sb g ψ : ℕ) (forward back samples symbols : List ℤ) (h : Heard) : Type 0 where
   pub nu : h .nu ≡ sb + longest symbols

@@ -56,7 +56,7 @@ pub fn hear(
 {
     let nu = sb + steps::side::longest(symbols);
     let f = steps::side::sum(forward, samples);
-    let h = steps::side::raised(steps::side::sum(back, symbols), 15 - nu);
+    let h = steps::side::sum(back, symbols);
     let o = steps::output::output(f, h, g, nu, psi);
     Heard {
         nu: nu,
@@ -79,8 +79,7 @@ pub fn judge(r: u32, sb: u32, y: i32, xi: u32, entry: i16) -> Judged
 {
     let d = steps::decision::decide(y, xi, r);
     let v = chosen(entry, d);
-    let kappa = sb + numbers::bit_length::signed_bit_length(v as i64);
-    let e = steps::error::error(v, y, xi, kappa);
+    let e = steps::error::error(r, sb, v, y, xi);
     Judged {
         decision: d,
         v: v,

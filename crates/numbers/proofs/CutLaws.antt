@@ -1,8 +1,8 @@
 -- Laws of the cut T(z / 2^k), for every z and k.
 use mathlib.Core.Path.{_≡_, refl, sym, ap, _∙_, subst}
-use Prim.Native.Nat.{ℕ, zero, suc, _+_, _*_, _-_, _/_, _^_, _≤_, _<_}
+use Prim.Native.Nat.{ℕ, zero, suc, _+_, _*_, _-_, _/_, _^_, _≤_, _<_, min}
 use native.Mathlib.Omega.{arith}
-use native.Mathlib.Nat.{zero-div, div-one, div-le-self, div-mul-le-self, div-add-mod', mod-lt, mul-div-mul-right, div-eq-of-lt, div-eq-sub-div, div-lt-iff-lt-mul, mul-div-cancel}
+use native.Mathlib.Nat.{zero-div, div-one, div-le-self, div-mul-le-self, div-add-mod', mod-lt, mul-div-mul-right, div-eq-of-lt, div-eq-sub-div, div-lt-iff-lt-mul, mul-div-cancel, min-eq-left, min-eq-right, lt-of-lt-of-le}
 use lib.Pow.{pow-pos, shr-shr}
 use lib.Dec.{ltb→lt}
 use borrow.Author.Tests.{lt-ltb, le-ltb}
@@ -12,7 +12,7 @@ use lib.Signed.{shrZ, _≤ℤ_, _<ℤ_}
 use lib.IntN.{ℤ, pos, negsuc, negℤ, natAbs, subℕ, _+ℤ_, _-ℤ_, _*ℤ_, zero-*ℤ, negℤ-negℤ, negℤ-+ℤ}
 use Rattle.laws.specs.Integers.{*ℤ-assoc, neg-*ℤ, abs-mul, abs-neg}
 use Rattle.laws.specs.Linear.{by-abs-lt, diff, nat}
-use Rattle.laws.specs.Powers.{split}
+use Rattle.laws.specs.Powers.{split, rises}
 use Rattle.numbers.specs.Cut.{cut, raise, rescale}
 
 -- what holds of a natural number, and with a number of its negative, holds of every number
@@ -54,6 +54,16 @@ pub cut-all : (z : ℤ) (k : ℕ) → natAbs z < 2 ^ k → cut z k ≡ pos 0
 unfolding cut
 cut-all (pos n) k h = ap pos (div-eq-of-lt h)
 cut-all (negsuc n) k h = ap (λ (m : ℕ). negℤ (pos m)) (div-eq-of-lt h)
+
+-- where m places leave nothing, no more than m are needed
+pub cut-most : (z : ℤ) (k m : ℕ) → natAbs z < 2 ^ m → cut z (min k m) ≡ cut z k
+cut-most z k m h = go (decLe k m)
+  where
+    go : Dec (k ≤ m) → cut z (min k m) ≡ cut z k
+    go (yes f) = ap (cut z) (min-eq-left f)
+    go (no f) =
+        ap (cut z) (min-eq-right (omega arith)) ∙ cut-all z m h
+        ∙ sym (cut-all z k (lt-of-lt-of-le h (rises {a = m} {b = k} (omega arith))))
 
 -- what is cut off is less than one unit
 pub cut-error : (z : ℤ) (k : ℕ) → natAbs (z -ℤ raise (cut z k) k) < 2 ^ k

@@ -41,3 +41,28 @@ pub fn rescale(z: i64, i: u32, j: u32) -> i64
 {
     cut(raise(z, i), j)
 }
+
+// 2^k − 1 in 32 bits.
+fn ones32(k: u32) -> i32
+    requires { ⌜ k < 32 ⌝ }
+    ensures { λ r. ⌜ r ≡ pos (2 ^ k - 1) ⌝ }
+{
+    ((1u32 << k) - 1) as i32
+}
+
+// T(z / 2^k) in 32 bits.
+pub fn cut32(z: i32, k: u32) -> i32
+    requires { ⌜ k < 32 ⌝ }
+    ensures { λ r. ⌜ r ≡ cut z k ⌝ }
+{
+    let low = ones32(k);
+    if z >= 0 { z >> k } else { (z + low) >> k }
+}
+
+// z·2^k in 32 bits.
+pub fn raise32(z: i32, k: u32) -> i32
+    requires { ⌜ (k < 31) × (natAbs z * 2 ^ k < 2 ^ 31) ⌝ }
+    ensures { λ r. ⌜ r ≡ raise z k ⌝ }
+{
+    z * (1i32 << k)
+}

@@ -3,5 +3,6 @@ pub mod SideLaws
 pub mod GainLaws
 pub mod DecisionLaws
 pub mod OutputLaws
+pub mod ErrorLaws
 pub mod SymbolLaws
 pub mod Admission

@@ -1,5 +1,5 @@
 -- The output and the error in one form each, whichever exponent is the larger: a cut by no places changes nothing.
-use mathlib.Core.Path.{_≡_, sym, ap, _∙_}
+use mathlib.Core.Path.{_≡_, sym, ap, ap₂, _∙_}
 use Prim.Native.Nat.{ℕ, _+_, _-_, _≤_, _<_, max}
 use native.Mathlib.Omega.{arith}
 use native.Mathlib.Nat.{max-eq-left, max-eq-right, sub-add-eq-max, le-of-lt}
@@ -7,7 +7,7 @@ use native.Mathlib.Decide.{decLt}
 use borrow.Author.Tests.{lt-ltb, le-ltb}
 use lib.IntN.{ℤ, _+ℤ_, _-ℤ_, +ℤ-comm}
 use Rattle.numbers.specs.Cut.{cut, raise}
-use Rattle.numbers.proofs.CutLaws.{cut-none}
+use Rattle.numbers.proofs.CutLaws.{cut-none, rescale-up}
 use Rattle.steps.specs.Output.{output, outputExponent}
 use Rattle.steps.specs.Error.{error, errorExponent}
 
@@ -24,6 +24,14 @@ output-form F H g ν = go (decLt (ν + 30) g)
     go (yes h) = simp (lt-ltb (ν + 30) g h) (ap (λ (x : ℤ). x +ℤ cut H (g - (ν + 30))) (sym (cut-nothing F (ν + 30) g (le-of-lt h))))
     go (no h) = simp (le-ltb (ν + 30) g (omega arith)) (
         +ℤ-comm H (cut F (ν + 30 - g)) ∙ ap (λ (x : ℤ). cut F (ν + 30 - g) +ℤ x) (sym (cut-nothing H g (ν + 30) (omega arith))))
+
+-- Y from the sum of weights times symbols, which loses nothing
+pub output-raised : (F h : ℤ) (g ν : ℕ) → g ≤ 45 → ν ≤ 15 → output F (raise h (15 - ν)) g ν ≡ cut F (max g (ν + 30) - g) +ℤ raise h (45 - max g (ν + 30))
+output-raised F h g ν l m =
+    output-form F (raise h (15 - ν)) g ν
+    ∙ ap₂ (λ (x y : ℤ). x +ℤ y)
+    (ap (cut F) (omega (arith, sub-add-eq-max g (ν + 30))))
+    (rescale-up h (15 - ν) (g - (ν + 30)) (45 - max g (ν + 30)) (omega (arith, sub-add-eq-max g (ν + 30))))
 
 -- ξ
 pub output-exponent-form : (ψ g ν : ℕ) → outputExponent ψ g ν + 30 ≡ ψ + max g (ν + 30)

@@ -27,18 +27,27 @@ pub record Adaptable (J : ℤ) (t : ℕ) (w a : List ℤ) : Type 0 where
   pub factor-small : natAbs J ≤ 2 ^ 29
   pub bound : natAbs J * largest (magnitudes a) < 2 ^ (29 + t)
 
--- the two sums of a sample and their exponents
+-- the sums of weights times samples and times symbols, and their exponents
 pub record Joinable (f h : ℤ) (g ν ψ : ℕ) : Type 0 where
   pub f-small : natAbs f < 2 ^ 28
-  pub h-small : natAbs h < 2 ^ 28
+  pub h-small : natAbs h * 2 ^ (15 - ν) < 2 ^ 28
   pub ψ-most : ψ ≤ 15
   pub ν-most : ν ≤ 9
-  pub g-most : g ≤ 100
+  pub g-most : g ≤ 39
 
 -- a symbol beside an output
-pub record Missable (v y : ℤ) (ξ κ : ℕ) : Type 0 where
+pub record Missable (r s : ℕ) (v y : ℤ) (ξ : ℕ) : Type 0 where
+  pub r-most : r ≤ 3
+  pub scale-least : 1 ≤ s
+  pub scale-most : s ≤ 5
+  pub v-small : natAbs v < 2 ^ (r + 1)
   pub y-small : natAbs y < 2 ^ 29
   pub ξ-least : 1 ≤ ξ
+  pub ξ-most : ξ ≤ 24
+
+-- both with their exponents
+pub record Comparable (v y : ℤ) (ξ κ : ℕ) : Type 0 where
+  pub y-small : natAbs y < 2 ^ 29
   pub ξ-most : ξ ≤ 30
   pub κ-most : κ ≤ 30
   pub room : natAbs v * 2 ^ (30 - errorExponent ξ κ) ≤ 2 ^ 29

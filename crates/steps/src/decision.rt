@@ -5,23 +5,23 @@ ghost use lib.IntN.{pos, natAbs, _+ℤ_, _*ℤ_};
 ghost use Rattle.steps.specs.Decision.{floor, clip, topSymbol, decide};
 
 // The greatest symbol.
-fn top_symbol(r: u32) -> i64
+fn top_symbol(r: u32) -> i32
     requires { ⌜ r ≤ 3 ⌝ }
     ensures { λ t. ⌜ t ≡ topSymbol r ⌝ }
 {
-    ((1u32 << (r + 1)) - 1) as i64
+    ((1u32 << (r + 1)) - 1) as i32
 }
 
 // The odd number nearest to y·2^(ξ−30).
-fn nearest(y: i32, xi: u32) -> i64
-    requires { ⌜ (1 ≤ xi) × (xi ≤ 31) ⌝ }
+fn nearest(y: i32, xi: u32) -> i32
+    requires { ⌜ (1 ≤ xi) × (xi ≤ 31) × (natAbs y < 2 ^ 29) ⌝ }
     ensures { λ d. ⌜ d ≡ pos 2 *ℤ floor y (31 - xi) +ℤ pos 1 ⌝ }
 {
-    2 * ((y >> (31 - xi)) as i64) + 1
+    2 * (y >> (31 - xi)) + 1
 }
 
 // Brought to the nearest end, if beyond it.
-fn clip(top: i64, d: i64) -> i16
+fn clip(top: i32, d: i32) -> i16
     requires { ⌜ natAbs top < 2 ^ 15 ⌝ }
     ensures { λ r. ⌜ r ≡ clip top d ⌝ }
 {
@@ -36,7 +36,7 @@ fn clip(top: i64, d: i64) -> i16
 }
 
 pub fn decide(y: i32, xi: u32, r: u32) -> i16
-    requires { ⌜ (1 ≤ xi) × (xi ≤ 31) × (r ≤ 3) ⌝ }
+    requires { ⌜ (1 ≤ xi) × (xi ≤ 31) × (r ≤ 3) × (natAbs y < 2 ^ 29) ⌝ }
     ensures { λ d. ⌜ d ≡ decide r y xi ⌝ }
 {
     clip(top_symbol(r), nearest(y, xi))

@@ -1,6 +1,7 @@
 // The steps of a sample one by one.
 pub mod decision;
 pub mod error;
+pub mod exponent;
 pub mod factor;
 pub mod output;
 pub mod side;

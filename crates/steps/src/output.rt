@@ -1,8 +1,8 @@
 // Step 3: the output.
 ghost use mathlib.Core.Path.{_≡_};
-ghost use Prim.Native.Nat.{_^_, _<_};
+ghost use Prim.Native.Nat.{_*_, _-_, _^_, _<_, _≤_, min};
 ghost use lib.IntN.{natAbs, _+ℤ_};
-ghost use Rattle.numbers.specs.Cut.{cut};
+ghost use Rattle.numbers.specs.Cut.{cut, raise};
 ghost use Rattle.steps.specs.Output.{output, outputExponent};
 ghost use Rattle.steps.specs.Sound.{Joinable};
 
@@ -11,27 +11,29 @@ pub struct Joined {
     pub xi: u32,
 }
 
-// A sum and the other one at its exponent.
-fn added(a: i32, b: i32, places: u32) -> i32
-    requires { ⌜ (natAbs a < 2 ^ 28) × (natAbs b < 2 ^ 28) ⌝ }
-    ensures { λ r. ⌜ r ≡ a +ℤ cut b places ⌝ }
+// The places of a cut, no more than a shift takes.
+fn near(places: u32) -> u32
+    ensures { λ r. ⌜ r ≡ min places 31 ⌝ }
 {
-    a + (numbers::cut::cut(b as i64, places) as i32)
+    if places < 31 { places } else { 31 }
 }
 
+// Both sums at one exponent.
+fn added(f: i32, h: i32, down: u32, up: u32) -> i32
+    requires { ⌜ (natAbs f < 2 ^ 28) × (up ≤ 30) × (natAbs h * 2 ^ up < 2 ^ 28) ⌝ }
+    ensures { λ r. ⌜ r ≡ cut f down +ℤ raise h up ⌝ }
+{
+    numbers::cut::cut32(f, near(down)) + numbers::cut::raise32(h, up)
+}
+
+// From the sum h of weights times symbols, so H = h·2^(15−ν). As γ ≤ 9, T(H·2^(ν−γ)) = h·2^(15−γ): nothing is cut off.
 pub fn output(f: i32, h: i32, g: u32, nu: u32, psi: u32) -> Joined
     requires { ⌜ Joinable f h g nu psi ⌝ }
-    ensures { λ r. ⌜ (r .y ≡ output f h g nu) × (r .xi ≡ outputExponent psi g nu) ⌝ }
+    ensures { λ r. ⌜ (r .y ≡ output f (raise h (15 - nu)) g nu) × (r .xi ≡ outputExponent psi g nu) ⌝ }
 {
-    if nu + 30 < g {
-        Joined {
-            y: added(f, h, g - (nu + 30)),
-            xi: psi + g - 30,
-        }
-    } else {
-        Joined {
-            y: added(h, f, nu + 30 - g),
-            xi: psi + nu,
-        }
+    let over = super::exponent::larger(g, nu + 30);
+    Joined {
+        y: added(f, h, over - g, 45 - over),
+        xi: psi + over - 30,
     }
 }

@@ -192,11 +192,3 @@ pub fn longest(xs: &[i16]) -> u32
 {
     numbers::bit_length::bit_length(bits(xs) as u64)
 }
-
-// A sum of products with symbols as they are held.
-pub fn raised(z: i32, k: u32) -> i32
-    requires { ⌜ (k < 63) × (natAbs z * 2 ^ k < 2 ^ 28) ⌝ }
-    ensures { λ r. ⌜ r ≡ raise z k ⌝ }
-{
-    numbers::cut::raise(z as i64, k) as i32
-}

@@ -4,7 +4,7 @@ use mathlib.Core.Bool.{true, false}
 use native.Mathlib.Omega.{arith}
 use lib.IntN.{pos, negℤ, _-ℤ_, +ℤ-idl}
 use lib.Signed.{ltZ}
-use mir.Syntax.{w16, w64}
+use mir.Syntax.{w16, w32}
 use mir.Val.{SFits, toZ, ofZ}
 use mir.Facts.{toZ-ofZ}
 use Rattle.laws.specs.Integers.{abs-neg}
@@ -19,11 +19,11 @@ top-fits c = fits-abs (c .args .top) (c .pre)
 low-fits : (c : tie.Start) → SFits w16 (negℤ (c .args .top))
 low-fits c = fits-abs (negℤ (c .args .top)) (rw abs-neg (c .pre))
 
-low-wide : (c : tie.Start) → SFits w64 (negℤ (c .args .top))
+low-wide : (c : tie.Start) → SFits w32 (negℤ (c .args .top))
 low-wide c = fits-abs (negℤ (c .args .top)) (omega (arith, abs-neg (c .args .top), c .pre))
 
 -- the low end, as it is computed
-low : (c : tie.Start) → toZ w64 (ofZ w64 (pos 0 -ℤ toZ w64 (ofZ w64 (c .args .top)))) ≡ negℤ (c .args .top)
+low : (c : tie.Start) → toZ w32 (ofZ w32 (pos 0 -ℤ toZ w32 (ofZ w32 (c .args .top)))) ≡ negℤ (c .args .top)
 low c = simp (toZ-ofZ (c .fits .top), +ℤ-idl, toZ-ofZ (low-wide c))
 
 sub-low : tie.Need-sub-low

@@ -1,9 +1,9 @@
 -- A shifted one and one less, in few bits.
 use mathlib.Core.Path.{_≡_, ap, _∙_}
-use Prim.Native.Nat.{ℕ, _+_, _*_, _-_, _%_, _^_}
+use Prim.Native.Nat.{ℕ, _+_, _*_, _-_, _%_, _^_, _<_}
 use native.Mathlib.Omega.{arith}
 use lib.IntN.{pos}
-use mir.Syntax.{w32, w64}
+use mir.Syntax.{w32}
 use mir.Facts.{toZ-pos}
 use borrow.Author.Needs.{needs}
 use Rattle.laws.specs.Machine.{one-shifted}
@@ -24,13 +24,14 @@ shifted c = one-shifted w32 (c .args .r + 1) (search needs)
 sub-result : tie.Need-sub-result
 sub-result c = omega (arith, shifted c, positive (c .args .r + 1))
 
+below : (c : tie.Start) → 1 * 2 ^ (c .args .r + 1) % 2 ^ 32 - 1 < 2 ^ 31
+below c = omega (arith, shifted c, symbol-most (c .args .r) (c .pre))
+
 cast-result : tie.Need-cast-result
-cast-result c = search needs
+cast-result c = record { sfits = below c }
 
 returns : tie.Need-returns
-returns c =
-    toZ-pos w64 {n = 1 * 2 ^ (c .args .r + 1) % 2 ^ 32 - 1} (omega (arith, shifted c, symbol-most (c .args .r) (c .pre)))
-    ∙ ap (λ (n : ℕ). pos (n - 1)) (shifted c)
+returns c = toZ-pos w32 (below c) ∙ ap (λ (n : ℕ). pos (n - 1)) (shifted c)
 
 pub top-symbol-spec : {M : Type 1} → statement M
 top-symbol-spec = tie.close (tie.spec add-result shl-result sub-result cast-result returns)

@@ -1,56 +1,84 @@
--- The definition in one form, at the larger exponent.
-use mathlib.Core.Path.{_≡_, sym, ap, _∙_}
-use Prim.Native.Nat.{ℕ, _*_, _-_, _^_, _≤_}
+-- Where ξ is no smaller than any κ, neither κ nor a cut is needed; elsewhere both exponents are compared.
+use mathlib.Core.Path.{_≡_, sym, _∙_}
+use Prim.Native.Nat.{ℕ, _+_, _*_, _-_, _^_, _≤_}
 use native.Mathlib.Omega.{arith}
-use native.Mathlib.Nat.{max-le, le-max-right}
-use lib.IntN.{natAbs, _-ℤ_}
-use mir.Syntax.{w32}
-use mir.Facts.{toZ-ofZ}
+use lib.IntN.{natAbs}
+use mir.Syntax.{w32, w64}
+use mir.Facts.{toZ-ofZ, sfits-widen}
 use borrow.Author.Needs.{needs}
 use Rattle.laws.specs.Machine.{kept}
-use Rattle.numbers.specs.Cut.{cut, raise}
-use Rattle.steps.specs.Error.{error}
-use Rattle.steps.proofs.OutputLaws.{error-form, error-exponent-form}
+use Rattle.numbers.specs.BitLength.{bitLength}
+use Rattle.steps.proofs.ErrorLaws.{exponent-kept, error-kept, length-most, comparable}
 use Rattle.steps.proofs.error.error.Statement.{statement}
 use Rattle.steps.proofs.error.error.Tie as tie
 
-exponent-requires : tie.Need-exponent-requires
-exponent-requires c κs = search needs
+add-if1 : tie.Need-add-if1
+add-if1 c = search needs
 
-larger : (c : tie.After-exponent) → (c .before .args .xi ≤ c .exponent .result) × (c .exponent .result ≤ 30)
-larger c =
-    let a = c .before .args in
-    omega (
-      arith,
-      c .exponent .ensures ∙ error-exponent-form (a .xi) (a .kappa),
-      le-max-right (a .kappa) (a .xi),
-      max-le (c .before .pre .κ-most) (c .before .pre .ξ-most),
-    )
+add-if1-2 : tie.Need-add-if1-2
+add-if1-2 c = search needs
 
 sub-difference : tie.Need-sub-difference
-sub-difference c = larger c .1
+sub-difference c = search needs
 
-sub-difference-2 : tie.Need-sub-difference-2
-sub-difference-2 c = larger c .0
+-- κ
+abbrev kappa : tie.Start → ℕ
+kappa s = s .args .sb + bitLength (natAbs (s .args .v))
 
-room : (c : tie.After-exponent) → natAbs (c .before .args .v) * 2 ^ (30 - c .exponent .result) ≤ 2 ^ 29
-room c = rw (c .exponent .ensures) (c .before .pre .room)
+kappa-most : (c : tie.Then1) → kappa (c .before) ≤ c .before .args .xi
+kappa-most c = omega (arith, length-most (c .before .pre), c .if1 .taken)
+
+room : (c : tie.Then1) → natAbs (c .before .args .v) * 2 ^ (30 - c .before .args .xi) ≤ 2 ^ 29
+room c = rw (← exponent-kept (c .before .args .xi) (kappa (c .before)) (kappa-most c)) (comparable (c .before .pre) .room)
 
 difference-requires : tie.Need-difference-requires
 difference-requires c κs =
-    simp (toZ-ofZ (c .before .fits .v), toZ-ofZ (c .before .fits .y)) (c .before .pre .y-small, omega arith, room c)
+    simp (toZ-ofZ (c .before .fits .v), toZ-ofZ (c .before .fits .y)) (c .before .pre .y-small, omega arith, omega arith, room c)
 
--- the difference at the larger exponent is the error
-found : (c : tie.After-difference) → c .difference .result ≡ error (c .before .before .args .v) (c .before .before .args .y) (c .before .before .args .xi) (c .before .before .args .kappa)
-found c =
-    let a = c .before .before .args in
-    c .difference .ensures ∙ (simp (toZ-ofZ (c .before .before .fits .v), toZ-ofZ (c .before .before .fits .y)))
-    ∙ ap (λ (θ : ℕ). raise (a .v) (30 - θ) -ℤ cut (a .y) (θ - a .xi)) (c .before .exponent .ensures) ∙ sym (error-form (a .v) (a .y) (a .xi) (a .kappa))
+cast-signed-bit-length : tie.Need-cast-signed-bit-length
+cast-signed-bit-length c = simp (toZ-ofZ (c .before .fits .v)) (sfits-widen tt (c .before .fits .v))
+
+signed-bit-length-requires : tie.Need-signed-bit-length-requires
+signed-bit-length-requires c κs = search needs
+
+length-is : (c : tie.After-signed-bit-length) → c .signed-bit-length .result ≡ bitLength (natAbs (c .before .before .args .v))
+length-is c =
+    c .signed-bit-length .ensures ∙ simp (toZ-ofZ (c .before .before .fits .v), toZ-ofZ {w = w64} (sfits-widen tt (c .before .before .fits .v)))
+
+add-compared : tie.Need-add-compared
+add-compared c = record { fits = omega (arith, length-is c, comparable (c .before .before .pre) .κ-most) }
+
+compared-requires : tie.Need-compared-requires
+compared-requires c κs =
+    simp (toZ-ofZ (c .before .before .fits .v), toZ-ofZ (c .before .before .fits .y), length-is c) (comparable (c .before .before .pre))
 
 returns : tie.Need-returns
-returns c = (kept w32 (c .difference .result) (c .difference .ok) ∙ found c, c .before .exponent .ensures)
+returns c =
+    let s = c .before .before in (
+      kept w32 (c .difference .result) (c .difference .ok) ∙ c .difference .ensures
+          ∙ simp (toZ-ofZ (s .fits .v), toZ-ofZ (s .fits .y)) (sym (error-kept (s .args .v) (s .args .y) (s .args .xi) (kappa s) (kappa-most (c .before)))),
+      sym (exponent-kept (s .args .xi) (kappa s) (kappa-most (c .before))),
+    )
+
+returns-2 : tie.Need-returns-2
+returns-2 c =
+    let s = c .before .before .before in
+    let e = length-is (c .before) in (
+      c .compared .ensures .0 ∙ simp (toZ-ofZ (s .fits .v), toZ-ofZ (s .fits .y), e),
+      c .compared .ensures .1 ∙ simp e,
+    )
 
 pub error-spec : {M : Type 1} → statement M
 error-spec =
     tie.close
-    (tie.spec exponent-requires sub-difference sub-difference-2 difference-requires returns)
+    (tie.spec
+    add-if1
+    add-if1-2
+    sub-difference
+    difference-requires
+    cast-signed-bit-length
+    signed-bit-length-requires
+    add-compared
+    compared-requires
+    returns
+    returns-2)

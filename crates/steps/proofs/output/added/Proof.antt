@@ -1,48 +1,64 @@
--- The cut never grows the second sum, so both together fit 32 bits.
-use mathlib.Core.Path.{_≡_, ap, _∙_}
+-- Neither part grows beyond 2^28, so both together fit 32 bits.
+use mathlib.Core.Path.{_≡_, ap, ap₂, _∙_}
 use Prim.Native.Nat.{_^_, _<_}
 use native.Mathlib.Omega.{arith}
 use lib.IntN.{ℤ, natAbs, _+ℤ_}
-use mir.Syntax.{w32, w64}
+use mir.Syntax.{w32}
 use mir.Val.{SFits}
-use mir.Facts.{toZ-ofZ, sfits-widen}
+use mir.Facts.{toZ-ofZ}
 use borrow.Author.Needs.{needs}
 use Rattle.laws.specs.Integers.{abs-add}
 use Rattle.laws.specs.Machine.{kept, fits-abs}
-use Rattle.numbers.specs.Cut.{cut}
-use Rattle.numbers.proofs.CutLaws.{cut-le}
+use Rattle.numbers.specs.Cut.{cut, raise}
+use Rattle.numbers.proofs.CutLaws.{cut-le, cut-most, raise-abs}
 use Rattle.steps.proofs.output.added.Statement.{statement}
 use Rattle.steps.proofs.output.added.Tie as tie
 
-cast-cut : tie.Need-cast-cut
-cast-cut c = simp (toZ-ofZ (c .fits .b)) (sfits-widen tt (c .fits .b))
+near-requires : tie.Need-near-requires
+near-requires c κs = search needs
 
-cut-requires : tie.Need-cut-requires
-cut-requires c κs = search needs
+cut32-requires : tie.Need-cut32-requires
+cut32-requires c κs = search needs
 
-gave : (c : tie.After-cut) → c .cut .result ≡ cut (c .before .args .b) (c .before .args .places)
-gave c = c .cut .ensures ∙ simp (toZ-ofZ (c .before .fits .b), toZ-ofZ {w = w64} (sfits-widen tt (c .before .fits .b)))
+raise32-requires : tie.Need-raise32-requires
+raise32-requires c κs =
+    let s = c .before .before in
+    simp (toZ-ofZ (s .fits .h)) (omega (arith, s .pre .1, s .pre .2))
 
-small : (c : tie.After-cut) → natAbs (c .cut .result) < 2 ^ 28
-small c = omega (arith, ap natAbs (gave c), cut-le (c .before .args .b) (c .before .args .places), c .before .pre .1)
+-- 31 places leave nothing of a sum
+gave : (c : tie.After-cut32) → c .cut32 .result ≡ cut (c .before .before .args .f) (c .before .before .args .down)
+gave c =
+    let s = c .before .before in
+    c .cut32 .ensures
+    ∙ ap₂ cut (toZ-ofZ (s .fits .f)) (c .before .near .ensures)
+    ∙ cut-most (s .args .f) (s .args .down) 31 (omega (arith, s .pre .0))
 
-narrow : (c : tie.After-cut) → SFits w32 (c .cut .result)
-narrow c = fits-abs (c .cut .result) (omega (arith, small c))
+raised : (c : tie.After-raise32) → c .raise32 .result ≡ raise (c .before .before .before .args .h) (c .before .before .before .args .up)
+raised c = c .raise32 .ensures ∙ simp (toZ-ofZ (c .before .before .before .fits .h))
 
-cast-result : tie.Need-cast-result
-cast-result c = simp (kept w64 (c .cut .result) (c .cut .ok)) (narrow c)
+small : (c : tie.After-raise32) → natAbs (c .before .cut32 .result +ℤ c .raise32 .result) < 2 ^ 31
+small c =
+    let s = c .before .before .before in
+    omega (
+      arith,
+      abs-add (c .before .cut32 .result) (c .raise32 .result),
+      ap natAbs (gave (c .before)),
+      cut-le (s .args .f) (s .args .down),
+      ap natAbs (raised c) ∙ raise-abs (s .args .h) (s .args .up),
+      s .pre .0,
+      s .pre .2,
+    )
 
-sum-fits : (c : tie.After-cut) → SFits w32 (c .before .args .a +ℤ c .cut .result)
-sum-fits c =
-    fits-abs (c .before .args .a +ℤ c .cut .result) (omega (arith, abs-add (c .before .args .a) (c .cut .result), small c, c .before .pre .0))
+fits : (c : tie.After-raise32) → SFits w32 (c .before .cut32 .result +ℤ c .raise32 .result)
+fits c = fits-abs (c .before .cut32 .result +ℤ c .raise32 .result) (small c)
 
 add-result : tie.Need-add-result
-add-result c = simp (toZ-ofZ (c .before .fits .a), kept w64 (c .cut .result) (c .cut .ok), toZ-ofZ (narrow c)) (sum-fits c)
+add-result c = simp (kept w32 (c .before .cut32 .result) (c .before .cut32 .ok), kept w32 (c .raise32 .result) (c .raise32 .ok)) (fits c)
 
 returns : tie.Need-returns
 returns c =
-    simp (toZ-ofZ (c .before .fits .a), kept w64 (c .cut .result) (c .cut .ok), toZ-ofZ (narrow c), toZ-ofZ (sum-fits c))
-    (ap (λ (x : ℤ). c .before .args .a +ℤ x) (gave c))
+    simp (kept w32 (c .before .cut32 .result) (c .before .cut32 .ok), kept w32 (c .raise32 .result) (c .raise32 .ok), toZ-ofZ (fits c))
+    (ap₂ (λ (x y : ℤ). x +ℤ y) (gave (c .before)) (raised c))
 
 pub added-spec : {M : Type 1} → statement M
-added-spec = tie.close (tie.spec cast-cut cut-requires cast-result add-result returns)
+added-spec = tie.close (tie.spec near-requires cut32-requires raise32-requires add-result returns)

@@ -1,72 +1,79 @@
--- Each arm is one arm of the definition.
-use mathlib.Core.Path.{_∙_}
-use Prim.Native.Nat.{_+_}
+-- The definition with both sums at the larger exponent.
+use mathlib.Core.Path.{sym, _∙_}
+use Prim.Native.Nat.{_+_, _*_, _-_, _^_, _≤_, _<_}
+use native.Mathlib.Omega.{arith}
+use native.Mathlib.Nat.{max-le, le-max-left, le-max-right, mul-le-mul-left}
+use lib.IntN.{natAbs}
 use mir.Syntax.{w32}
 use mir.Facts.{toZ-ofZ}
 use borrow.Author.Needs.{needs}
-use borrow.Author.Tests.{lt-ltb, le-ltb}
 use Rattle.laws.specs.Machine.{kept}
-use Rattle.steps.specs.Output.{output, outputExponent}
+use Rattle.laws.specs.Powers.{rises}
+use Rattle.steps.proofs.OutputLaws.{output-raised, output-exponent-form}
 use Rattle.steps.proofs.output.output.Statement.{statement}
 use Rattle.steps.proofs.output.output.Tie as tie
 
-add-if1 : tie.Need-add-if1
-add-if1 c = search needs
+add-larger : tie.Need-add-larger
+add-larger c = search needs
 
-add-added : tie.Need-add-added
-add-added c = search needs
+larger-requires : tie.Need-larger-requires
+larger-requires c κs = search needs
+
+between : (c : tie.After-larger) → (c .before .args .g ≤ c .larger .result) × (c .before .args .nu + 30 ≤ c .larger .result) × (c .larger .result ≤ 39)
+between c =
+    let a = c .before .args in
+    omega (
+      arith,
+      c .larger .ensures,
+      le-max-left (a .g) (a .nu + 30),
+      le-max-right (a .g) (a .nu + 30),
+      max-le {a = a .g} {b = a .nu + 30} {k = 39} (c .before .pre .g-most) (omega (arith, c .before .pre .ν-most)),
+    )
 
 sub-added : tie.Need-sub-added
-sub-added c = search needs
-
-added-requires : tie.Need-added-requires
-added-requires c κs = search needs
-
-add-t12 : tie.Need-add-t12
-add-t12 c = search needs
-
-sub-t13 : tie.Need-sub-t13
-sub-t13 c = search needs
-
-add-added-2 : tie.Need-add-added-2
-add-added-2 c = search needs
+sub-added c = omega (arith, between c)
 
 sub-added-2 : tie.Need-sub-added-2
-sub-added-2 c = search needs
+sub-added-2 c = omega (arith, between c)
 
-added-requires-2 : tie.Need-added-requires-2
-added-requires-2 c κs = search needs
+room : (c : tie.After-larger) → natAbs (c .before .args .h) * 2 ^ (45 - c .larger .result) < 2 ^ 28
+room c =
+    let a = c .before .args in
+    omega (
+      arith,
+      mul-le-mul-left (natAbs (a .h)) (rises {a = 45 - c .larger .result} {b = 15 - a .nu} (omega (arith, between c))),
+      c .before .pre .h-small,
+    )
 
-add-t17 : tie.Need-add-t17
-add-t17 c = search needs
+added-requires : tie.Need-added-requires
+added-requires c κs =
+    simp (toZ-ofZ (c .before .fits .f), toZ-ofZ (c .before .fits .h)) (c .before .pre .f-small, omega (arith, between c), room c)
+
+add-t10 : tie.Need-add-t10
+add-t10 c = record { fits = omega (arith, between (c .before), c .before .before .pre .ψ-most) }
+
+sub-t11 : tie.Need-sub-t11
+sub-t11 c = omega (arith, between (c .before))
 
 returns : tie.Need-returns
-unfolding output outputExponent
 returns c =
     let s = c .before .before in
-    let t = lt-ltb (s .args .nu + 30) (s .args .g) (c .before .if1 .taken) in
-    (kept w32 (c .added .result) (c .added .ok) ∙ c .added .ensures ∙ simp (toZ-ofZ (s .fits .f), toZ-ofZ (s .fits .h), t), simp t)
-
-returns-2 : tie.Need-returns-2
-unfolding output outputExponent
-returns-2 c =
-    let s = c .before .before in
-    let t = le-ltb (s .args .nu + 30) (s .args .g) (c .before .if1 .left) in
-    (kept w32 (c .added2 .result) (c .added2 .ok) ∙ c .added2 .ensures ∙ simp (toZ-ofZ (s .fits .f), toZ-ofZ (s .fits .h), t), simp t)
+    let a = s .args in (
+      kept w32 (c .added .result) (c .added .ok) ∙ c .added .ensures
+          ∙ simp (toZ-ofZ (s .fits .f), toZ-ofZ (s .fits .h), c .before .larger .ensures)
+          (sym (output-raised (a .f) (a .h) (a .g) (a .nu) (omega (arith, s .pre .g-most)) (omega (arith, s .pre .ν-most)))),
+      omega (arith, c .before .larger .ensures, output-exponent-form (a .psi) (a .g) (a .nu)),
+    )
 
 pub output-spec : {M : Type 1} → statement M
 output-spec =
     tie.close
     (tie.spec
-    add-if1
-    add-added
+    add-larger
+    larger-requires
     sub-added
-    added-requires
-    add-t12
-    sub-t13
-    add-added-2
     sub-added-2
-    added-requires-2
-    add-t17
-    returns
-    returns-2)
+    added-requires
+    add-t10
+    sub-t11
+    returns)

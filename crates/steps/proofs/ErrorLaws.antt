@@ -1,0 +1,49 @@
+-- Laws of the error: where ξ is no smaller than κ, and the room for v·2^(30−θ).
+use mathlib.Core.Path.{_≡_, sym, ap, _∙_}
+use Prim.Native.Nat.{ℕ, _+_, _*_, _-_, _^_, _≤_}
+use native.Mathlib.Omega.{arith}
+use native.Mathlib.Nat.{le-max-left, mul-le-mul-left}
+use borrow.Author.Tests.{le-ltb}
+use lib.IntN.{ℤ, natAbs, _-ℤ_}
+use Rattle.laws.specs.Powers as Powers
+use Rattle.laws.specs.Powers.{rises}
+use Rattle.numbers.specs.BitLength.{bitLength}
+use Rattle.numbers.specs.Cut.{cut, raise}
+use Rattle.numbers.proofs.CutLaws.{cut-none}
+use Rattle.numbers.proofs.BitLengthLaws.{bit-length-le, bit-length-above}
+use Rattle.steps.specs.Error.{error, errorExponent}
+use Rattle.steps.specs.Sound.{Missable, Comparable}
+use Rattle.steps.proofs.OutputLaws.{error-exponent-form}
+
+pub exponent-kept : (ξ κ : ℕ) → κ ≤ ξ → errorExponent ξ κ ≡ ξ
+unfolding errorExponent
+exponent-kept ξ κ h = simp (le-ltb ξ κ h)
+
+pub error-kept : (v Y : ℤ) (ξ κ : ℕ) → κ ≤ ξ → error v Y ξ κ ≡ raise v (30 - ξ) -ℤ cut Y 0
+unfolding error
+error-kept v Y ξ κ h = simp (le-ltb ξ κ h) (ap (λ (x : ℤ). raise v (30 - ξ) -ℤ x) (sym (cut-none Y)))
+
+pub length-most : {r s ξ : ℕ} {v y : ℤ} → Missable r s v y ξ → bitLength (natAbs v) ≤ r + 1
+length-most {r} {s} {ξ} {v} m = bit-length-le (natAbs v) (r + 1) (m .v-small)
+
+-- θ is at least the bit length and one
+pub comparable : {r s ξ : ℕ} {v y : ℤ} → Missable r s v y ξ → Comparable v y ξ (s + bitLength (natAbs v))
+comparable {r} {s} {ξ} {v} {y} m = record {
+  y-small = m .y-small;
+  ξ-most = omega (arith, m .ξ-most);
+  κ-most = omega (arith, length-most m, m .r-most, m .scale-most);
+  room = room;
+}
+  where
+    room : natAbs v * 2 ^ (30 - errorExponent ξ (s + bitLength (natAbs v))) ≤ 2 ^ 29
+    room =
+        let n = bitLength (natAbs v) in
+        let x = errorExponent ξ (s + n) in
+        let lower : 2 ^ (30 - x) ≤ 2 ^ (30 - (s + n)) = rises (omega (arith, error-exponent-form ξ (s + n), le-max-left (s + n) ξ)) in
+        let top : 2 ^ (30 - s) ≤ 2 ^ 29 = rises {a = 30 - s} {b = 29} (omega (arith, m .scale-least)) in
+        omega (
+          arith,
+          mul-le-mul-left (natAbs v) lower,
+          Powers.raise (natAbs v) (30 - s) n (30 - (s + n)) (omega (arith, length-most m, m .r-most, m .scale-most)) (bit-length-above (natAbs v)),
+          top,
+        )
