@@ -1,5 +1,5 @@
 -- Laws of the error: where ξ is no smaller than κ, and the room for v·2^(30−θ).
-use mathlib.Core.Path.{_≡_, sym, ap, _∙_}
+use mathlib.Core.Path.{_≡_, sym, ap}
 use Prim.Native.Nat.{ℕ, _+_, _*_, _-_, _^_, _≤_}
 use native.Mathlib.Omega.{arith}
 use native.Mathlib.Nat.{le-max-left, mul-le-mul-left}
