@@ -1,5 +1,5 @@
 -- Laws for the functions of a sample.
-use mathlib.Core.Path.{_≡_, _∙_, subst₂}
+use mathlib.Core.Path.{_≡_, _∙_, subst, subst₂}
 use mathlib.Core.Bool.{true, false, _&&_}
 use mathlib.Core.List.{List}
 use Prim.Native.Nat.{ℕ, _+_, _*_, _-_, _^_, _≤_, _<_}
@@ -20,6 +20,7 @@ use Rattle.steps.proofs.SymbolLaws.{symbol-below, decide-symbol, chosen-symbol}
 use Rattle.steps.proofs.DecisionLaws.{symbol-most}
 use Rattle.steps.proofs.OutputLaws.{error-exponent-form}
 use Rattle.steps.specs.Side.{allSmall, halved}
+use Rattle.filter.specs.Sample.{Taps}
 use Rattle.filter.specs.Calls.{Settled-is, Taken-is, chosen, tapsOf}
 use Rattle.filter.specs.declared.sample.Taken.{Taken}
 
@@ -76,3 +77,7 @@ past-kept l v = past (set l 0 v) ∙ drop-set-lt 1 l 0 v (omega arith)
 pub taken-of : {k : Settings} {g ψ : ℕ} {f b w w₀ y y₀ : List ℤ} {x x₀ : ℤ} {r : Taken} {f′ b′ y′ : List ℤ} → w ≡ w₀ → y ≡ y₀ → x ≡ x₀ →
     Taken-is k g (tapsOf f b w y ψ) x r f′ b′ y′ → Taken-is k g (tapsOf f b w₀ y₀ ψ) x₀ r f′ b′ y′
 taken-of e d h t = rw (e, d, h) at t
+
+-- with equal symbols after it
+pub taken-put : {k : Settings} {g : ℕ} {t : Taps} {x : ℤ} {r : Taken} {f′ b′ y y′ : List ℤ} → y ≡ y′ → Taken-is k g t x r f′ b′ y → Taken-is k g t x r f′ b′ y′
+taken-put {k = k} {g = g} {t = t} {x = x} {r = r} {f′ = f′} {b′ = b′} e h = subst (λ (l : List ℤ). Taken-is k g t x r f′ b′ l) e h
