@@ -4,6 +4,7 @@ pub mod ReceivedLaws
 pub mod BlockExponents
 pub mod BlockStored
 pub mod BlockWindow
+pub mod LineLaws
 pub mod BlockNear
 pub mod BlockSound
 pub mod RunStart

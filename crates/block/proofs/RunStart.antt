@@ -1,11 +1,10 @@
 -- The run of a block before its first sample: what the calls ask, and what they promise by the definitions.
-use mathlib.Core.Path.{_≡_, sym, ap, _∙_}
+use mathlib.Core.Path.{_≡_, sym, ap, ap₂, _∙_}
 use mathlib.Core.List.{List, [], _∷_, _++_, map, map-append}
-use Prim.Native.Nat.{ℕ, _+_, _*_, _-_, _≤_, _<_}
+use Prim.Native.Nat.{ℕ, zero, suc, _+_, _*_, _-_, _≤_, _<_}
 use native.Mathlib.Omega.{arith}
 use native.Mathlib.Nat.{mul-le-mul}
-use lib.ListN.{length, getD, take, length-append}
-use lib.Seq.{getD-take}
+use lib.ListN.{length, getD, take, drop, length-append, length-map}
 use lib.IntN.{ℤ, pos}
 use mir.Syntax.{w64}
 use mir.Val.{Fits}
@@ -15,12 +14,16 @@ use Rattle.numbers.proofs.CutLaws.{rescale-zero}
 use Rattle.steps.specs.Settings.{Settings, scaleForward, scaleBack}
 use Rattle.block.specs.Block.{Block, Memory, receivedAll, newb, newB, g, stored, old, start, after}
 use Rattle.block.specs.Sound.{Receivable, Storable}
-use Rattle.filter.specs.Calls.{tapsOf}
+use Rattle.steps.specs.Side.{push}
+use Rattle.filter.specs.Sample.{next}
+use Rattle.block.specs.Line.{newest, Lined}
 use Rattle.block.specs.Calls.{Runnable, Startable, Begun-is}
 use Rattle.block.specs.declared.run.Begun.{Begun}
 use Rattle.filter.proofs.SampleSides.{scale-most}
 use Rattle.block.proofs.BlockExponents.{newB-most}
 use Rattle.block.proofs.BlockStored.{receivable, received-storable, old-storable}
+use Rattle.block.proofs.BlockWindow.{after-length}
+use Rattle.block.proofs.LineLaws.{newest-next}
 
 module _ {k : Settings} {o : Memory} {i : Block} {window₀ : List ℤ} (run : Runnable k o i window₀) where
   pub lent-long : length window₀ ≡ k .p
@@ -34,6 +37,11 @@ module _ {k : Settings} {o : Memory} {i : Block} {window₀ : List ℤ} (run : R
     was-most = omega (arith, run .sound .b-most, run .sound .B-most);
     receivable = receivable k o i (run .acceptable);
   }
+
+-- a line that has the samples as the weights meet them
+pub record Line-is (k : Settings) (o : Memory) (i : Block) (line : List ℤ) : Type 0 where
+  pub long : length line ≡ 144
+  pub windows : (n : ℕ) → n ≤ k .N → newest (k .p) n line ≡ after k o i n .samples
 
 -- the numbers of a block by the definitions
 pub record Begun-as (k : Settings) (o : Memory) (i : Block) (r : Begun) : Type 0 where
@@ -63,12 +71,15 @@ module _ {k : Settings} {o : Memory} {i : Block} {r : Begun} (b : Begun-as k o i
         ))
 
     -- then it has the old samples at the new exponent
-    pub window-rescaled : (window : List ℤ) → window ≡ map (λ (a : ℤ). rescale a (o .B) (r .big)) window₀ → tapsOf (o .forward) (o .back) window (o .symbols) (o .ψ) ≡ after k o i 0
+    pub window-rescaled : (window : List ℤ) → window ≡ map (λ (a : ℤ). rescale a (o .B) (r .big)) window₀ → window ≡ after k o i 0 .samples
     unfolding after start old
-    window-rescaled window e = ap (λ (w : List ℤ). tapsOf (o .forward) (o .back) w (o .symbols) (o .ψ)) (
+    window-rescaled window e =
         e ∙ rw (run .window-is, b .big-as) (
         map-append (λ (a : ℤ). rescale a (o .B) (newB k o i)) (o .samples) (pos 0 ∷ [])
-        ∙ ap (λ (z : ℤ). map (λ (a : ℤ). rescale a (o .B) (newB k o i)) (o .samples) ++ (z ∷ [])) (rescale-zero (o .B) (newB k o i))))
+        ∙ ap (λ (z : ℤ). map (λ (a : ℤ). rescale a (o .B) (newB k o i)) (o .samples) ++ (z ∷ [])) (rescale-zero (o .B) (newB k o i)))
+
+    pub window-most : (window : List ℤ) → window ≡ map (λ (a : ℤ). rescale a (o .B) (r .big)) window₀ → length window ≤ 16
+    window-most window e = omega (arith, ap length e ∙ length-map window₀ _ ∙ lent-long run, run .sound .within .p-most)
 
     pub places-most : r .big + r .s ≤ 36
     places-most = omega (arith, b .big-as, b .s-as, newB-most k o i (run .sound) (run .acceptable), scale-most (k .p) (run .sound .within .p-most))
@@ -81,13 +92,26 @@ module _ {k : Settings} {o : Memory} {i : Block} {r : Begun} (b : Begun-as k o i
       rw (b .big-as, b .s-as) (received-storable k o i (run .sound) (run .acceptable)),
     )
 
-    -- then they stand in the first places of the work area
-    pub stored-in : (l : List ℤ) → take (length (i .samples)) l ≡ map (λ (x : ℤ). rescale x 15 (r .big + r .s)) (receivedAll (i .samples) (i .gains)) →
-        (n : ℕ) → n < k .N → getD l n (pos 0) ≡ getD (stored k o i) n (pos 0)
-    unfolding stored
-    stored-in l e n h =
-        sym (getD-take (length (i .samples)) l n (pos 0) (omega (arith, run .acceptable .samples-long)))
-        ∙ ap (λ (t : List ℤ). getD t n (pos 0)) (e ∙ ap (λ (m : ℕ). map (λ (x : ℤ). rescale x 15 m) (receivedAll (i .samples) (i .gains))) (omega (arith, b .big-as, b .s-as)))
+    -- then they stand in the line
+    module _ {window line : List ℤ} (e : window ≡ map (λ (a : ℤ). rescale a (o .B) (r .big)) window₀)
+        (h : Lined (map (λ (x : ℤ). rescale x 15 (r .big + r .s)) (receivedAll (i .samples) (i .gains))) (length (i .samples)) window line) where
+      stored-in : (n : ℕ) → n < k .N → getD line (127 - n) (pos 0) ≡ getD (stored k o i) n (pos 0)
+      unfolding stored
+      stored-in n l =
+          h .new-at n (omega (arith, run .acceptable .samples-long))
+          ∙ ap (λ (m : ℕ). getD (map (λ (x : ℤ). rescale x 15 m) (receivedAll (i .samples) (i .gains))) n (pos 0)) (omega (arith, b .big-as, b .s-as))
+
+      windows : (n : ℕ) → n ≤ k .N → newest (k .p) n line ≡ after k o i n .samples
+      unfolding after next
+      windows zero l =
+          let first = window-rescaled window e in
+          ap (λ (m : ℕ). take m (drop 128 line)) (sym (ap length first ∙ after-length k o i (run .sound .within .p-least) (run .sound .samples-long) 0)) ∙ h .old-are ∙ first
+      windows (suc n) l =
+          newest-next (k .p) n line (h .long) (omega (arith, run .sound .within .N-most)) (run .sound .within .p-most)
+          ∙ ap₂ (λ (x : ℤ) (w : List ℤ). push x w) (stored-in n l) (windows n (omega arith))
+
+      pub line-is : Line-is k o i line
+      line-is = record { long = h .long; windows = windows }
 
 -- ---- place n of a work area
 

@@ -2,12 +2,15 @@
 use mathlib.Core.Path.{_≡_}
 use mathlib.Core.Bool.{true}
 use mathlib.Core.List.{List, [], _∷_, _++_}
-use Prim.Native.Nat.{ℕ, _+_, _-_, _≤_, max}
+use Prim.Native.Nat.{ℕ, suc, _+_, _-_, _≤_, _<_, max}
 use lib.ListN.{length, take}
 use lib.IntN.{ℤ, pos}
 use Rattle.numbers.specs.BitLength.{bitLength}
 use Rattle.steps.specs.Settings.{Settings, Within, scaleForward, scaleBack}
 use Rattle.steps.specs.Side.{largest, magnitudes}
+use Rattle.filter.specs.Sample.{Taps}
+use Rattle.filter.specs.Calls.{Ready, tapsOf}
+use Rattle.block.specs.Line.{newest}
 use Rattle.block.specs.Block.{Block, Memory, receivedAll, newb, newB, after, goes, handedY, handedξ, handedDecision, handedZ, handedθ}
 use Rattle.block.specs.Sound.{Sound, Acceptable, Receivable}
 use Rattle.block.specs.declared.run.Begun.{Begun}
@@ -35,6 +38,16 @@ pub record Begun-is (k : Settings) (was : ℕ) (m : List ℤ) (gains : List ℕ)
   pub b : r .b ≡ blockLength m gains
   pub big : r .big ≡ max (blockLength m gains) was
   pub exponent : r .g ≡ k .r + max (blockLength m gains) was + scaleForward k
+
+-- the taps at sample n, on the lines of stored samples and of symbols
+abbrev pub tapsAt : Settings → ℕ → List ℤ → List ℤ → List ℤ → List ℤ → ℕ → Taps
+tapsAt k n forward back line marks ψ = tapsOf forward back (newest (k .p) (suc n) line) (newest (k .q) n marks) ψ
+
+pub record Advanceable (k : Settings) (e : Begun) (n : ℕ) (entry : ℤ) (line marks : List ℤ) (t : Taps) : Type 0 where
+  pub room : n < 128
+  pub line-long : length line ≡ 144
+  pub marks-long : length marks ≡ 144
+  pub ready : Ready k (e .s) (e .sb) (e .g) t entry
 
 pub record Runnable (k : Settings) (o : Memory) (i : Block) (window : List ℤ) : Type 0 where
   pub sound : Sound k o

@@ -2,4 +2,5 @@ pub mod Block
 pub mod Sound
 pub mod Stored
 pub mod Holds
+pub mod Line
 pub mod Calls

@@ -1,9 +1,9 @@
 // One block.
 ghost use mathlib.Core.Path.{_≡_};
-ghost use Prim.Native.Nat.{max};
-ghost use Rattle.steps.specs.Side.{push};
-ghost use Rattle.filter.specs.Calls.{settingsOf, Ready, Advanced-is, tapsOf};
-ghost use Rattle.block.specs.Calls.{blockOf, memoryOf, Begun-is, Startable, Runnable, Ran-is};
+ghost use Prim.Native.Nat.{suc, max};
+ghost use Rattle.filter.specs.Calls.{settingsOf, Taken-is};
+ghost use Rattle.block.specs.Line.{newest};
+ghost use Rattle.block.specs.Calls.{blockOf, memoryOf, Begun-is, Startable, tapsAt, Advanceable, Runnable, Ran-is};
 use filter::sample::Settings;
 use filter::sample::Taken;
 
@@ -59,22 +59,24 @@ fn wide(x: i8) -> i16
     x as i16
 }
 
-// The next stored sample enters the window, and the sample is taken.
+// Sample n, on the lines of stored samples and of symbols.
 fn advance(
     k: Settings,
     e: Begun,
     psi: u32,
-    a: i16,
+    n: usize,
     entry: i8,
     forward: &mut [i16],
     back: &mut [i16],
-    samples: &mut [i16],
-    symbols: &mut [i16],
+    line: &[i16],
+    marks: &mut [i16],
 ) -> Taken
-    requires { ⌜ Ready (settingsOf k) (e .s) (e .sb) (e .g) (tapsOf (now forward) (now back) (push a (now samples)) (now symbols) psi) entry ⌝ }
-    ensures { λ r. ⌜ Advanced-is (settingsOf k) (e .g) (tapsOf (now (forward .entry)) (now (back .entry)) (push a (now (samples .entry))) (now (symbols .entry)) psi) entry r (now (forward .exit)) (now (back .exit)) (now (samples .exit)) (now (symbols .exit)) ⌝ }
+    requires { ⌜ Advanceable (settingsOf k) e n entry (now line) (now marks) (tapsAt (settingsOf k) n (now forward) (now back) (now line) (now marks) psi) ⌝ }
+    ensures { λ r. ⌜ Taken-is (settingsOf k) (e .g) (tapsAt (settingsOf k) n (now (forward .entry)) (now (back .entry)) (now (line .entry)) (now (marks .entry)) psi) entry r (now (forward .exit)) (now (back .exit)) (newest (suc (k .q)) (suc n) (now (marks .exit))) ⌝ }
 {
-    steps::side::push(samples, a);
+    let first = 127 - n;
+    let oldest = first + (k.p as usize);
+    let last = first + (k.q as usize) + 1;
     filter::sample::step(
         k,
         e.s,
@@ -84,8 +86,8 @@ fn advance(
         wide(entry),
         forward,
         back,
-        samples,
-        symbols,
+        &line[first..oldest],
+        &mut marks[first..last],
     )
 }
 
@@ -108,7 +110,8 @@ pub fn run(
 {
     let e = begin(k, b, m, gains);
     super::stored::rescale_all(samples, big, e.big);
-    let stored = super::stored::store(m, gains, e.big + e.s);
+    let line = super::stored::store(m, gains, e.big + e.s, samples);
+    let mut marks = super::line::start(symbols);
     let mut y = [0i32; 128];
     let mut xi = [0u8; 128];
     let mut decision = [0i8; 128];
@@ -117,17 +120,7 @@ pub fn run(
     let mut at = psi;
     let mut n: usize = 0;
     while n < m.len() {
-        let t = advance(
-            k,
-            e,
-            at,
-            stored[n],
-            entries[n],
-            forward,
-            back,
-            samples,
-            symbols,
-        );
+        let t = advance(k, e, at, n, entries[n], forward, back, &line, &mut marks);
         at = t.psi;
         if 15 < at {
             return Ran {
@@ -152,6 +145,8 @@ pub fn run(
         theta[n] = t.theta;
         n += 1;
     }
+    super::line::newest(&line, n, samples);
+    super::line::newest(&marks, n, symbols);
     Ran {
         done: true,
         psi: at,

@@ -2,12 +2,13 @@
 ghost use mathlib.Core.Path.{_≡_};
 ghost use mathlib.Core.List.{map};
 ghost use Prim.Native.Nat.{_<_, _≤_};
-ghost use lib.ListN.{length, getD, take};
+ghost use lib.ListN.{length, getD};
 ghost use lib.IntN.{ℤ, pos};
 ghost use Rattle.laws.specs.Sums.{Each};
 ghost use Rattle.numbers.specs.Cut.{rescale};
 ghost use Rattle.steps.specs.Side.{largest, magnitudes};
 ghost use Rattle.block.specs.Block.{received, receivedAll};
+ghost use Rattle.block.specs.Line.{Lined};
 ghost use Rattle.block.specs.Sound.{Receivable, Storable};
 
 // X = m·2^(15−g).
@@ -51,18 +52,18 @@ fn restored(z: i64, i: u32, j: u32) -> i16
     numbers::cut::rescale(z, i, j) as i16
 }
 
-// The stored samples of a block, in the first places of a work area.
-pub fn store(m: &[i16], gains: &[u8], places: u32) -> [i16; 128]
-    requires { ⌜ (Receivable (now m) (now gains)) × (length (now m) ≤ 128) × (Each (Storable 15 places) (receivedAll (now m) (now gains))) ⌝ }
-    ensures { λ r. ⌜ take (length (now (m .entry))) r ≡ map (λ (x : ℤ). rescale x 15 places) (receivedAll (now (m .entry)) (now (gains .entry))) ⌝ }
+// The line of stored samples: those of a block, and the old ones.
+pub fn store(m: &[i16], gains: &[u8], places: u32, old: &[i16]) -> [i16; 144]
+    requires { ⌜ (Receivable (now m) (now gains)) × (length (now m) ≤ 128) × (Each (Storable 15 places) (receivedAll (now m) (now gains))) × (length (now old) ≤ 16) ⌝ }
+    ensures { λ r. ⌜ Lined (map (λ (x : ℤ). rescale x 15 places) (receivedAll (now (m .entry)) (now (gains .entry)))) (length (now (m .entry))) (now (old .entry)) r ⌝ }
 {
-    let mut out = [0i16; 128];
+    let mut line = super::line::start(old);
     let mut i: usize = 0;
     while i < m.len() {
-        out[i] = restored(received_at(m, gains, i), 15, places);
+        line[127 - i] = restored(received_at(m, gains, i), 15, places);
         i += 1;
     }
-    out
+    line
 }
 
 // The old stored samples at another exponent.

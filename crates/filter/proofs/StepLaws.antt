@@ -1,6 +1,6 @@
 -- The functions of a sample, put together: each promise as the definition that it meets.
 use mathlib.Core.Path.{_≡_, sym, ap, _∙_}
-use mathlib.Core.List.{List}
+use mathlib.Core.List.{List, _∷_}
 use Prim.Native.Nat.{ℕ, _+_, _-_, _^_, _≤_, _<_}
 use native.Mathlib.Omega.{arith}
 use native.Mathlib.Nat.{add-zero}
@@ -140,11 +140,13 @@ module _ (k : Settings) (s sb g : ℕ) (t : Taps) (entry : ℤ) (r : Ready k s s
   unfolding J
   back-taught h j p q = rw (q .z-as, q .theta-as, p .nu-as, r .back-scale) (sym (S.newBack-raised k g t entry (r .fit)))
 
-  pub taken-as : (h : Heard) (j : Judged) → Heard-as h → Judged-as j → (ψ′ : ℕ) (f′ b′ y′ : List ℤ) →
-      Changed-is (k .M) s sb g (t .ψ) h j (t .forward) (t .back) (t .samples) (t .symbols) ψ′ f′ b′ y′ → (x : Taken) → x ≡ takenOf h j ψ′ → Taken-is k g t entry x f′ b′ y′
+  pub taken-as : (h : Heard) (j : Judged) → Heard-as h → Judged-as j → (ψ′ : ℕ) (f′ b′ y y′ : List ℤ) →
+      Changed-is (k .M) s sb g (t .ψ) h j (t .forward) (t .back) (t .samples) y ψ′ f′ b′ → y ≡ t .symbols → y′ ≡ j .v ∷ t .symbols → (x : Taken) → x ≡ takenOf h j ψ′ →
+      Taken-is k g t entry x f′ b′ y′
   unfolding next small
-  taken-as h j p q ψ′ f′ b′ y′ c x e =
-      let w = settled-of (forward-taught j q) (back-taught h j p q) (c .settled-is) in
+  taken-as h j p q ψ′ f′ b′ y y′ c l d x e =
+      let behind = ap (taughtBack (k .M) sb (h .nu) (t .ψ) j (t .back)) l ∙ back-taught h j p q in
+      let w = settled-of (forward-taught j q) behind c in
       record {
         y = ap (λ (z : Taken). z .y) e ∙ p .y-as;
         xi = ap (λ (z : Taken). z .xi) e ∙ p .xi-as;
@@ -154,5 +156,5 @@ module _ (k : Settings) (s sb g : ℕ) (t : Taps) (entry : ℤ) (r : Ready k s s
         psi = ap (λ (z : Taken). z .psi) e ∙ w .exponent;
         forward-is = w .ahead;
         back-is = w .behind;
-        symbols-are = c .pushed ∙ rw (q .v-as);
+        symbols-are = d ∙ ap (λ (z : ℤ). z ∷ t .symbols) (q .v-as);
       }

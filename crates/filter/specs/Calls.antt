@@ -10,11 +10,11 @@ use Rattle.laws.specs.Sums.{dot}
 use Rattle.numbers.specs.BitLength.{bitLength}
 use Rattle.numbers.specs.Cut.{cut, raise}
 use Rattle.steps.specs.Settings.{Settings, Within, isEntry, scaleForward, scaleBack}
-use Rattle.steps.specs.Side.{adapt, allSmall, push, largest, magnitudes}
+use Rattle.steps.specs.Side.{adapt, allSmall, largest, magnitudes}
 use Rattle.steps.specs.Output.{output, outputExponent}
 use Rattle.steps.specs.Decision.{decide}
 use Rattle.steps.specs.Error.{error, errorExponent}
-use Rattle.filter.specs.Sample.{Taps, settled, settledExponent, Y, ξ, decision, Z, θ, next}
+use Rattle.filter.specs.Sample.{Taps, settled, settledExponent, Y, ξ, decision, v, Z, θ, next}
 use Rattle.steps.specs.Side.{longest}
 use Rattle.filter.specs.Sound.{Fit}
 use Rattle.steps.specs.Sound.{Summable, Adaptable, Joinable}
@@ -86,7 +86,7 @@ pub record Settled-is (ψ : ℕ) (forward back : List ℤ) (ψ′ : ℕ) (forwar
   pub ahead : forward′ ≡ settled (allSmall forward && allSmall back) forward
   pub behind : back′ ≡ settled (allSmall forward && allSmall back) back
 
--- ---- steps 6 to 8
+-- ---- steps 6 and 7
 
 pub record Changeable (m s sb g ψ : ℕ) (h : Heard) (j : Judged) (forward back samples symbols : List ℤ) : Type 0 where
   pub ν-most : h .nu ≤ 9
@@ -100,9 +100,9 @@ taughtForward m s g ψ j forward samples = taught m (j .z) ψ (j .theta) s g 0 f
 abbrev pub taughtBack : ℕ → ℕ → ℕ → ℕ → Judged → List ℤ → List ℤ → List ℤ
 taughtBack m sb ν ψ j back symbols = taught m (j .z) ψ (j .theta) sb (ν + 30) (15 - ν) back symbols
 
-pub record Changed-is (m s sb g ψ : ℕ) (h : Heard) (j : Judged) (forward back samples symbols : List ℤ) (ψ′ : ℕ) (forward′ back′ symbols′ : List ℤ) : Type 0 where
-  pub settled-is : Settled-is ψ (taughtForward m s g ψ j forward samples) (taughtBack m sb (h .nu) ψ j back symbols) ψ′ forward′ back′
-  pub pushed : symbols′ ≡ push (j .v) symbols
+abbrev pub Changed-is : ℕ → ℕ → ℕ → ℕ → ℕ → Heard → Judged → List ℤ → List ℤ → List ℤ → List ℤ → ℕ → List ℤ → List ℤ → Type 0
+Changed-is m s sb g ψ h j forward back samples symbols ψ′ forward′ back′ =
+    Settled-is ψ (taughtForward m s g ψ j forward samples) (taughtBack m sb (h .nu) ψ j back symbols) ψ′ forward′ back′
 
 -- ---- the sample as a whole
 
@@ -115,6 +115,7 @@ pub record Ready (k : Settings) (s sb g : ℕ) (t : Taps) (entry : ℤ) : Type 0
   pub forward-scale : s ≡ scaleForward k
   pub back-scale : sb ≡ scaleBack k
 
+-- symbols has the new symbol before the old ones
 pub record Taken-is (k : Settings) (g : ℕ) (t : Taps) (entry : ℤ) (r : Taken) (forward back symbols : List ℤ) : Type 0 where
   pub y : r .y ≡ Y k g t entry
   pub xi : r .xi ≡ ξ k g t entry
@@ -124,9 +125,4 @@ pub record Taken-is (k : Settings) (g : ℕ) (t : Taps) (entry : ℤ) (r : Taken
   pub psi : r .psi ≡ next k g t entry .ψ
   pub forward-is : forward ≡ next k g t entry .forward
   pub back-is : back ≡ next k g t entry .back
-  pub symbols-are : symbols ≡ next k g t entry .symbols
-
--- with the window after it
-pub record Advanced-is (k : Settings) (g : ℕ) (t : Taps) (entry : ℤ) (r : Taken) (forward back samples symbols : List ℤ) : Type 0 where
-  pub taken : Taken-is k g t entry r forward back symbols
-  pub window : samples ≡ t .samples
+  pub symbols-are : symbols ≡ v k g t entry ∷ t .symbols

@@ -3,6 +3,7 @@ ghost use mathlib.Core.Path.{_≡_};
 ghost use mathlib.Core.Bool.{_&&_};
 ghost use Prim.Native.Nat.{_^_, _<_, _≤_};
 ghost use lib.IntN.{natAbs};
+ghost use lib.ListN.{drop};
 ghost use Rattle.steps.specs.Side.{allSmall};
 ghost use Rattle.filter.specs.Calls.{Audible, Heard-is, Decidable, Judged-is, chosen, Teachable, taught, Settled-is, Changeable, Changed-is, takenOf, Ready, Taken-is, settingsOf, tapsOf};
 
@@ -131,7 +132,7 @@ pub fn settle(forward: &mut [i16], back: &mut [i16], psi: u32) -> u32
     psi + 1
 }
 
-// Steps 6 to 8: the new weights and symbols, and the new ψ.
+// Steps 6 and 7: the new weights and the new ψ.
 pub fn change(
     m: u32,
     s: u32,
@@ -143,19 +144,17 @@ pub fn change(
     forward: &mut [i16],
     back: &mut [i16],
     samples: &[i16],
-    symbols: &mut [i16],
+    symbols: &[i16],
 ) -> u32
     requires { ⌜ Changeable m s sb g psi h j (now forward) (now back) (now samples) (now symbols) ⌝ }
-    ensures { λ r. ⌜ Changed-is m s sb g psi h j (now (forward .entry)) (now (back .entry)) (now (samples .entry)) (now (symbols .entry)) r (now (forward .exit)) (now (back .exit)) (now (symbols .exit)) ⌝ }
+    ensures { λ r. ⌜ Changed-is m s sb g psi h j (now (forward .entry)) (now (back .entry)) (now (samples .entry)) (now (symbols .entry)) r (now (forward .exit)) (now (back .exit)) ⌝ }
 {
     let nu = h.nu;
     let z = j.z;
     let theta = j.theta;
     learn(forward, samples, m, z, psi, theta, s, g, 0);
     learn(back, symbols, m, z, psi, theta, sb, nu + 30, 15 - nu);
-    let next = settle(forward, back, psi);
-    steps::side::push(symbols, j.v);
-    next
+    settle(forward, back, psi)
 }
 
 // What is handed out, in its final widths.
@@ -173,7 +172,7 @@ fn hand_out(h: Heard, j: Judged, psi: u32) -> Taken
     }
 }
 
-// Steps 1 to 8.
+// Steps 1 to 8. The first of the symbols is the place of the new one, which is written before the weights change.
 pub fn step(
     k: Settings,
     s: u32,
@@ -186,11 +185,25 @@ pub fn step(
     samples: &[i16],
     symbols: &mut [i16],
 ) -> Taken
-    requires { ⌜ Ready (settingsOf k) s sb g (tapsOf (now forward) (now back) (now samples) (now symbols) psi) entry ⌝ }
-    ensures { λ r. ⌜ Taken-is (settingsOf k) g (tapsOf (now (forward .entry)) (now (back .entry)) (now (samples .entry)) (now (symbols .entry)) psi) entry r (now (forward .exit)) (now (back .exit)) (now (symbols .exit)) ⌝ }
+    requires { ⌜ Ready (settingsOf k) s sb g (tapsOf (now forward) (now back) (now samples) (drop 1 (now symbols)) psi) entry ⌝ }
+    ensures { λ r. ⌜ Taken-is (settingsOf k) g (tapsOf (now (forward .entry)) (now (back .entry)) (now (samples .entry)) (drop 1 (now (symbols .entry))) psi) entry r (now (forward .exit)) (now (back .exit)) (now (symbols .exit)) ⌝ }
 {
-    let h = hear(sb, g, psi, forward, back, samples, symbols);
+    let h = hear(sb, g, psi, forward, back, samples, &symbols[1..]);
     let j = judge(k.r, sb, h.y, h.xi, entry);
-    let next = change(k.m, s, sb, g, psi, h, j, forward, back, samples, symbols);
+    let v = j.v;
+    symbols[0] = v;
+    let next = change(
+        k.m,
+        s,
+        sb,
+        g,
+        psi,
+        h,
+        j,
+        forward,
+        back,
+        samples,
+        &symbols[1..],
+    );
     hand_out(h, j, next)
 }

@@ -5,7 +5,7 @@ ghost use lib.IntN.{pos, _+ℤ_, _*ℤ_, natAbs};
 ghost use Rattle.laws.specs.Sums.{dot};
 ghost use Rattle.numbers.specs.BitLength.{bitLength};
 ghost use Rattle.numbers.specs.Cut.{raise};
-ghost use Rattle.steps.specs.Side.{adapted, adapt, allSmall, halved, push, longest};
+ghost use Rattle.steps.specs.Side.{adapted, adapt, allSmall, halved, longest};
 ghost use Rattle.steps.specs.Sound.{Summable, Adaptable};
 
 // One product more.
@@ -168,20 +168,6 @@ pub fn halve(w: &mut [i16])
     let mut i: usize = 0;
     while i < w.len() {
         w[i] = w[i] / 2;
-        i += 1;
-    }
-}
-
-// A new element in front; the oldest falls off.
-pub fn push(xs: &mut [i16], x: i16)
-    ensures { λ _. ⌜ now (xs .exit) ≡ push x (now (xs .entry)) ⌝ }
-{
-    let mut carried = x;
-    let mut i: usize = 0;
-    while i < xs.len() {
-        let was = xs[i];
-        xs[i] = carried;
-        carried = was;
         i += 1;
     }
 }

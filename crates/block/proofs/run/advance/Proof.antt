@@ -1,30 +1,65 @@
--- The window after the push is the one that the step is asked with.
-use mathlib.Core.Path.{_≡_, ap, sym, _∙_, subst₂}
-use mathlib.Core.List.{List}
-use lib.IntN.{ℤ}
+-- The step is asked with parts of the two lines, and what it writes stands there.
+use mathlib.Core.Path.{_≡_, sym, ap, _∙_}
+use Prim.Native.Nat.{suc, _+_, _-_}
+use lib.ListN.{length}
 use mir.Syntax.{w16}
 use mir.Val.{toZ, ofZ}
 use mir.Facts.{toZ-ofZ}
 use borrow.Author.Needs.{needs}
 use Rattle.laws.specs.Machine.{kept}
-use Rattle.steps.specs.Side.{push}
-use Rattle.filter.specs.Calls.{settingsOf, tapsOf, Ready}
-use Rattle.filter.proofs.SampleLaws.{taken-of}
+use Rattle.filter.proofs.SampleLaws.{taken-of, taken-put}
+use Rattle.block.proofs.LineLaws.{window-part, past-part, written-part}
 use Rattle.block.proofs.run.advance.Statement.{statement}
 use Rattle.block.proofs.run.advance.Tie as tie
 
-push-requires : tie.Need-push-requires
-push-requires c κs = search needs
+sub-first : tie.Need-sub-first
+sub-first c = search needs
+
+cast-oldest : tie.Need-cast-oldest
+cast-oldest c = search needs
+
+add-oldest : tie.Need-add-oldest
+add-oldest c = search needs
+
+cast-last : tie.Need-cast-last
+cast-last c = search needs
+
+add-last : tie.Need-add-last
+add-last c = search needs
+
+add-last-2 : tie.Need-add-last-2
+add-last-2 c = search needs
 
 wide-requires : tie.Need-wide-requires
 wide-requires c κs = search needs
 
+mul-step : tie.Need-mul-step
+mul-step c = search needs
+
+sub-step : tie.Need-sub-step
+sub-step c = search needs
+
+part-step-start : tie.Need-part-step-start
+part-step-start c = search needs
+
+part-step-end : tie.Need-part-step-end
+part-step-end c = search needs
+
+mul-step-2 : tie.Need-mul-step-2
+mul-step-2 c = search needs
+
+sub-step-2 : tie.Need-sub-step-2
+sub-step-2 c = search needs
+
+part-step-start-2 : tie.Need-part-step-start-2
+part-step-start-2 c = search needs
+
+part-step-end-2 : tie.Need-part-step-end-2
+part-step-end-2 c = search needs
+
 -- the places of the calls
 abbrev start : tie.After-wide → tie.Start
-start c = c .before .before .before .before
-
-pushed : (c : tie.After-wide) → c .before .before .push .last .0 ≡ push (start c .args .a) (start c .args .samples .now)
-pushed c = c .before .before .push .ensures ∙ ap (λ (x : ℤ). push x (start c .args .samples .now)) (toZ-ofZ (start c .fits .a))
+start c = c .before .before .before
 
 entry-is : (c : tie.After-wide) → toZ w16 (ofZ w16 (c .wide .result)) ≡ start c .args .entry
 entry-is c = kept w16 (c .wide .result) (c .wide .ok) ∙ c .wide .ensures ∙ toZ-ofZ (start c .fits .entry)
@@ -32,36 +67,49 @@ entry-is c = kept w16 (c .wide .result) (c .wide .ok) ∙ c .wide .ensures ∙ t
 step-requires : tie.Need-step-requires
 step-requires c κs =
     let d = c .before .before .before .before in
-    let a = start d .args in
-    subst₂ (λ (w : List ℤ) (x : ℤ). Ready (settingsOf (a .k)) (a .e .s) (a .e .sb) (a .e .g) (tapsOf (a .forward .now) (a .back .now) w (a .symbols .now) (a .psi)) x)
-    (sym (pushed d)) (sym (entry-is d)) (start d .pre)
+    let s = start d in
+    let a = s .args in
+    rw (window-part (a .k .p) (a .n) (a .line .now) (s .pre .room), past-part (a .k .q) (a .n) (a .marks .now) (s .pre .marks-long) (s .pre .room), entry-is d) (s .pre .ready)
 
 same-length : tie.Need-same-length
-same-length c = c .before .before .before .step .kept .1 .1 .1 .1 .1 .1 .0
+same-length c = search needs
 
 same-length-2 : tie.Need-same-length-2
-same-length-2 c = c .before .before .before .step .kept .1 .1 .1 .1 .1 .1 .1 .0
+same-length-2 c = search needs
 
 same-length-3 : tie.Need-same-length-3
-same-length-3 c = c .before .before .before .before .before .before .before .before .before .before .push .kept .0
-
-same-length-4 : tie.Need-same-length-4
-same-length-4 c = c .before .before .before .step .kept .1 .1 .1 .1 .1 .1 .1 .1 .1 .0
+same-length-3 c = search needs
 
 returns : tie.Need-returns
 returns c =
     let d = c .before .before .before .before .before .before .before .before in
-    record { taken = taken-of (pushed d) (entry-is d) (c .before .before .before .step .ensures); window = pushed d }
+    let s = start d in
+    let a = s .args in
+    let t = taken-of (window-part (a .k .p) (a .n) (a .line .now) (s .pre .room)) (past-part (a .k .q) (a .n) (a .marks .now) (s .pre .marks-long) (s .pre .room)) (entry-is d)
+    (c .before .before .before .step .ensures) in
+    taken-put (sym (written-part (a .k .q) (a .n) (127 - a .n + a .k .q + 1 - (127 - a .n)) (a .marks .now) _ (s .pre .marks-long) (s .pre .room) (ap length (t .symbols-are) ∙ ap suc (s .pre .ready .fit .symbols-long)))) t
 
 pub advance-spec : {M : Type 1} → statement M
 advance-spec =
     tie.close
     (tie.spec
-    push-requires
+    sub-first
+    cast-oldest
+    add-oldest
+    cast-last
+    add-last
+    add-last-2
     wide-requires
+    mul-step
+    sub-step
+    part-step-start
+    part-step-end
+    mul-step-2
+    sub-step-2
+    part-step-start-2
+    part-step-end-2
     step-requires
     same-length
     same-length-2
     same-length-3
-    same-length-4
     returns)

@@ -1,35 +1,35 @@
 -- The run of a block: when n samples are done, everything is as the definitions have it.
 use mathlib.Core.Path.{_≡_, refl, sym, _∙_, subst}
-use mathlib.Core.List.{List, map}
-use Prim.Native.Nat.{ℕ, _-_, _<_}
+use mathlib.Core.List.{List}
+use Prim.Native.Nat.{ℕ, _-_, _≤_, _<_}
 use native.Mathlib.Omega.{arith}
 use native.Mathlib.Nat.{lt-of-lt-of-le}
 use lib.Dec.{lit<}
 use lib.ListN.{length, getD}
 use lib.IntN.{ℤ, pos}
-use mir.Syntax.{w8, w16, w32}
+use mir.Syntax.{w8, w32}
 use mir.Val.{toZ, ofZ}
+use borrow.Author.Needs.{needs}
 use Rattle.laws.specs.Machine.{kept}
-use Rattle.numbers.specs.Cut.{rescale}
 use Rattle.steps.specs.Settings.{Settings}
 use Rattle.block.specs.Block.{Block, Memory}
-use Rattle.filter.specs.Calls.{settingsOf, tapsOf}
+use Rattle.filter.specs.Calls.{settingsOf}
 use Rattle.block.specs.Calls.{blockOf, memoryOf, Runnable}
-use Rattle.block.proofs.RunStart.{Begun-as, begun-as, startable, window-storable, window-rescaled, places-most, block-storable, stored-in, place-fits, next-fits, fewer}
-use Rattle.block.proofs.RunLaws.{Work, Passed, Given, passed-none, passed-next, same-lengths, ready, stopped, ran}
+use Rattle.block.proofs.RunStart.{Begun-as, begun-as, Line-is, line-is, lent-long, startable, window-storable, window-most, places-most, block-storable, place-fits, next-fits, fewer}
+use Rattle.block.proofs.RunLaws.{Work, Passed, Given, passed-none, passed-next, same-lengths, advanceable, stopped, ran}
 use Rattle.block.proofs.run.run.Statement.{statement}
 use Rattle.block.proofs.run.run.Tie as tie
 
--- for the window as it was lent, of which samples₀ is the rescaled one
+-- for the window as it was lent
 abbrev Inv-loop : tie.InvT-loop
-Inv-loop k psi b big m gains entries forward₀ back₀ samples₀ symbols₀ e stored y₀ xi₀ decision₀ z₀ theta₀ at₀ n₀ forward back samples symbols y xi decision z theta at n =
-    (window : List ℤ) → Runnable (settingsOf k) (memoryOf forward₀ back₀ window symbols₀ psi b big) (blockOf m gains entries) window →
-    samples₀ ≡ map (λ (a : ℤ). rescale a big (e .big)) window →
-    Passed (settingsOf k) (memoryOf forward₀ back₀ window symbols₀ psi b big) (blockOf m gains entries)
-    (record { n = n; taps = tapsOf forward back samples symbols at; y = y; xi = xi; decisions = decision; z = z; theta = theta })
+Inv-loop k psi b big m gains entries forward₀ back₀ samples symbols e line marks₀ y₀ xi₀ decision₀ z₀ theta₀ at₀ n₀ forward back marks y xi decision z theta at n =
+    (window : List ℤ) → Runnable (settingsOf k) (memoryOf forward₀ back₀ window symbols psi b big) (blockOf m gains entries) window →
+    Line-is (settingsOf k) (memoryOf forward₀ back₀ window symbols psi b big) (blockOf m gains entries) line →
+    Passed (settingsOf k) (memoryOf forward₀ back₀ window symbols psi b big) (blockOf m gains entries)
+    (record { n = n; forward = forward; back = back; marks = marks; ψ = at; y = y; xi = xi; decisions = decision; z = z; theta = theta })
 
 abbrev μ-loop : tie.MeasureT-loop
-μ-loop k psi b big m gains entries forward₀ back₀ samples₀ symbols₀ e stored y₀ xi₀ decision₀ z₀ theta₀ at₀ n₀ forward back samples symbols y xi decision z theta at n =
+μ-loop k psi b big m gains entries forward₀ back₀ samples symbols e line marks₀ y₀ xi₀ decision₀ z₀ theta₀ at₀ n₀ forward back marks y xi decision z theta at n =
     length m - n
 
 -- the settings, the block, and the memory with a given window
@@ -59,6 +59,10 @@ begun c w = begun-as (memory (start c) w) (c .begin .ensures)
 rescale-all-requires : tie.Need-rescale-all-requires Inv-loop μ-loop
 rescale-all-requires c κs = let s = start (c .before) in window-storable (begun (c .before) (lent s)) (s .pre)
 
+-- the window that is rescaled has at most sixteen places
+most : (c : tie.After-rescale-all Inv-loop μ-loop) → length (c .rescale-all .last .0) ≤ 16
+most c = let b = c .before .before in window-most (begun b (lent (start b))) (start b .pre) _ (c .rescale-all .ensures)
+
 add-store : tie.Need-add-store Inv-loop μ-loop
 add-store c =
     let b = c .before .before .before .before in
@@ -66,15 +70,27 @@ add-store c =
 
 store-requires : tie.Need-store-requires Inv-loop μ-loop
 store-requires c κs =
-    let b = c .before .before .before .before in
-    block-storable (begun b (lent (start b))) (start b .pre)
+    let b = c .before .before .before .before .before in
+    let h = block-storable (begun b (lent (start b))) (start b .pre) in
+    (h .0, h .1, h .2, most (c .before .before .before))
+
+symbols-most : (s : tie.Start Inv-loop μ-loop) → length (s .args .symbols .now) ≤ 16
+symbols-most s = omega (arith, s .pre .sound .symbols-long, s .pre .sound .within .q-most)
+
+start-requires : tie.Need-start-requires Inv-loop μ-loop
+start-requires c κs = symbols-most (start (c .before .before .before .before .before .before .before))
 
 -- the place where the block began
-abbrev opening : tie.After-store Inv-loop μ-loop → tie.After-begin Inv-loop μ-loop
-opening c = c .before .before .before .before .before
+abbrev opening : tie.After-start Inv-loop μ-loop → tie.After-begin Inv-loop μ-loop
+opening c = c .before .before .before .before .before .before .before .before
 
 loop-holds : tie.Need-loop-holds Inv-loop μ-loop
-loop-holds c window run e = passed-none _ _ _ _ (window-rescaled (begun (opening c) window) run _ e)
+loop-holds c window run line = passed-none _ _ _ _ (search needs) (run .sound .symbols-long) (c .start .ensures)
+
+lined : (c : tie.After-start Inv-loop μ-loop) → let s = start (opening c) in Line-is (settings s) (memory s (lent s)) (block s) (c .before .before .store .result)
+lined c =
+    let s = start (opening c) in
+    line-is (begun (opening c) (lent s)) (s .pre) (c .before .before .before .before .before .before .rescale-all .ensures) (c .before .before .store .ensures)
 
 -- ---- a turn
 
@@ -84,11 +100,11 @@ origin c = start (opening (c .before))
 abbrev work : tie.At-loop Inv-loop μ-loop → Work
 work c =
     let l = c .loop in
-    record { n = l .n; taps = tapsOf (l .forward) (l .back) (l .samples) (l .symbols) (l .at); y = l .y; xi = l .xi; decisions = l .decision; z = l .z; theta = l .theta }
+    record { n = l .n; forward = l .forward; back = l .back; marks = l .marks; ψ = l .at; y = l .y; xi = l .xi; decisions = l .decision; z = l .z; theta = l .theta }
 
 -- on the window that was lent
 passed : (c : tie.At-loop Inv-loop μ-loop) → let s = origin c in Passed (settings s) (memory s (lent s)) (block s) (work c)
-passed c = c .loop .inv (lent (origin c)) (origin c .pre) (c .before .before .before .before .rescale-all .ensures)
+passed c = c .loop .inv (lent (origin c)) (origin c .pre) (lined (c .before))
 
 more : (c : tie.In-loop Inv-loop μ-loop) → c .before .loop .n < origin (c .before) .args .k .n
 more c = subst (λ (m : ℕ). c .before .loop .n < m) (origin (c .before) .pre .acceptable .samples-long) (c .loop-test .taken)
@@ -96,71 +112,64 @@ more c = subst (λ (m : ℕ). c .before .loop .n < m) (origin (c .before) .pre .
 room : (c : tie.In-loop Inv-loop μ-loop) → c .before .loop .n < 128
 room c = lt-of-lt-of-le (more c) (origin (c .before) .pre .sound .within .N-most)
 
-mul-advance : tie.Need-mul-advance Inv-loop μ-loop
-mul-advance c = place-fits (c .before .loop .n) 2 (room c) (lit< tt)
-
-array-copy-out-advance : tie.Need-array-copy-out-advance Inv-loop μ-loop
-array-copy-out-advance c = room c
-
 shared-slice-copy-out-advance : tie.Need-shared-slice-copy-out-advance Inv-loop μ-loop
-shared-slice-copy-out-advance c =
-    subst (λ (m : ℕ). c .before .before .loop .n < m) (sym (origin (c .before .before) .pre .acceptable .entries-long)) (more (c .before))
+shared-slice-copy-out-advance c = subst (λ (m : ℕ). c .before .loop .n < m) (sym (origin (c .before) .pre .acceptable .entries-long)) (more c)
 
--- the two elements that are read
-given : (c : tie.After-advance-arg2 Inv-loop μ-loop) (w : List ℤ) → let l = c .before .before .before in let s = origin l in let r = opening (l .before) .begin .result in
-    Runnable (settings s) (memory s w) (block s) w →
-    Given (settings s) (memory s w) (block s) (l .loop .n) (r .s) (r .sb) (r .g)
-    (toZ w16 (ofZ w16 (getD (l .before .store .result) (l .loop .n) (pos 0)))) (toZ w8 (ofZ w8 (getD (s .args .entries .now) (l .loop .n) (pos 0))))
-given c w run =
-    let l = c .before .before .before in
-    let b = begun (opening (l .before)) w in
+slice-aggregate-advance : tie.Need-slice-aggregate-advance Inv-loop μ-loop
+slice-aggregate-advance c = sym (lined (c .before .before .before .before .before .before) .long)
+
+slice-aggregate-advance-2 : tie.Need-slice-aggregate-advance-2 Inv-loop μ-loop
+slice-aggregate-advance-2 c = sym (passed (c .before .before .before .before .before .before) .marks-long)
+
+abbrev turn : tie.After-marks Inv-loop μ-loop → tie.In-loop Inv-loop μ-loop
+turn c = c .before .before .before .before .before
+
+-- the entry that is read
+given : (c : tie.After-marks Inv-loop μ-loop) (w : List ℤ) → let l = turn c .before in let s = origin l in
+    Given (settings s) (memory s w) (block s) (l .loop .n) (opening (l .before) .begin .result) (toZ w8 (ofZ w8 (getD (s .args .entries .now) (l .loop .n) (pos 0))))
+given c w =
+    let l = turn c .before in
     record {
-      forward-scale = b .s-as;
-      back-scale = b .sb-as;
-      exponent = b .g-as;
-      sample = kept w16 (getD (l .before .store .result) (l .loop .n) (pos 0)) (c .before .advance-arg .given)
-          ∙ stored-in b run (l .before .store .result) (l .before .store .ensures) (l .loop .n) (more (c .before .before));
-      entry = kept w8 (getD (origin l .args .entries .now) (l .loop .n) (pos 0)) (c .advance-arg2 .given);
+      begun = begun (opening (l .before)) w;
+      entry = kept w8 (getD (origin l .args .entries .now) (l .loop .n) (pos 0)) (c .before .before .before .before .advance-arg .given);
     }
-
-abbrev read : tie.After-advance-arg6 Inv-loop μ-loop → tie.After-advance-arg2 Inv-loop μ-loop
-read c = c .before .before .before .before
-
-abbrev turn : tie.After-advance-arg6 Inv-loop μ-loop → tie.In-loop Inv-loop μ-loop
-turn c = read c .before .before
 
 advance-requires : tie.Need-advance-requires Inv-loop μ-loop
 advance-requires c κs =
     let s = origin (turn c .before) in
-    ready (s .pre) (passed (turn c .before)) (more (turn c)) (given (read c) (lent s) (s .pre))
+    advanceable (s .pre) (lined (turn c .before .before)) (passed (turn c .before)) (more (turn c)) (given c (lent s))
 
--- each list is as long as it was lent
+-- the weights are as many as were lent
 lengths : (c : tie.At-loop Inv-loop μ-loop) → let s = origin c in let l = c .loop in
-    (length (l .forward) ≡ length (s .args .forward .now)) × (length (l .back) ≡ length (s .args .back .now)) × (length (l .samples) ≡ length (lent s)) × (length (l .symbols) ≡ length (s .args .symbols .now))
-lengths c = same-lengths (origin c .pre) (passed c)
+    (length (l .forward) ≡ length (s .args .forward .now)) × (length (l .back) ≡ length (s .args .back .now))
+lengths c = same-lengths (origin c .pre) (lined (c .before)) (passed c)
 
 same-length : tie.Need-same-length Inv-loop μ-loop
-same-length c = let a = c .before .before .before .before .before in a .advance .kept .1 .1 .1 .1 .1 .0 ∙ lengths (turn (a .before) .before) .0
+same-length c = let a = c .before .before .before .before in a .advance .kept .1 .1 .1 .1 .1 .0 ∙ lengths (turn (a .before) .before) .0
 
 same-length-2 : tie.Need-same-length-2 Inv-loop μ-loop
-same-length-2 c = let a = c .before .before .before .before .before in a .advance .kept .1 .1 .1 .1 .1 .1 .0 ∙ lengths (turn (a .before) .before) .1
+same-length-2 c = let a = c .before .before .before .before in a .advance .kept .1 .1 .1 .1 .1 .1 .0 ∙ lengths (turn (a .before) .before) .1
+
+-- the samples are as many as were lent
+abbrev rescaled : tie.At-loop Inv-loop μ-loop → tie.After-rescale-all Inv-loop μ-loop
+rescaled c = c .before .before .before .before .before .before .before
 
 same-length-3 : tie.Need-same-length-3 Inv-loop μ-loop
-same-length-3 c = let a = c .before .before .before .before .before in a .advance .kept .1 .1 .1 .1 .1 .1 .1 .0 ∙ lengths (turn (a .before) .before) .2
+same-length-3 c = rescaled (turn (c .before .before .before .before .before) .before) .rescale-all .kept .0
 
 same-length-4 : tie.Need-same-length-4 Inv-loop μ-loop
-same-length-4 c = let a = c .before .before .before .before .before in a .advance .kept .1 .1 .1 .1 .1 .1 .1 .1 .0 ∙ lengths (turn (a .before) .before) .3
+same-length-4 c = refl
 
 returns : tie.Need-returns Inv-loop μ-loop
 returns c =
-    let a = c .before .before .before .before .before in
+    let a = c .before .before .before .before in
     let t = turn (a .before) in
     let s = origin (t .before) in
-    stopped (s .pre) (passed (t .before)) (more t) (given (read (a .before)) (lent s) (s .pre)) (a .advance .ensures) (c .if1 .taken) _ refl _ _ _ _
+    stopped (s .pre) (lined (t .before .before)) (passed (t .before)) (more t) (given (a .before) (lent s)) _ (a .advance .ensures) (c .if1 .taken) _ refl _ _ _ _
 
 -- the place of the call from the stores
 abbrev called : tie.After-struct-told3 Inv-loop μ-loop → tie.After-advance Inv-loop μ-loop
-called c = c .before .before .before .before .before .before .before .before
+called c = c .before .before .before .before .before .before .before
 
 abbrev turned : tie.After-struct-told3 Inv-loop μ-loop → tie.In-loop Inv-loop μ-loop
 turned c = turn (called c .before)
@@ -193,10 +202,12 @@ loop-less : tie.Need-loop-less Inv-loop μ-loop
 loop-less c = fewer (length (origin (turned c .before) .args .m .now)) (turned c .before .loop .n) (turned c .loop-test .taken)
 
 loop-again : tie.Need-loop-again Inv-loop μ-loop
-loop-again c w run e =
+loop-again c w run line =
     let a = called c in
     let r = a .advance .result in
-    passed-next run (turned c .before .loop .inv w run e) (more (turned c)) (given (read (a .before)) w run) (a .advance .ensures)
+    let p = turned c .before .loop .inv w run line in
+    passed-next run line p (more (turned c)) (given (a .before) w) _ (a .advance .ensures)
+    (a .advance .kept .1 .1 .1 .1 .1 .1 .1 .1 .0 ∙ p .marks-long)
     (kept w32 (r .y) (omega (arith, c .before .before .struct-told .given)))
     (kept w8 (r .decision) (omega (arith, c .before .struct-told2 .given)))
     (kept w32 (r .z) (omega (arith, c .struct-told3 .given)))
@@ -204,23 +215,46 @@ loop-again c w run e =
 
 -- ---- after the last sample
 
+slice-aggregate-newest : tie.Need-slice-aggregate-newest Inv-loop μ-loop
+slice-aggregate-newest c = sym (lined (c .before .before .before) .long)
+
+done : (c : tie.At-loop Inv-loop μ-loop) → c .loop .n ≤ 128
+done c = omega (arith, passed c .within, origin c .pre .sound .within .N-most)
+
+newest-requires : tie.Need-newest-requires Inv-loop μ-loop
+newest-requires c κs = let l = c .before .before .before in (done l, lined (l .before) .long, most (rescaled l))
+
+slice-aggregate-newest-2 : tie.Need-slice-aggregate-newest-2 Inv-loop μ-loop
+slice-aggregate-newest-2 c = sym (passed (c .before .before .before .before .before .before) .marks-long)
+
+newest-requires-2 : tie.Need-newest-requires-2 Inv-loop μ-loop
+newest-requires-2 c κs =
+    let l = c .before .before .before .before .before .before .before in
+    (done l, passed l .marks-long, symbols-most (origin l))
+
+abbrev finish : tie.After-symbols Inv-loop μ-loop → tie.At-loop Inv-loop μ-loop
+finish c = c .before .before .before .before .before .before .before .before .before
+
 same-length-5 : tie.Need-same-length-5 Inv-loop μ-loop
-same-length-5 c = lengths (c .before) .0
+same-length-5 c = lengths (finish c) .0
 
 same-length-6 : tie.Need-same-length-6 Inv-loop μ-loop
-same-length-6 c = lengths (c .before) .1
+same-length-6 c = lengths (finish c) .1
 
 same-length-7 : tie.Need-same-length-7 Inv-loop μ-loop
-same-length-7 c = lengths (c .before) .2
+same-length-7 c = c .before .before .before .before .before .newest .kept .1 .1 .0 ∙ rescaled (finish c) .rescale-all .kept .0
 
 same-length-8 : tie.Need-same-length-8 Inv-loop μ-loop
-same-length-8 c = lengths (c .before) .3
+same-length-8 c = c .before .newest2 .kept .1 .1 .0
 
 returns-2 : tie.Need-returns-2 Inv-loop μ-loop
 returns-2 c =
-    let s = origin (c .before) in
-    let b = begun (opening (c .before .before)) (lent s) in
-    ran (s .pre) (passed (c .before)) (omega (arith, c .loop-test .left, s .pre .acceptable .samples-long)) (b .b-as) (b .big-as)
+    let l = finish c in
+    let s = origin l in
+    let b = begun (opening (l .before)) (lent s) in
+    ran (s .pre) (lined (l .before)) (passed l) (omega (arith, c .before .before .before .before .before .before .before .before .loop-test .left, s .pre .acceptable .samples-long))
+    (rescaled l .rescale-all .kept .0 ∙ lent-long (s .pre)) (s .pre .sound .symbols-long)
+    (c .before .before .before .before .before .newest .ensures) (c .before .newest2 .ensures) (b .b-as) (b .big-as)
 
 pub run-spec : {M : Type 1} → statement M
 run-spec =
@@ -232,10 +266,11 @@ run-spec =
     rescale-all-requires
     add-store
     store-requires
+    start-requires
     loop-holds
-    mul-advance
-    array-copy-out-advance
     shared-slice-copy-out-advance
+    slice-aggregate-advance
+    slice-aggregate-advance-2
     advance-requires
     same-length
     same-length-2
@@ -252,6 +287,10 @@ run-spec =
     add-n
     loop-less
     loop-again
+    slice-aggregate-newest
+    newest-requires
+    slice-aggregate-newest-2
+    newest-requires-2
     same-length-5
     same-length-6
     same-length-7

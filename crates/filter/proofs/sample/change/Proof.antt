@@ -1,7 +1,7 @@
--- Each side learns, both settle, and the symbol enters.
+-- Each side learns, and both settle.
 use mathlib.Core.Path.{_≡_, _∙_}
 use native.Mathlib.Omega.{arith}
-use mir.Syntax.{w16, w32}
+use mir.Syntax.{w32}
 use mir.Val.{toZ, ofZ}
 use borrow.Author.Needs.{needs}
 use Rattle.laws.specs.Machine.{kept}
@@ -25,27 +25,21 @@ learn-requires-2 c κs = search needs
 settle-requires : tie.Need-settle-requires
 settle-requires c κs = search needs
 
-push-requires : tie.Need-push-requires
-push-requires c κs = search needs
+same-length : tie.Need-same-length
+same-length c = search needs
+
+same-length-2 : tie.Need-same-length-2
+same-length-2 c = search needs
 
 -- the places of the calls, from the end
-abbrev first : tie.After-learn2 → tie.After-learn
-first c = c .before .before .before .before
+abbrev second : tie.After-back2 → tie.After-learn2
+second c = c .before .before .before .before .before .before
 
-abbrev second : tie.After-symbols → tie.After-learn2
-second c = c .before .before .before .before .before .before .before .before .before .before
+abbrev first : tie.After-learn2 → tie.After-learn
+first c = c .before .before .before
 
 abbrev start : tie.After-learn → tie.Start
 start c = c .before .before .before
-
-same-length : tie.Need-same-length
-same-length c = c .before .before .before .before .before .before .settle .kept .0 ∙ first (second c) .learn .kept .0
-
-same-length-2 : tie.Need-same-length-2
-same-length-2 c = c .before .before .before .before .before .before .settle .kept .1 .0 ∙ second c .learn2 .kept .0
-
-same-length-3 : tie.Need-same-length-3
-same-length-3 c = c .before .push .kept .0
 
 error-kept : (c : tie.After-learn) → toZ w32 (ofZ w32 (start c .args .j .z)) ≡ start c .args .j .z
 error-kept c = kept w32 (start c .args .j .z) (omega (arith, c .before .before .struct-told .given))
@@ -56,14 +50,8 @@ ahead c = c .learn .ensures ∙ rw (error-kept c)
 behind : (c : tie.After-learn2) → let a = start (first c) .args in c .learn2 .last .0 ≡ taughtBack (a .m) (a .sb) (a .h .nu) (a .psi) (a .j) (a .back .now) (a .symbols .now)
 behind c = c .learn2 .ensures ∙ rw (error-kept (first c))
 
-symbol-kept : (c : tie.After-symbols) → let v = start (first (second c)) .args .j .v in toZ w16 (ofZ w16 v) ≡ v
-symbol-kept c = kept w16 (start (first (second c)) .args .j .v) (omega (arith, c .before .before .struct-told2 .given))
-
 returns : tie.Need-returns
-returns c = record {
-  settled-is = settled-of (ahead (first (second c))) (behind (second c)) (c .before .before .before .before .before .before .settle .ensures);
-  pushed = c .before .push .ensures ∙ rw (symbol-kept c);
-}
+returns c = settled-of (ahead (first (second c))) (behind (second c)) (c .before .before .settle .ensures)
 
 pub change-spec : {M : Type 1} → statement M
 change-spec =
@@ -74,8 +62,6 @@ change-spec =
     sub-learn
     learn-requires-2
     settle-requires
-    push-requires
     same-length
     same-length-2
-    same-length-3
     returns)

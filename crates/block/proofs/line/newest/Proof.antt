@@ -1,0 +1,85 @@
+-- One element a turn.
+use mathlib.Core.Path.{_≡_, sym, ap, _∙_}
+use Prim.Native.Nat.{ℕ, _+_, _-_, _≤_, _<_}
+use native.Mathlib.Omega.{arith}
+use lib.ListN.{length, getD, take, drop, length-drop}
+use lib.Seq.{length-take-le, getD-take, getD-drop}
+use lib.IntN.{pos}
+use mir.Syntax.{w16}
+use borrow.Author.Needs.{needs}
+use Rattle.laws.specs.Lists.{Written, written-none, written-next, written-all}
+use Rattle.laws.specs.Machine.{kept}
+use Rattle.block.specs.Line.{newest}
+use Rattle.block.proofs.line.newest.Statement.{statement}
+use Rattle.block.proofs.line.newest.Tie as tie
+
+abbrev Inv-loop : tie.InvT-loop
+Inv-loop line n out₀ first i₀ out i = Written (newest (length out₀) n line) out₀ i out
+
+abbrev μ-loop : tie.MeasureT-loop
+μ-loop line n out₀ first i₀ out i = length out₀ - i
+
+long : (s : tie.Start Inv-loop μ-loop) → let a = s .args in length (newest (length (a .out .now)) (a .n) (a .line .now)) ≡ length (a .out .now)
+long s = let a = s .args in length-take-le (length (a .out .now)) (drop (128 - a .n) (a .line .now)) (omega (arith, s .pre, length-drop (128 - a .n) (a .line .now)))
+
+sub-first : tie.Need-sub-first Inv-loop μ-loop
+sub-first c = omega (arith, c .pre)
+
+loop-holds : tie.Need-loop-holds Inv-loop μ-loop
+loop-holds c = written-none _ _
+
+add-out : tie.Need-add-out Inv-loop μ-loop
+add-out c = omega arith
+
+mul-out : tie.Need-mul-out Inv-loop μ-loop
+mul-out c = omega arith
+
+shared-slice-copy-out-out : tie.Need-shared-slice-copy-out-out Inv-loop μ-loop
+shared-slice-copy-out-out c = omega arith
+
+mul-t11 : tie.Need-mul-t11 Inv-loop μ-loop
+mul-t11 c = omega arith
+
+slice-set-from-out : tie.Need-slice-set-from-out Inv-loop μ-loop
+slice-set-from-out c = search needs
+
+add-i : tie.Need-add-i Inv-loop μ-loop
+add-i c = omega arith
+
+loop-less : tie.Need-loop-less Inv-loop μ-loop
+loop-less c = omega arith
+
+loop-again : tie.Need-loop-again Inv-loop μ-loop
+loop-again c =
+    let s = c .before .before .before in
+    let l = c .before .before .loop in
+    let a = s .args in
+    written-next (l .inv) (pos 0) _ (omega (arith, long s, l .inv .long, c .before .loop-test .taken)) (omega (arith, l .inv .long, c .before .loop-test .taken))
+    (kept w16 (getD (a .line .now) (128 - a .n + l .i) (pos 0)) (c .out .given)
+    ∙ sym (getD-take (length (a .out .now)) (drop (128 - a .n) (a .line .now)) (l .i) (pos 0) (omega (arith, l .inv .long, c .before .loop-test .taken))
+    ∙ getD-drop (128 - a .n) (a .line .now) (l .i) (pos 0)))
+
+same-length : tie.Need-same-length Inv-loop μ-loop
+same-length c = c .before .loop .inv .long
+
+returns : tie.Need-returns Inv-loop μ-loop
+returns c = written-all (c .before .loop .inv) (long (c .before .before)) (omega arith)
+
+pub newest-spec : {M : Type 1} → statement M
+newest-spec =
+    tie.close
+    (tie.spec
+    Inv-loop
+    μ-loop
+    sub-first
+    loop-holds
+    add-out
+    mul-out
+    shared-slice-copy-out-out
+    mul-t11
+    slice-set-from-out
+    add-i
+    loop-less
+    loop-again
+    same-length
+    returns)

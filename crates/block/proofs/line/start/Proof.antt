@@ -1,0 +1,66 @@
+-- One element a turn.
+use Prim.Native.Nat.{_-_}
+use native.Mathlib.Omega.{arith}
+use lib.ListN.{length, getD}
+use lib.IntN.{pos}
+use mir.Syntax.{w16}
+use Rattle.laws.specs.Machine.{kept}
+use Rattle.block.proofs.LineLaws.{Placed, placed-none, placed-next, placed-all}
+use Rattle.block.proofs.line.start.Statement.{statement}
+use Rattle.block.proofs.line.start.Tie as tie
+
+abbrev Inv-loop : tie.InvT-loop
+Inv-loop old line₀ i₀ line i = Placed old i line
+
+abbrev μ-loop : tie.MeasureT-loop
+μ-loop old line₀ i₀ line i = length old - i
+
+loop-holds : tie.Need-loop-holds Inv-loop μ-loop
+loop-holds c = placed-none _
+
+mul-line : tie.Need-mul-line Inv-loop μ-loop
+mul-line c = omega arith
+
+shared-slice-copy-out-line : tie.Need-shared-slice-copy-out-line Inv-loop μ-loop
+shared-slice-copy-out-line c = omega arith
+
+add-line : tie.Need-add-line Inv-loop μ-loop
+add-line c = omega arith
+
+mul-line-2 : tie.Need-mul-line-2 Inv-loop μ-loop
+mul-line-2 c = omega arith
+
+array-set-from-line : tie.Need-array-set-from-line Inv-loop μ-loop
+array-set-from-line c = omega arith
+
+add-i : tie.Need-add-i Inv-loop μ-loop
+add-i c = omega arith
+
+loop-less : tie.Need-loop-less Inv-loop μ-loop
+loop-less c = omega arith
+
+loop-again : tie.Need-loop-again Inv-loop μ-loop
+loop-again c =
+    let l = c .before .before .loop in
+    let a = c .before .before .before .args in
+    placed-next (l .inv) (omega arith) (omega arith) _ (kept w16 (getD (a .old .now) (l .i) (pos 0)) (c .line .given))
+
+returns : tie.Need-returns Inv-loop μ-loop
+returns c = placed-all (c .before .loop .inv) (omega arith)
+
+pub start-spec : {M : Type 1} → statement M
+start-spec =
+    tie.close
+    (tie.spec
+    Inv-loop
+    μ-loop
+    loop-holds
+    mul-line
+    shared-slice-copy-out-line
+    add-line
+    mul-line-2
+    array-set-from-line
+    add-i
+    loop-less
+    loop-again
+    returns)
