@@ -1,6 +1,7 @@
 ghost use mathlib.Core.Path.{_≡_};
 ghost use Prim.Native.Nat.{_*_, _-_, _^_, _<_, _≤_};
 ghost use lib.IntN.{pos, natAbs};
+ghost use lib.Signed.{shrZ};
 ghost use Rattle.numbers.specs.Cut.{cut, raise, rescale};
 
 // 2^k − 1.
@@ -50,13 +51,21 @@ fn ones32(k: u32) -> i32
     ((1u32 << k) - 1) as i32
 }
 
+// z, or a negative z raised by 2^k − 1, so that a shift, which rounds down, gives T.
+fn lifted(z: i32, k: u32) -> i32
+    requires { ⌜ k < 32 ⌝ }
+    ensures { λ r. ⌜ shrZ r (2 ^ k) ≡ cut z k ⌝ }
+{
+    let low = ones32(k);
+    if z >= 0 { z } else { z + low }
+}
+
 // T(z / 2^k) in 32 bits.
 pub fn cut32(z: i32, k: u32) -> i32
     requires { ⌜ k < 32 ⌝ }
     ensures { λ r. ⌜ r ≡ cut z k ⌝ }
 {
-    let low = ones32(k);
-    if z >= 0 { z >> k } else { (z + low) >> k }
+    lifted(z, k) >> k
 }
 
 // z·2^k in 32 bits.

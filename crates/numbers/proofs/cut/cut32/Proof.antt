@@ -1,21 +1,16 @@
--- As in 64 bits: a shift rounds down, so a negative number is first raised by one less than a unit.
-use mathlib.Core.Path.{_≡_, _∙_}
-use Prim.Native.Nat.{_-_, _^_}
-use native.Mathlib.Omega.{arith}
-use lib.IntN.{pos, _+ℤ_}
-use lib.Signed.{_≤ℤ_, _<ℤ_}
+-- The shift of what was lifted for it.
+use mathlib.Core.Path.{_∙_}
+use Prim.Native.Nat.{_^_}
 use mir.Syntax.{w32}
-use mir.Val.{SFits, toZ, ofZ}
+use mir.Val.{SFits}
 use mir.Facts.{toZ-ofZ}
-use borrow.Author.Needs.{needs}
-use Rattle.laws.specs.Machine.{kept, fits-opposite, fits-shr, le-tested, le-refuted}
-use Rattle.laws.specs.Powers.{positive, rises}
-use Rattle.numbers.proofs.CutLaws.{shift-whole, shift-negative}
+use borrow.Author.Needs.{needs, sfits-of}
+use Rattle.laws.specs.Machine.{fits-shr}
 use Rattle.numbers.proofs.cut.cut32.Statement.{statement}
 use Rattle.numbers.proofs.cut.cut32.Tie as tie
 
-ones32-requires : tie.Need-ones32-requires
-ones32-requires c κs = search needs
+lifted-requires : tie.Need-lifted-requires
+lifted-requires c κs = search needs
 
 cast-result : tie.Need-cast-result
 cast-result c = search needs
@@ -23,52 +18,13 @@ cast-result c = search needs
 shr-result : tie.Need-shr-result
 shr-result c = search needs
 
-low : (c : tie.After-ones32) → toZ w32 (ofZ w32 (c .ones32 .result)) ≡ pos (2 ^ c .before .args .k - 1)
-low c = kept w32 (c .ones32 .result) (c .ones32 .ok) ∙ c .ones32 .ensures
-
-whole : (c : tie.Then1) → pos 0 ≤ℤ c .before .before .args .z
-whole c = le-tested (rw (toZ-ofZ (c .before .before .fits .z)) at (c .if1 .taken))
-
-negative : (c : tie.Else1) → c .before .before .args .z <ℤ pos 0
-negative c = le-refuted (rw (toZ-ofZ (c .before .before .fits .z)) at (c .if1 .left))
-
-sum-fits : (c : tie.Else1) → SFits w32 (c .before .before .args .z +ℤ pos (2 ^ c .before .before .args .k - 1))
-sum-fits c =
-    let s = c .before .before in
-    fits-opposite (s .args .z) (2 ^ s .args .k - 1) (negative c) (s .fits .z)
-    (omega (arith, rises {a = s .args .k} {b = 31} (search needs), positive (s .args .k)))
-
-add-result : tie.Need-add-result
-add-result c = simp (toZ-ofZ (c .before .before .fits .z), low (c .before)) (sum-fits c)
-
-cast-result-2 : tie.Need-cast-result-2
-cast-result-2 c = search needs
-
-shr-result-2 : tie.Need-shr-result-2
-shr-result-2 c = search needs
+fits : (c : tie.After-lifted) → SFits w32 (c .lifted .result)
+fits c = sfits-of (c .lifted .ok)
 
 returns : tie.Need-returns
 returns c =
-    let s = c .before .before in
-    simp (toZ-ofZ (s .fits .z), toZ-ofZ (fits-shr (s .args .z) (2 ^ s .args .k) (s .fits .z)))
-    (shift-whole (s .args .z) (s .args .k) (whole c))
-
-returns-2 : tie.Need-returns-2
-returns-2 c =
-    let s = c .before .before in
-    let a = s .args in
-    simp (toZ-ofZ (s .fits .z), low (c .before), toZ-ofZ (sum-fits c), toZ-ofZ (fits-shr (a .z +ℤ pos (2 ^ a .k - 1)) (2 ^ a .k) (sum-fits c)))
-    (shift-negative (a .z) (a .k) (negative c))
+    simp (toZ-ofZ (fits c), toZ-ofZ (fits-shr (c .lifted .result) (2 ^ c .before .args .k) (fits c)))
+    (c .lifted .ensures ∙ simp (toZ-ofZ (c .before .fits .z)))
 
 pub cut32-spec : {M : Type 1} → statement M
-cut32-spec =
-    tie.close
-    (tie.spec
-    ones32-requires
-    cast-result
-    shr-result
-    add-result
-    cast-result-2
-    shr-result-2
-    returns
-    returns-2)
+cut32-spec = tie.close (tie.spec lifted-requires cast-result shr-result returns)
