@@ -3,11 +3,11 @@ ghost use Rattle.state.specs.Sizes.{given};
 ghost use Rattle.checks.specs.Calls.{lentOf};
 ghost use Rattle.state.specs.Answers.{SetUp};
 ghost use Rattle.station.specs.Answers.{Run};
-ghost use Rattle.state.specs.Image.{Save};
-ghost use Rattle.state.specs.Load.{Load};
+ghost use Rattle.image.specs.Image.{Save};
+ghost use Rattle.image.specs.Load.{Load};
 use state::equaliser::Answer;
 use state::equaliser::Equaliser;
-use state::equaliser::Saved;
+use image::save::Saved;
 
 // A fresh state, or the number of the refusal beside the smallest one.
 #[no_mangle]
@@ -22,7 +22,7 @@ pub extern "C" fn tigbulode_set_up(p: u8, q: u8, n: u8, r: u8, l: u8, m: u32) ->
 pub extern "C" fn tigbulode_save(e: Equaliser, buffer: &mut [u8]) -> Saved
     ensures { λ s. ⌜ Save e (now (buffer .entry)) s (now (buffer .exit)) ⌝ }
 {
-    e.save(buffer)
+    image::save::save(e, buffer)
 }
 
 // The state that bytes hold, or the number of the refusal beside the smallest one.
@@ -30,7 +30,7 @@ pub extern "C" fn tigbulode_save(e: Equaliser, buffer: &mut [u8]) -> Saved
 pub extern "C" fn tigbulode_load(bytes: &[u8]) -> Answer
     ensures { λ a. ⌜ Load (now (bytes .entry)) a ⌝ }
 {
-    Equaliser::load(bytes)
+    image::load::load(bytes)
 }
 
 // One block in place: the next state and five lists, or the number of the refusal and everything as it was.

@@ -74,7 +74,7 @@ fn state(r: u8, psi: u8, m: u32, forward: i16, back: i16, symbol: i16) -> Equali
 fn say_state(e: Equaliser) {
     let weights = e.weights;
     let mut image = [0u8; 20];
-    let saved = e.save(&mut image);
+    let saved = image::save::save(e, &mut image);
     byte(b", save ", saved.number);
     byte(b", psi ", image[5]);
     byte(b", b ", image[6]);

@@ -19,7 +19,7 @@ use Rattle.state.specs.Sizes.{sizesFit, admits}
 use Rattle.state.specs.State.{memory, isZero, isStored, soundExponents, soundWeights, soundPast, isSound, padded, places, stateOf}
 use Rattle.state.specs.Answers.{examined}
 use Rattle.state.proofs.ListTests.{tested-each, all-replicate}
-use Rattle.state.proofs.ByteLaws.{padded-long}
+use Rattle.state.proofs.PaddedLaws.{padded-long}
 use Rattle.state.proofs.SoundLaws.{both, tests-examined}
 
 -- ---- parts of a padded list

@@ -1,14 +1,8 @@
+pub mod PaddedLaws
 pub mod ListTests
 pub mod ElementTests
 pub mod SizesLaws
 pub mod SoundLaws
 pub mod StateTests
 pub mod SetUpLaws
-pub mod ImageLaws
-pub mod StateBits
-pub mod ByteLaws
-pub mod WordLaws
-pub mod LoadLaws
 pub mod KeptLaws
-pub mod FrameLaws
-pub mod LoadAnswers

@@ -1,10 +1,8 @@
-// The equaliser of a station: its state in the image's order, its limits and its operations.
+// The equaliser of a station: its state in the image's order, its limits and its set-up.
 ghost use mathlib.Core.Path.{_≡_};
 ghost use Rattle.state.specs.Sizes.{given};
 ghost use Rattle.state.specs.State.{fresh};
 ghost use Rattle.state.specs.Answers.{SetUp};
-ghost use Rattle.state.specs.Image.{Save};
-ghost use Rattle.state.specs.Load.{Load};
 
 #[repr(C)]
 pub struct Equaliser {
@@ -26,13 +24,6 @@ pub struct Equaliser {
 pub struct Answer {
     pub number: u8,
     pub state: Equaliser,
-}
-
-// A number beside the length of an image.
-#[repr(C)]
-pub struct Saved {
-    pub number: u8,
-    pub length: usize,
 }
 
 // Weights, ψ, past samples and symbols, b and B of 0.
@@ -82,62 +73,6 @@ impl Equaliser {
         Answer {
             number: number,
             state: fresh(1, 1, 1, 0, 0, 0),
-        }
-    }
-
-    // The image at the front of a lent buffer, or the number of the refusal and the buffer as it was.
-    pub fn save(self, buffer: &mut [u8]) -> Saved
-        ensures { λ s. ⌜ Save self (now (buffer .entry)) s (now (buffer .exit)) ⌝ }
-    {
-        let number = super::sound::examined(self);
-        if number != 0 {
-            return Saved {
-                number: number,
-                length: 0,
-            };
-        }
-        let taps = (self.p as usize) + (self.q as usize);
-        let mid = 12 + 2 * taps;
-        let end = mid + 2 * taps;
-        if buffer.len() < end {
-            return Saved {
-                number: 7,
-                length: 0,
-            };
-        }
-        let weights = self.weights;
-        let past = self.past;
-        super::image::put_header(self, &mut buffer[..12]);
-        super::image::put_words(&weights[..taps], &mut buffer[12..mid]);
-        super::image::put_words(&past[..taps], &mut buffer[mid..end]);
-        Saved {
-            number: 0,
-            length: end,
-        }
-    }
-
-    // The state that bytes hold, or the number of the refusal beside the smallest one.
-    pub fn load(bytes: &[u8]) -> Answer
-        ensures { λ a. ⌜ Load (now (bytes .entry)) a ⌝ }
-    {
-        let frame = super::load::frame_number(bytes);
-        if frame != 0 {
-            return Answer {
-                number: frame,
-                state: fresh(1, 1, 1, 0, 0, 0),
-            };
-        }
-        let e = super::load::state_in(bytes);
-        let number = super::sound::examined(e);
-        if number != 0 {
-            return Answer {
-                number: number,
-                state: fresh(1, 1, 1, 0, 0, 0),
-            };
-        }
-        Answer {
-            number: 0,
-            state: e,
         }
     }
 }

@@ -1,7 +1,4 @@
-// The state of a station: set-up, soundness, saving and loading.
-pub mod bytes;
+// The state of a station: set-up and soundness.
 pub mod equaliser;
-pub mod image;
-pub mod load;
 pub mod sizes;
 pub mod sound;

@@ -24,12 +24,12 @@ use Rattle.block.proofs.BlockNear.{stored-near, met-near}
 use Rattle.state.specs.Sizes.{sizesFit, admits, settingsNumber, given}
 use Rattle.state.specs.State.{settings, memory, places, stateOf, fresh, refused}
 use Rattle.state.specs.Answers.{examined, setUpState}
-use Rattle.state.specs.Image.{Byte, image, imageLength, saveNumber}
-use Rattle.state.specs.Load.{stateIn, loadNumber, loadState}
+use Rattle.image.specs.Image.{Byte, image, imageLength, saveNumber}
+use Rattle.image.specs.Load.{stateIn, loadNumber, loadState}
 use Rattle.state.specs.declared.equaliser.Equaliser.{Equaliser}
 use Rattle.state.proofs.SoundLaws.{examined-tests, tests-examined, examined-sound, fresh-examined}
 use Rattle.state.proofs.KeptLaws.{memory-is, kept-examined, kept-long}
-use Rattle.state.proofs.LoadLaws.{load-image, loaded-sound, loaded-long, image-loaded}
+use Rattle.image.proofs.LoadLaws.{load-image, loaded-sound, loaded-long, image-loaded}
 use Rattle.station.specs.Answers.{runNumber, accepted, runState}
 use Rattle.checks.specs.Checks.{Lent, block, lengthsFit, gainFits, checkNumber}
 use Rattle.checks.specs.Calls.{Sampled, Checked}

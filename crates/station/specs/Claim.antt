@@ -17,8 +17,8 @@ use Rattle.block.specs.Holds.{AtSample}
 use Rattle.state.specs.Sizes.{sizesFit, admits}
 use Rattle.state.specs.State.{settings, memory, isSound, stateOf, places}
 use Rattle.state.specs.Answers.{setUpState}
-use Rattle.state.specs.Image.{Byte, image, saveNumber}
-use Rattle.state.specs.Load.{loadNumber, loadState}
+use Rattle.image.specs.Image.{Byte, image, saveNumber}
+use Rattle.image.specs.Load.{loadNumber, loadState}
 use Rattle.state.specs.declared.equaliser.Equaliser.{Equaliser}
 use Rattle.station.specs.Answers.{runNumber, runState}
 use Rattle.checks.specs.Checks.{Lent, block}

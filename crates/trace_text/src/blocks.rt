@@ -92,7 +92,7 @@ pub fn all_blocks(t: &[u8], e: Equaliser, out: &mut [u8]) -> usize
     requires { ⌜ Traceable (now t) e (now out) ⌝ }
     ensures { λ r. ⌜ Fronted (textFrom (now (t .entry)) (countIn (now (t .entry))) 0 e) (now (out .entry)) r (now (out .exit)) ⌝ }
 {
-    let count = state::bytes::number16(t[6], t[7]) as usize;
+    let count = image::bytes::number16(t[6], t[7]) as usize;
     let start = 12 + 3 * ((t[2] as usize) * count);
     let mut state = e;
     let mut at: usize = 0;

@@ -35,7 +35,7 @@ pub fn text(trace: &[u8], out: &mut [u8]) -> Written
         trace[2],
         trace[3],
         trace[4],
-        state::bytes::number32(trace[8], trace[9], trace[10], trace[11]),
+        image::bytes::number32(trace[8], trace[9], trace[10], trace[11]),
     );
     let number = a.number;
     if number != 0 {

@@ -26,7 +26,7 @@ pub fn samples(t: &[u8], first: usize, n: usize) -> [i16; 128]
     let mut i: usize = 0;
     while i < n {
         let at = 12 + 3 * (first + i);
-        out[i] = state::bytes::signed16(t[at], t[at + 1]);
+        out[i] = image::bytes::signed16(t[at], t[at + 1]);
         i += 1;
     }
     out
@@ -69,7 +69,7 @@ pub fn well_formed(t: &[u8]) -> bool
     } else if 65536 < t.len() {
         false
     } else {
-        let count = state::bytes::number16(t[6], t[7]) as usize;
+        let count = image::bytes::number16(t[6], t[7]) as usize;
         t.len() == 12 + 4 * (t[2] as usize * count) && t[5] == 0
     }
 }

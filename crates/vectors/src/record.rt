@@ -67,7 +67,7 @@ fn same_image(image: &[u8], v: &[u8], k: usize) -> bool {
 // Whether a state saves as the record's image, and leaves the bytes after it alone.
 pub fn same_saved(s: Equaliser, v: &[u8]) -> bool {
     let mut image = [BYTE; 160];
-    let saved = s.save(&mut image);
+    let saved = image::save::save(s, &mut image);
     let k = (byte_at(v, 0) as usize) + (byte_at(v, 1) as usize);
     if saved.number != 0 {
         return false;

@@ -53,7 +53,7 @@ fn main() {
     let first = block(fresh.state, 1);
     let second = block(first, 0);
     let mut image = [0u8; 20];
-    let saved = second.save(&mut image);
+    let saved = image::save::save(second, &mut image);
     if saved.length == 20 {
         put_all(&image);
     }

@@ -1,0 +1,51 @@
+-- The saved image, and what saving answers.
+use mathlib.Core.Bool.{cond}
+use mathlib.Core.List.{List, [], _∷_, _++_}
+use mathlib.Core.Path.{_≡_}
+use Prim.Native.Nat.{ℕ, zero, suc, _+_, _*_, _/_, _%_, _<_}
+use lib.Dec.{leb, eqb}
+use lib.ListN.{length, take, drop}
+use lib.IntN.{ℤ}
+use mir.Syntax.{w16}
+use mir.Val.{ofZ}
+use Rattle.state.specs.State.{taps}
+use Rattle.state.specs.Answers.{examined}
+use Rattle.state.specs.declared.equaliser.Equaliser.{Equaliser}
+use Rattle.image.specs.declared.save.Saved.{Saved}
+
+abbrev pub Byte : ℕ → Type 0
+Byte b = b < 256
+
+-- the lowest k bytes of n, lowest first
+unfoldable pub bytes : ℕ → ℕ → List ℕ
+bytes zero n = []
+bytes (suc k) n = n % 256 ∷ bytes k (n / 256)
+
+-- signed 16-bit numbers, two bytes each
+unfoldable pub words : List ℤ → List ℕ
+words [] = []
+words (z ∷ l) = bytes 2 (ofZ w16 z) ++ words l
+
+-- p, q, N, r, L, ψ, b, B and M
+abbrev pub header : Equaliser → List ℕ
+header e = e .p ∷ e .q ∷ e .n ∷ e .r ∷ e .l ∷ e .psi ∷ e .b ∷ e .big ∷ bytes 4 (e .m)
+
+abbrev pub headerLength : ℕ
+headerLength = 12
+
+unfoldable pub image : Equaliser → List ℕ
+image e = header e ++ (words (take (taps e) (e .weights)) ++ words (take (taps e) (e .past)))
+
+abbrev pub imageLength : Equaliser → ℕ
+imageLength e = headerLength + 4 * taps e
+
+-- ---- saving
+
+unfoldable pub saveNumber : Equaliser → List ℕ → ℕ
+saveNumber e buffer = cond (eqb (examined e) 0) (cond (leb (imageLength e) (length buffer)) 0 7) (examined e)
+
+-- the answer, and the lent buffer at the end
+pub record Save (e : Equaliser) (before : List ℕ) (s : Saved) (after : List ℕ) : Type 0 where
+  pub number : s .number ≡ saveNumber e before
+  pub saved-length : s .length ≡ cond (eqb (saveNumber e before) 0) (imageLength e) 0
+  pub contents : after ≡ cond (eqb (saveNumber e before) 0) (image e ++ drop (imageLength e) before) before

@@ -1,0 +1,80 @@
+-- The state that bytes hold, and what loading answers.
+use mathlib.Core.Bool.{cond}
+use mathlib.Core.List.{List, [], _∷_}
+use mathlib.Core.Path.{_≡_}
+use Prim.Native.Nat.{ℕ, _+_, _*_}
+use lib.Dec.{leb, eqb}
+use lib.ListN.{length, getD, take, drop}
+use lib.IntN.{ℤ}
+use mir.Syntax.{w16}
+use mir.Val.{toZ}
+use Rattle.state.specs.Sizes.{sizesFit}
+use Rattle.state.specs.State.{settings, padded, refused}
+use Rattle.state.specs.Answers.{examined}
+use Rattle.image.specs.Image.{headerLength, imageLength}
+use Rattle.state.specs.declared.equaliser.Equaliser.{Equaliser}
+use Rattle.state.specs.declared.equaliser.Answer.{Answer}
+
+-- ---- numbers of bytes, lowest first
+
+unfoldable pub number : List ℕ → ℕ
+number [] = 0
+number (b ∷ l) = b + 256 * number l
+
+-- sixteen bits as a signed number
+abbrev pub signed : ℕ → ℤ
+signed n = toZ w16 n
+
+-- a signed 16-bit number for every two bytes
+unfoldable pub wordsOf : List ℕ → List ℤ
+wordsOf [] = []
+wordsOf (a ∷ []) = []
+wordsOf (a ∷ b ∷ l) = signed (a + 256 * b) ∷ wordsOf l
+
+-- ---- the parts of an image
+
+abbrev pub byteAt : List ℕ → ℕ → ℕ
+byteAt l i = getD l i 0
+
+abbrev pub tapsIn : List ℕ → ℕ
+tapsIn l = byteAt l 0 + byteAt l 1
+
+abbrev pub weightBytes : List ℕ → List ℕ
+weightBytes l = take (2 * tapsIn l) (drop headerLength l)
+
+abbrev pub pastBytes : List ℕ → List ℕ
+pastBytes l = take (2 * tapsIn l) (drop (headerLength + 2 * tapsIn l) l)
+
+unfoldable pub stateIn : List ℕ → Equaliser
+stateIn l = record {
+  p = byteAt l 0;
+  q = byteAt l 1;
+  n = byteAt l 2;
+  r = byteAt l 3;
+  l = byteAt l 4;
+  psi = byteAt l 5;
+  b = byteAt l 6;
+  big = byteAt l 7;
+  m = number (take 4 (drop 8 l));
+  weights = padded (wordsOf (weightBytes l));
+  past = padded (wordsOf (pastBytes l));
+}
+
+-- ---- loading
+
+-- the checks of the bytes alone: 8 below 12 of them, 1 on the sizes, 8 if the length isn't exact
+unfoldable pub frameNumber : List ℕ → ℕ
+frameNumber l =
+    cond (leb headerLength (length l)) (cond (sizesFit (settings (stateIn l))) (cond (eqb (length l) (imageLength (stateIn l))) 0 8) 1) 8
+
+-- then 2 and 9
+unfoldable pub loadNumber : List ℕ → ℕ
+loadNumber l = cond (eqb (frameNumber l) 0) (examined (stateIn l)) (frameNumber l)
+
+unfoldable pub loadState : List ℕ → Equaliser
+loadState l = cond (eqb (loadNumber l) 0) (stateIn l) refused
+
+-- the answer
+pub record Load (bytes : List ℕ) (a : Answer) : Type 0 where
+  pub number : a .number ≡ loadNumber bytes
+  pub state : a .state ≡ loadState bytes

@@ -1,0 +1,4 @@
+// The saved image: saving and loading the state of a station.
+pub mod bytes;
+pub mod load;
+pub mod save;

@@ -1,0 +1,89 @@
+// Loading: the state that bytes hold.
+ghost use mathlib.Core.Path.{_≡_};
+ghost use Prim.Native.Nat.{_+_, _*_, _≤_};
+ghost use lib.ListN.{length};
+ghost use Rattle.state.specs.State.{padded};
+ghost use Rattle.image.specs.Load.{wordsOf, tapsIn, stateIn, frameNumber, Load};
+use super::bytes::number32;
+use super::bytes::signed16;
+use state::equaliser::Answer;
+use state::equaliser::Equaliser;
+
+// Signed numbers of two bytes each, at the front of thirty-two places.
+pub fn words_in(bytes: &[u8]) -> [i16; 32]
+    requires { ⌜ length (now bytes) ≤ 64 ⌝ }
+    ensures { λ r. ⌜ r ≡ padded (wordsOf (now (bytes .entry))) ⌝ }
+{
+    let mut out = [0i16; 32];
+    let n = bytes.len() / 2;
+    let mut i: usize = 0;
+    while i < n {
+        out[i] = signed16(bytes[2 * i], bytes[2 * i + 1]);
+        i += 1;
+    }
+    out
+}
+
+// 8 below 12 bytes, 1 on the sizes, 8 if the length isn't exact, or 0.
+pub fn frame_number(bytes: &[u8]) -> u8
+    ensures { λ r. ⌜ r ≡ frameNumber (now (bytes .entry)) ⌝ }
+{
+    if bytes.len() < 12 {
+        return 8;
+    }
+    if !state::sizes::sizes_fit(bytes[0], bytes[1], bytes[2], bytes[3], bytes[4]) {
+        return 1;
+    }
+    let taps = (bytes[0] as usize) + (bytes[1] as usize);
+    if bytes.len() == 12 + 4 * taps { 0 } else { 8 }
+}
+
+// The state in bytes of the right length.
+pub fn state_in(bytes: &[u8]) -> Equaliser
+    requires { ⌜ (length (now bytes) ≡ 12 + 4 * tapsIn (now bytes)) × (tapsIn (now bytes) ≤ 32) ⌝ }
+    ensures { λ e. ⌜ e ≡ stateIn (now (bytes .entry)) ⌝ }
+{
+    let taps = (bytes[0] as usize) + (bytes[1] as usize);
+    let mid = 12 + 2 * taps;
+    let end = mid + 2 * taps;
+    let weights = words_in(&bytes[12..mid]);
+    let past = words_in(&bytes[mid..end]);
+    Equaliser {
+        p: bytes[0],
+        q: bytes[1],
+        n: bytes[2],
+        r: bytes[3],
+        l: bytes[4],
+        psi: bytes[5],
+        b: bytes[6],
+        big: bytes[7],
+        m: number32(bytes[8], bytes[9], bytes[10], bytes[11]),
+        weights: weights,
+        past: past,
+    }
+}
+
+// The state that bytes hold, or the number of the refusal beside the smallest one.
+pub fn load(bytes: &[u8]) -> Answer
+    ensures { λ a. ⌜ Load (now (bytes .entry)) a ⌝ }
+{
+    let frame = frame_number(bytes);
+    if frame != 0 {
+        return Answer {
+            number: frame,
+            state: state::equaliser::fresh(1, 1, 1, 0, 0, 0),
+        };
+    }
+    let e = state_in(bytes);
+    let number = state::sound::examined(e);
+    if number != 0 {
+        return Answer {
+            number: number,
+            state: state::equaliser::fresh(1, 1, 1, 0, 0, 0),
+        };
+    }
+    Answer {
+        number: 0,
+        state: e,
+    }
+}
