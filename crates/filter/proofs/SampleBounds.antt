@@ -14,7 +14,7 @@ use Rattle.filter.specs.Sample.{Taps, ν, F, H, Y, ξ, v, κ, Z, θ, J, 
 use Rattle.filter.specs.Sound.{Fit}
 use Rattle.steps.specs.Sound.{Small, Summable, Adaptable}
 use Rattle.filter.specs.Exact.{Bounded}
-use Rattle.filter.proofs.SideBounds.{SideFit, sum-small, sum-raised, summable, adaptable, learnt-small, places-least, all-small, settled-small}
+use Rattle.filter.proofs.SideBounds.{SideFit, sum-small, sum-raised, summable, adaptable, learnt-small, places-least, places-most, all-small, settled-small}
 use Rattle.filter.proofs.ErrorBounds.{output-small, output-scaled, error-small, error-scaled}
 use Rattle.filter.proofs.StepAdmission.{error-weighed, factor-small}
 use Rattle.filter.proofs.SampleSides as Sides
@@ -86,6 +86,10 @@ module _ (k : Settings) (g : ℕ) (t : Taps) (entry : ℤ) (h : Fit k g t) where
     -- M·Z is cut by 17 places or more
     pub places : {n : ℕ} (f : Side) → SideFit (k .r) n f → f .exponent + θ k g t entry + 17 ≤ 60 + t .ψ + f .scale
     places f s = places-least f s (t .ψ) (θ k g t entry) (h .within .r-most) (Sides.θ-most k g t entry h e)
+
+    -- and by 60 or fewer
+    pub places-below : {n : ℕ} (f : Side) → SideFit (k .r) n f → 60 + t .ψ + f .scale ≤ f .exponent + θ k g t entry + 60
+    places-below f s = places-most f s (t .ψ) (θ k g t entry) (Sides.θ-above k g t entry h)
 
     pub J-small : {n : ℕ} (f : Side) → SideFit (k .r) n f → natAbs (J k g t entry f) ≤ 2 ^ 29
     unfolding J

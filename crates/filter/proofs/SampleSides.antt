@@ -100,6 +100,7 @@ module _ (k : Settings) (g : ℕ) (t : Taps) (entry : ℤ) (h : Fit k g t) where
     weights-small = h .forward-small;
     mantissas-small = h .samples-small;
     scale-enough = scale-enough (k .p);
+    exponent-least = h .g-least;
     exponent-most = omega (arith, h .g-most);
   }
 
@@ -110,6 +111,7 @@ module _ (k : Settings) (g : ℕ) (t : Taps) (entry : ℤ) (h : Fit k g t) where
     weights-small = h .back-small;
     mantissas-small = held-small;
     scale-enough = scale-enough (k .q);
+    exponent-least = omega (arith, ν-is);
     exponent-most = omega (arith, ν-is, longest-most);
   }
 
@@ -120,6 +122,7 @@ module _ (k : Settings) (g : ℕ) (t : Taps) (entry : ℤ) (h : Fit k g t) where
     weights-small = h .back-small;
     mantissas-small = subst (λ (s : ℕ). Each (λ (u : ℤ). natAbs u * 2 ^ s < 2 ^ 15) (t .symbols)) (sym symbol-scale) symbols-raised;
     scale-enough = omega (arith, h .within .q-most, rises {a = 11} {b = scaleBack k + (15 - ν k g t entry)} (omega (arith, symbol-scale, longest-most, h .within .r-most)));
+    exponent-least = omega (arith, symbol-scale);
     exponent-most = omega (arith, symbol-scale, longest-most, h .within .r-most);
   }
 
@@ -133,6 +136,15 @@ module _ (k : Settings) (g : ℕ) (t : Taps) (entry : ℤ) (h : Fit k g t) where
     arith,
     ξ-form k g t entry,
     max-le {a = g} {b = ν k g t entry + 30} {k = 39} (omega (arith, h .g-most, h .within .r-most, scaleForward-most)) (omega (arith, ν-most)),
+  )
+
+  pub θ-above : t .ψ ≤ θ k g t entry
+  θ-above = omega (
+    arith,
+    θ-form k g t entry,
+    le-max-right (κ k g t entry) (ξ k g t entry),
+    ξ-form k g t entry,
+    le-max-right g (ν k g t entry + 30),
   )
 
   module _ (e : isEntry (k .r) entry ≡ true) where

@@ -26,6 +26,7 @@ pub record SideFit (r n : ℕ) (f : Side) : Type 0 where
   pub weights-small : Each Small (f .weights)
   pub mantissas-small : Each (λ (a : ℤ). natAbs a * 2 ^ f .scale < 2 ^ 15) (f .mantissas)
   pub scale-enough : 2 * n ≤ 2 ^ f .scale
+  pub exponent-least : f .scale ≤ f .exponent
   pub exponent-most : f .exponent ≤ r + 31 + f .scale
 
 -- ---- new weights
@@ -120,3 +121,7 @@ module _ {r n : ℕ} (f : Side) (h : SideFit r n f) where
   -- the places of M·Z never run below 17
   pub places-least : (ψ θ : ℕ) → r ≤ 3 → θ ≤ ψ + 9 → f .exponent + θ + 17 ≤ 60 + ψ + f .scale
   places-least ψ θ l e = omega (arith, h .exponent-most)
+
+  -- nor above 60
+  pub places-most : (ψ θ : ℕ) → ψ ≤ θ → 60 + ψ + f .scale ≤ f .exponent + θ + 60
+  places-most ψ θ l = omega (arith, h .exponent-least)

@@ -100,6 +100,7 @@ module _ (k : Settings) (s sb g : ℕ) (t : Taps) (entry : ℤ) (r : Ready k s s
     ψ-most = r .fit .ψ-most;
     room = l;
     places = omega (arith, B.places k g t entry (r .fit) (r .entry-is) f fit);
+    places-most = omega (arith, B.places-below k g t entry (r .fit) (r .entry-is) f fit);
     adaptable = h;
   }
 

@@ -77,6 +77,7 @@ pub record Teachable (m : ℕ) (z : ℤ) (ψ θ scale exponent more : ℕ) (w a 
   pub ψ-most : ψ ≤ 15
   pub room : scale + more ≤ 15
   pub places : exponent + θ ≤ 60 + ψ + scale
+  pub places-most : 60 + ψ + scale < exponent + θ + 64
   pub adaptable : Adaptable (factorOf m z ψ θ scale exponent) (15 - (scale + more)) w a
 
 -- ---- step 7

@@ -1,10 +1,10 @@
 // One sample.
 ghost use mathlib.Core.Path.{_≡_};
-ghost use mathlib.Core.Bool.{_&&_};
-ghost use Prim.Native.Nat.{_^_, _<_, _≤_};
+ghost use Prim.Native.Nat.{_^_, _<_, _≤_, max};
 ghost use lib.IntN.{natAbs};
 ghost use lib.ListN.{drop};
-ghost use Rattle.steps.specs.Side.{allSmall};
+ghost use Rattle.numbers.specs.BitLength.{bitLength};
+ghost use Rattle.steps.specs.Side.{longest};
 ghost use Rattle.filter.specs.Calls.{Audible, Heard-is, Decidable, Judged-is, chosen, Teachable, taught, Settled-is, Changeable, Changed-is, takenOf, Ready, Taken-is, settingsOf, tapsOf};
 
 // The settings of a station.
@@ -89,7 +89,7 @@ pub fn judge(r: u32, sb: u32, y: i32, xi: u32, entry: i16) -> Judged
     }
 }
 
-// Step 6: the new weights of a side whose data are raised by some places more.
+// Step 6: the new weights of a side whose data are raised by some places more, and the bits of their magnitudes together.
 pub fn learn(
     w: &mut [i16],
     a: &[i16],
@@ -100,31 +100,20 @@ pub fn learn(
     scale: u32,
     exponent: u32,
     more: u32,
-)
+) -> u16
     requires { ⌜ Teachable m z psi theta scale exponent more (now w) (now a) ⌝ }
-    ensures { λ _. ⌜ now (w .exit) ≡ taught m z psi theta scale exponent more (now (w .entry)) (now (a .entry)) ⌝ }
+    ensures { λ r. ⌜ (now (w .exit) ≡ taught m z psi theta scale exponent more (now (w .entry)) (now (a .entry))) × (bitLength r ≡ longest (now (w .exit))) ⌝ }
 {
     let j = steps::factor::factor(m, z, 60 + psi + scale - (exponent + theta));
-    steps::side::adapt(w, a, j as i32, 15 - (scale + more));
+    steps::side::adapt(w, a, j as i32, 15 - (scale + more))
 }
 
-// Step 7: whether no weight of either side has reached the halving limit.
-fn both_small(forward: &[i16], back: &[i16]) -> bool
-    ensures { λ r. ⌜ r ≡ (allSmall (now (forward .entry)) && allSmall (now (back .entry))) ⌝ }
-{
-    if steps::side::all_small(forward) {
-        steps::side::all_small(back)
-    } else {
-        false
-    }
-}
-
-// Step 7: the new ψ.
-pub fn settle(forward: &mut [i16], back: &mut [i16], psi: u32) -> u32
-    requires { ⌜ psi ≤ 15 ⌝ }
+// Step 7: the new ψ, where seen has the bits of all new magnitudes together.
+pub fn settle(forward: &mut [i16], back: &mut [i16], seen: u16, psi: u32) -> u32
+    requires { ⌜ (psi ≤ 15) × (bitLength seen ≡ max (longest (now forward)) (longest (now back))) ⌝ }
     ensures { λ r. ⌜ Settled-is psi (now (forward .entry)) (now (back .entry)) r (now (forward .exit)) (now (back .exit)) ⌝ }
 {
-    if both_small(forward, back) {
+    if seen < 16384 {
         return psi;
     }
     steps::side::halve(forward);
@@ -152,9 +141,9 @@ pub fn change(
     let nu = h.nu;
     let z = j.z;
     let theta = j.theta;
-    learn(forward, samples, m, z, psi, theta, s, g, 0);
-    learn(back, symbols, m, z, psi, theta, sb, nu + 30, 15 - nu);
-    settle(forward, back, psi)
+    let ahead = learn(forward, samples, m, z, psi, theta, s, g, 0);
+    let behind = learn(back, symbols, m, z, psi, theta, sb, nu + 30, 15 - nu);
+    settle(forward, back, ahead | behind, psi)
 }
 
 // What is handed out, in its final widths.

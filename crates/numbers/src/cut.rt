@@ -12,19 +12,28 @@ fn ones(k: u32) -> i64
     ((1u64 << k) - 1) as i64
 }
 
+// z, or a negative z raised by 2^k − 1, so that a shift, which rounds down, gives T.
+fn lifted(z: i64, k: u32) -> i64
+    requires { ⌜ k < 64 ⌝ }
+    ensures { λ r. ⌜ shrZ r (2 ^ k) ≡ cut z k ⌝ }
+{
+    let low = ones(k);
+    if z >= 0 { z } else { z + low }
+}
+
 // T(z / 2^k) for a k that a shift takes.
-fn cut_near(z: i64, k: u32, low: i64) -> i64
-    requires { ⌜ (k < 64) × (low ≡ pos (2 ^ k - 1)) ⌝ }
+pub fn cut_near(z: i64, k: u32) -> i64
+    requires { ⌜ k < 64 ⌝ }
     ensures { λ r. ⌜ r ≡ cut z k ⌝ }
 {
-    if z >= 0 { z >> k } else { (z + low) >> k }
+    lifted(z, k) >> k
 }
 
 // T(z / 2^k). Every number of 64 bits is below 2^64, so from there on nothing is left.
 pub fn cut(z: i64, k: u32) -> i64
     ensures { λ r. ⌜ r ≡ cut z k ⌝ }
 {
-    if k < 64 { cut_near(z, k, ones(k)) } else { 0 }
+    if k < 64 { cut_near(z, k) } else { 0 }
 }
 
 // z·2^k.
@@ -51,8 +60,8 @@ fn ones32(k: u32) -> i32
     ((1u32 << k) - 1) as i32
 }
 
-// z, or a negative z raised by 2^k − 1, so that a shift, which rounds down, gives T.
-fn lifted(z: i32, k: u32) -> i32
+// The same in 32 bits.
+fn lifted32(z: i32, k: u32) -> i32
     requires { ⌜ k < 32 ⌝ }
     ensures { λ r. ⌜ shrZ r (2 ^ k) ≡ cut z k ⌝ }
 {
@@ -65,7 +74,7 @@ pub fn cut32(z: i32, k: u32) -> i32
     requires { ⌜ k < 32 ⌝ }
     ensures { λ r. ⌜ r ≡ cut z k ⌝ }
 {
-    lifted(z, k) >> k
+    lifted32(z, k) >> k
 }
 
 // z·2^k in 32 bits.

@@ -1,5 +1,5 @@
 -- Laws of the largest number of a list, and of the largest bit length.
-use mathlib.Core.Path.{_≡_, refl, sym, ap, _∙_, subst}
+use mathlib.Core.Path.{_≡_, refl, sym, ap, ap₂, _∙_, subst}
 use mathlib.Core.Bool.{Bool, true, false, _&&_}
 use mathlib.Core.List.{List, [], _∷_, map}
 use Prim.Native.Nat.{ℕ, zero, suc, _+_, _^_, _≤_, _<_, max}
@@ -106,7 +106,7 @@ longest-above l =
 
 -- ---- the bits of several numbers together
 
-or-bit-length : (m n : ℕ) → bitLength (bitOr m n) ≡ max (bitLength m) (bitLength n)
+pub or-bit-length : (m n : ℕ) → bitLength (bitOr m n) ≡ max (bitLength m) (bitLength n)
 or-bit-length m n =
     omega (
       arith,
@@ -134,6 +134,18 @@ same-side k m n true e t = lt-ltb m (2 ^ k) (bit-length-lt m k (omega (arith, e,
 same-side k m n false e t =
     le-ltb m (2 ^ k) (by-contra (2 ^ k) m (λ h. omega (arith, ltb-false n (2 ^ k) t, bit-length-lt n k (omega (arith, e, bit-length-le m k h)))))
 
--- no weight has reached the halving limit where the bits together have not
+-- no weight has reached the halving limit where the bits together have not, on one side
 pub bits-small : (w : List ℤ) (m : ℕ) → bitLength m ≡ longest w → ltb m halvingLimit ≡ allSmall w
 bits-small w m e = same-side 14 m (largest (magnitudes w)) (ltb (largest (magnitudes w)) halvingLimit) (e ∙ longest-is w) refl ∙ sym (all-small-is w)
+
+-- and on both
+pub bits-both-small : (w u : List ℤ) (m : ℕ) → bitLength m ≡ max (longest w) (longest u) → ltb m halvingLimit ≡ (allSmall w && allSmall u)
+bits-both-small w u m e =
+    same-side 14 m (max x y) (ltb (max x y) halvingLimit) (e ∙ ap₂ max (longest-is w) (longest-is u) ∙ max-bit-length x y) refl
+    ∙ sym (ap₂ (λ (b c : Bool). b && c) (all-small-is w) (all-small-is u) ∙ max-below halvingLimit x y (ltb x halvingLimit) (ltb y halvingLimit) refl refl)
+  where
+    x : ℕ
+    x = largest (magnitudes w)
+
+    y : ℕ
+    y = largest (magnitudes u)

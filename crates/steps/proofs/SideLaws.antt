@@ -5,7 +5,8 @@ use Prim.Native.Nat.{ℕ, zero, suc, _+_, _*_, _^_, _≤_, _<_}
 use native.Mathlib.Omega.{arith}
 use native.Mathlib.Nat.{le-of-lt, le-of-suc-le-suc, not-suc-le-zero, lt-of-le-of-lt, mul-le-mul-left, mul-le-mul-right, min-le-right}
 use native.Mathlib.Numerals.{add-one}
-use lib.ListN.{length, getD, take, length-take, List·getD-map}
+use lib.Bits.{bitOr}
+use lib.ListN.{length, getD, take, set, length-take, List·getD-map}
 use lib.Seq.{take-all, length-take-le, getD-take}
 use lib.IntN.{ℤ, pos, negsuc, natAbs, _+ℤ_, _*ℤ_, *ℤ-comm}
 use lib.Signed.{quotZ}
@@ -13,13 +14,15 @@ use mir.Syntax.{w16, w32, w64}
 use mir.Val.{SFits}
 use mir.Facts.{sfits-widen}
 use Rattle.laws.specs.Integers.{*ℤ-assoc}
+use Rattle.laws.specs.Lists.{Written, written-none, written-next, written-all}
 use Rattle.laws.specs.Sums.{dot, dot-next, dot-bound, Each, each-at, each-take, each-weaken}
 use Rattle.laws.specs.Machine.{fits-abs, abs-fits}
+use Rattle.numbers.specs.BitLength.{bitLength}
 use Rattle.numbers.specs.Cut.{cut, raise}
 use Rattle.numbers.proofs.CutLaws.{cut-zero, cut-lt}
-use Rattle.steps.specs.Side.{adapted, adapt, halved, push, largest, magnitudes}
+use Rattle.steps.specs.Side.{adapted, adapt, halved, push, largest, longest, magnitudes}
 use Rattle.steps.specs.Sound.{Small, Summable, Adaptable}
-use Rattle.steps.proofs.LargestLaws.{magnitude-at, each-magnitude}
+use Rattle.steps.proofs.LargestLaws.{largest-none, magnitude-at, each-magnitude, bits-next, bits-end}
 
 -- ---- a number of 16 bits in a wider register
 
@@ -75,6 +78,28 @@ adapt-at k [] a i h g = absurd (not-suc-le-zero h)
 adapt-at k (w ∷ ws) [] i h g = absurd (not-suc-le-zero g)
 adapt-at k (w ∷ ws) (a ∷ b) zero h g = refl
 adapt-at k (w ∷ ws) (a ∷ b) (suc i) h g = adapt-at k ws b i (le-of-suc-le-suc h) (le-of-suc-le-suc g)
+
+-- the first i weights are the new ones, the others are still the old ones, and the bits seen of the new ones are as many as the largest has
+pub record Changing (new old : List ℤ) (i : ℕ) (now : List ℤ) (seen : ℕ) : Type 0 where
+  pub written : Written new old i now
+  pub bits : bitLength seen ≡ bitLength (largest (take i (magnitudes new)))
+
+pub changing-none : (new old : List ℤ) → Changing new old 0 old 0
+changing-none new old = record { written = written-none new old; bits = ap bitLength (sym largest-none) }
+
+module _ {new old now : List ℤ} {i seen : ℕ} (c : Changing new old i now seen) where
+  pub changing-next : (x : ℤ) (n : ℕ) → length new ≡ length old → i < length old → x ≡ getD new i (pos 0) → n ≡ natAbs x → Changing new old (i + 1) (set now i x) (bitOr seen n)
+  changing-next x n l h e s = record {
+    written = written-next (c .written) (pos 0) x (omega arith) h e;
+    bits =
+        ap (λ (m : ℕ). bitLength (bitOr seen m)) (s ∙ ap natAbs e ∙ sym (List·getD-map natAbs new i (pos 0)))
+        ∙ bits-next (magnitudes new) i seen (c .bits);
+  }
+
+  pub changing-all : length new ≡ length old → length old ≤ i → (now ≡ new) × (bitLength seen ≡ longest now)
+  changing-all l h =
+      let e = written-all (c .written) l h in
+      (e, bits-end new i seen (omega arith) (c .bits) ∙ ap longest (sym e))
 
 -- data raised by e places
 pub adapt-raise : (e : ℕ) (k : ℤ) (w a : List ℤ) → adapt k w (map (λ (x : ℤ). raise x e) a) ≡ adapt (raise k e) w a

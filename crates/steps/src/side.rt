@@ -96,16 +96,20 @@ fn adapted_by_size(j: i32, factor: u32, t: u32, w: i16, a: i16) -> i16
 }
 
 // Step 6 for many taps: products of magnitudes of 32 bits, which a compiler takes several at a time.
-fn adapt_many(w: &mut [i16], a: &[i16], j: i32, t: u32)
+fn adapt_many(w: &mut [i16], a: &[i16], j: i32, t: u32) -> u16
     requires { ⌜ Adaptable j t (now w) (now a) ⌝ }
-    ensures { λ _. ⌜ now (w .exit) ≡ adapt (raise j (15 - t)) (now (w .entry)) (now (a .entry)) ⌝ }
+    ensures { λ r. ⌜ (now (w .exit) ≡ adapt (raise j (15 - t)) (now (w .entry)) (now (a .entry))) × (bitLength r ≡ longest (now (w .exit))) ⌝ }
 {
     let factor = factor_size(j);
+    let mut seen: u16 = 0;
     let mut i: usize = 0;
     while i < w.len() {
-        w[i] = adapted_by_size(j, factor, t, w[i], a[i]);
+        let new = adapted_by_size(j, factor, t, w[i], a[i]);
+        w[i] = new;
+        seen |= size(new);
         i += 1;
     }
+    seen
 }
 
 // Step 6: one weight and what it gains, where k is J·2^(15 − t).
@@ -117,27 +121,32 @@ fn adapted(k: i64, w: i16, a: i16) -> i16
 }
 
 // Step 6 for few taps: a signed product and a cut by a constant.
-fn adapt_few(w: &mut [i16], a: &[i16], j: i32, t: u32)
+fn adapt_few(w: &mut [i16], a: &[i16], j: i32, t: u32) -> u16
     requires { ⌜ Adaptable j t (now w) (now a) ⌝ }
-    ensures { λ _. ⌜ now (w .exit) ≡ adapt (raise j (15 - t)) (now (w .entry)) (now (a .entry)) ⌝ }
+    ensures { λ r. ⌜ (now (w .exit) ≡ adapt (raise j (15 - t)) (now (w .entry)) (now (a .entry))) × (bitLength r ≡ longest (now (w .exit))) ⌝ }
 {
     let k = numbers::cut::raise(j as i64, 15 - t);
+    let mut seen: u16 = 0;
     let mut i: usize = 0;
     while i < w.len() {
-        w[i] = adapted(k, w[i], a[i]);
+        let new = adapted(k, w[i], a[i]);
+        w[i] = new;
+        seen |= size(new);
         i += 1;
     }
+    seen
 }
 
-// Step 6: the new weights of a side, whose data are raised by 15 − t places. Up to 4 taps are few.
-pub fn adapt(w: &mut [i16], a: &[i16], j: i32, t: u32)
+// Step 6: the new weights of a side, whose data are raised by 15 − t places, and the bits of their magnitudes together.
+// Up to 4 taps are few.
+pub fn adapt(w: &mut [i16], a: &[i16], j: i32, t: u32) -> u16
     requires { ⌜ Adaptable j t (now w) (now a) ⌝ }
-    ensures { λ _. ⌜ now (w .exit) ≡ adapt (raise j (15 - t)) (now (w .entry)) (now (a .entry)) ⌝ }
+    ensures { λ r. ⌜ (now (w .exit) ≡ adapt (raise j (15 - t)) (now (w .entry)) (now (a .entry))) × (bitLength r ≡ longest (now (w .exit))) ⌝ }
 {
     if w.len() <= 4 {
-        adapt_few(w, a, j, t);
+        adapt_few(w, a, j, t)
     } else {
-        adapt_many(w, a, j, t);
+        adapt_many(w, a, j, t)
     }
 }
 

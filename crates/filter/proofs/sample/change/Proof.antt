@@ -1,10 +1,12 @@
--- Each side learns, and both settle.
-use mathlib.Core.Path.{_≡_, _∙_}
+-- Each side learns, and both settle by the bits of both.
+use mathlib.Core.Path.{_≡_, ap₂, _∙_}
+use Prim.Native.Nat.{max}
 use native.Mathlib.Omega.{arith}
 use mir.Syntax.{w32}
 use mir.Val.{toZ, ofZ}
 use borrow.Author.Needs.{needs}
 use Rattle.laws.specs.Machine.{kept}
+use Rattle.steps.proofs.LargestLaws.{or-bit-length}
 use Rattle.filter.specs.Calls.{taughtForward, taughtBack}
 use Rattle.filter.proofs.SampleLaws.{settled-of}
 use Rattle.filter.proofs.sample.change.Statement.{statement}
@@ -22,9 +24,6 @@ sub-learn c = search needs
 learn-requires-2 : tie.Need-learn-requires-2
 learn-requires-2 c κs = search needs
 
-settle-requires : tie.Need-settle-requires
-settle-requires c κs = search needs
-
 same-length : tie.Need-same-length
 same-length c = search needs
 
@@ -41,14 +40,19 @@ first c = c .before .before .before
 abbrev start : tie.After-learn → tie.Start
 start c = c .before .before .before
 
+settle-requires : tie.Need-settle-requires
+settle-requires c κs =
+    let d = c .before .before .before in
+    (start (first d) .pre .ahead .ψ-most, or-bit-length (first d .learn .result) (d .learn2 .result) ∙ ap₂ max (first d .learn .ensures .1) (d .learn2 .ensures .1))
+
 error-kept : (c : tie.After-learn) → toZ w32 (ofZ w32 (start c .args .j .z)) ≡ start c .args .j .z
 error-kept c = kept w32 (start c .args .j .z) (omega (arith, c .before .before .struct-told .given))
 
 ahead : (c : tie.After-learn) → let a = start c .args in c .learn .last .0 ≡ taughtForward (a .m) (a .s) (a .g) (a .psi) (a .j) (a .forward .now) (a .samples .now)
-ahead c = c .learn .ensures ∙ rw (error-kept c)
+ahead c = c .learn .ensures .0 ∙ rw (error-kept c)
 
 behind : (c : tie.After-learn2) → let a = start (first c) .args in c .learn2 .last .0 ≡ taughtBack (a .m) (a .sb) (a .h .nu) (a .psi) (a .j) (a .back .now) (a .symbols .now)
-behind c = c .learn2 .ensures ∙ rw (error-kept (first c))
+behind c = c .learn2 .ensures .0 ∙ rw (error-kept (first c))
 
 returns : tie.Need-returns
 returns c = settled-of (ahead (first (second c))) (behind (second c)) (c .before .before .settle .ensures)

@@ -62,8 +62,10 @@ same-length c = search needs
 returns : tie.Need-returns
 returns c =
     let s = c .before .before .before .before in
-    c .before .adapt .ensures
-    ∙ ap₂ (λ (z : ℤ) (n : ℕ). adapt (raise z n) (s .args .w .now) (s .args .a .now)) (passed (c .before .before .before)) (left (s .args .scale + s .args .more) (s .pre .room))
+    let e = c .before .adapt .ensures in (
+      e .0 ∙ ap₂ (λ (z : ℤ) (n : ℕ). adapt (raise z n) (s .args .w .now) (s .args .a .now)) (passed (c .before .before .before)) (left (s .args .scale + s .args .more) (s .pre .room)),
+      e .1,
+    )
 
 pub learn-spec : {M : Type 1} → statement M
 learn-spec =

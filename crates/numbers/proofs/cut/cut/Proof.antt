@@ -9,14 +9,11 @@ use Rattle.numbers.proofs.CutLaws.{cut-all}
 use Rattle.numbers.proofs.cut.cut.Statement.{statement}
 use Rattle.numbers.proofs.cut.cut.Tie as tie
 
-ones-requires : tie.Need-ones-requires
-ones-requires c κs = search needs
-
 cut-near-requires : tie.Need-cut-near-requires
 cut-near-requires c κs = search needs
 
 returns : tie.Need-returns
-returns c = toZ-ofZ (sfits-of (c .cut-near .ok)) ∙ c .cut-near .ensures ∙ simp (toZ-ofZ (c .before .before .before .fits .z))
+returns c = toZ-ofZ (sfits-of (c .cut-near .ok)) ∙ c .cut-near .ensures ∙ simp (toZ-ofZ (c .before .before .fits .z))
 
 returns-2 : tie.Need-returns-2
 returns-2 c =
@@ -24,4 +21,4 @@ returns-2 c =
     (omega (arith, abs-fits (c .before .fits .z), rises {a = 64} {b = c .before .args .k} (c .if1 .left))))
 
 pub cut-spec : {M : Type 1} → statement M
-cut-spec = tie.close (tie.spec ones-requires cut-near-requires returns returns-2)
+cut-spec = tie.close (tie.spec cut-near-requires returns returns-2)

@@ -9,8 +9,8 @@ use Rattle.laws.specs.Machine.{fits-shr}
 use Rattle.numbers.proofs.cut.cut32.Statement.{statement}
 use Rattle.numbers.proofs.cut.cut32.Tie as tie
 
-lifted-requires : tie.Need-lifted-requires
-lifted-requires c κs = search needs
+lifted32-requires : tie.Need-lifted32-requires
+lifted32-requires c κs = search needs
 
 cast-result : tie.Need-cast-result
 cast-result c = search needs
@@ -18,13 +18,13 @@ cast-result c = search needs
 shr-result : tie.Need-shr-result
 shr-result c = search needs
 
-fits : (c : tie.After-lifted) → SFits w32 (c .lifted .result)
-fits c = sfits-of (c .lifted .ok)
+fits : (c : tie.After-lifted32) → SFits w32 (c .lifted32 .result)
+fits c = sfits-of (c .lifted32 .ok)
 
 returns : tie.Need-returns
 returns c =
-    simp (toZ-ofZ (fits c), toZ-ofZ (fits-shr (c .lifted .result) (2 ^ c .before .args .k) (fits c)))
-    (c .lifted .ensures ∙ simp (toZ-ofZ (c .before .fits .z)))
+    simp (toZ-ofZ (fits c), toZ-ofZ (fits-shr (c .lifted32 .result) (2 ^ c .before .args .k) (fits c)))
+    (c .lifted32 .ensures ∙ simp (toZ-ofZ (c .before .fits .z)))
 
 pub cut32-spec : {M : Type 1} → statement M
-cut32-spec = tie.close (tie.spec lifted-requires cast-result shr-result returns)
+cut32-spec = tie.close (tie.spec lifted32-requires cast-result shr-result returns)

@@ -1,4 +1,4 @@
--- Both ways give the same weights.
+-- Both ways give the same weights and their bits.
 use mathlib.Core.Path.{_∙_}
 use mir.Facts.{toZ-ofZ}
 use borrow.Author.Needs.{needs}
@@ -15,13 +15,13 @@ same-length : tie.Need-same-length
 same-length c = search needs
 
 returns : tie.Need-returns
-returns c = c .before .adapt-few .ensures ∙ simp (toZ-ofZ (c .before .before .before .before .fits .j))
+returns c = (c .before .adapt-few .ensures .0 ∙ simp (toZ-ofZ (c .before .before .before .before .fits .j)), c .before .adapt-few .ensures .1)
 
 same-length-2 : tie.Need-same-length-2
 same-length-2 c = search needs
 
 returns-2 : tie.Need-returns-2
-returns-2 c = c .before .adapt-many .ensures ∙ simp (toZ-ofZ (c .before .before .before .before .fits .j))
+returns-2 c = (c .before .adapt-many .ensures .0 ∙ simp (toZ-ofZ (c .before .before .before .before .fits .j)), c .before .adapt-many .ensures .1)
 
 pub adapt-spec : {M : Type 1} → statement M
 adapt-spec =

@@ -1,4 +1,4 @@
--- The weights passed are the new ones, the others are still the old ones.
+-- The weights passed are the new ones, the others are still the old ones, and the bits seen are those of the new ones.
 use mathlib.Core.Path.{_≡_, sym, ap, _∙_}
 use Prim.Native.Nat.{_-_}
 use native.Mathlib.Omega.{arith}
@@ -8,20 +8,20 @@ use mir.Syntax.{w16, w32, w64}
 use mir.Val.{SFits, toZ, ofZ}
 use mir.Facts.{toZ-ofZ, sfits-widen}
 use borrow.Author.Needs.{needs, sfits-of}
-use Rattle.laws.specs.Lists.{Written, written-none, written-read, written-next, written-all}
+use Rattle.laws.specs.Lists.{written-read}
 use Rattle.laws.specs.Machine.{kept}
 use Rattle.numbers.specs.Cut.{raise}
 use Rattle.steps.specs.Side.{adapt}
-use Rattle.steps.proofs.SideLaws.{adapt-length, adapt-at, adapt-room}
+use Rattle.steps.proofs.SideLaws.{adapt-length, adapt-at, adapt-room, changing-none, changing-next, changing-all, Changing}
 use Rattle.steps.proofs.GainLaws.{raise-room, raised-room}
 use Rattle.steps.proofs.side.adapt_few.Statement.{statement}
 use Rattle.steps.proofs.side.adapt_few.Tie as tie
 
 abbrev Inv-loop : tie.InvT-loop
-Inv-loop w₀ a j t k i₀ w i = Written (adapt (raise (toZ w32 j) (15 - t)) w₀ a) w₀ i w
+Inv-loop w₀ a j t k seen₀ i₀ w seen i = Changing (adapt (raise (toZ w32 j) (15 - t)) w₀ a) w₀ i w seen
 
 abbrev μ-loop : tie.MeasureT-loop
-μ-loop w₀ a j t k i₀ w i = length w₀ - i
+μ-loop w₀ a j t k seen₀ i₀ w seen i = length w₀ - i
 
 wide : (c : tie.Start Inv-loop μ-loop) → SFits w64 (c .args .j)
 wide c = sfits-widen tt (c .fits .j)
@@ -36,7 +36,7 @@ raise-requires : tie.Need-raise-requires Inv-loop μ-loop
 raise-requires c κs = simp (toZ-ofZ (c .fits .j), toZ-ofZ (wide c)) (omega arith, raise-room (c .args .j) (c .args .t) (c .pre .factor-small))
 
 loop-holds : tie.Need-loop-holds Inv-loop μ-loop
-loop-holds c = written-none _ _
+loop-holds c = changing-none _ _
 
 mul-adapted : tie.Need-mul-adapted Inv-loop μ-loop
 mul-adapted c = search needs
@@ -63,7 +63,7 @@ weight : (c : tie.After-adapted-arg Inv-loop μ-loop) →
     toZ w16 (ofZ w16 (getD (l .w) (l .i) (pos 0))) ≡ getD (start (c .before .before) .args .w .now) (l .i) (pos 0)
 weight c =
     let l = c .before .before .loop in
-    kept w16 (getD (l .w) (l .i) (pos 0)) (c .adapted-arg .given) ∙ written-read (l .inv) (pos 0)
+    kept w16 (getD (l .w) (l .i) (pos 0)) (c .adapted-arg .given) ∙ written-read (l .inv .written) (pos 0)
 
 datum : (c : tie.After-adapted-arg2 Inv-loop μ-loop) →
     let x = getD (start (c .before .before .before) .args .a .now) (c .before .before .before .loop .i) (pos 0) in
@@ -78,11 +78,14 @@ adapted-requires c κs =
     simp (factor l, weight (c .before), datum c)
     (r .0, raised-room (s .args .j) (getD (s .args .a .now) (l .loop .i) (pos 0)) (s .args .t) (s .pre .t-most) (r .1))
 
-mul-t17 : tie.Need-mul-t17 Inv-loop μ-loop
-mul-t17 c = search needs
+mul-new : tie.Need-mul-new Inv-loop μ-loop
+mul-new c = search needs
 
-slice-set-from-w : tie.Need-slice-set-from-w Inv-loop μ-loop
-slice-set-from-w c = search needs
+slice-set-from-new : tie.Need-slice-set-from-new Inv-loop μ-loop
+slice-set-from-new c = search needs
+
+size-requires : tie.Need-size-requires Inv-loop μ-loop
+size-requires c κs = search needs
 
 add-i : tie.Need-add-i Inv-loop μ-loop
 add-i c = search needs
@@ -92,21 +95,23 @@ loop-less c = omega arith
 
 loop-again : tie.Need-loop-again Inv-loop μ-loop
 loop-again c =
-    let l = c .before .before .before .before in
+    let d = c .before in
+    let l = d .before .before .before .before in
     let s = start l .args in
-    written-next (l .loop .inv) (pos 0) (toZ w16 (ofZ w16 (c .adapted .result))) (rw adapt-length (omega arith)) (omega arith)
-    (kept w16 (c .adapted .result) (c .adapted .ok) ∙ c .adapted .ensures
-    ∙ simp (factor l, weight (c .before .before), datum (c .before), toZ-ofZ (start l .fits .j))
+    changing-next (l .loop .inv) (toZ w16 (ofZ w16 (d .adapted .result))) (c .size .result) (adapt-length _ (s .w .now) _) (omega arith)
+    (kept w16 (d .adapted .result) (d .adapted .ok) ∙ d .adapted .ensures
+    ∙ simp (factor l, weight (d .before .before), datum (d .before), toZ-ofZ (start l .fits .j))
     (sym (adapt-at (raise (s .j) (15 - s .t)) (s .w .now) (s .a .now) (l .loop .i) (omega arith) (omega arith))))
+    (c .size .ensures)
 
 same-length : tie.Need-same-length Inv-loop μ-loop
-same-length c = c .before .loop .inv .long
+same-length c = c .before .loop .inv .written .long
 
 returns : tie.Need-returns Inv-loop μ-loop
 returns c =
     let s = start (c .before) in
-    written-all (c .before .loop .inv) (adapt-length _ (s .args .w .now) _) (omega arith)
-    ∙ ap (λ (z : ℤ). adapt (raise z (15 - s .args .t)) (s .args .w .now) (s .args .a .now)) (toZ-ofZ (s .fits .j))
+    let all = changing-all (c .before .loop .inv) (adapt-length _ (s .args .w .now) _) (omega arith) in
+    (all .0 ∙ ap (λ (z : ℤ). adapt (raise z (15 - s .args .t)) (s .args .w .now) (s .args .a .now)) (toZ-ofZ (s .fits .j)), all .1)
 
 pub adapt-few-spec : {M : Type 1} → statement M
 adapt-few-spec =
@@ -123,8 +128,9 @@ adapt-few-spec =
     mul-adapted-2
     shared-slice-copy-out-adapted
     adapted-requires
-    mul-t17
-    slice-set-from-w
+    mul-new
+    slice-set-from-new
+    size-requires
     add-i
     loop-less
     loop-again

@@ -1,4 +1,4 @@
--- The weights passed are the new ones, the others are still the old ones.
+-- The weights passed are the new ones, the others are still the old ones, and the bits seen are those of the new ones.
 use mathlib.Core.Path.{_≡_, sym, ap, _∙_}
 use Prim.Native.Nat.{_-_}
 use native.Mathlib.Omega.{arith}
@@ -8,25 +8,25 @@ use mir.Syntax.{w16, w32}
 use mir.Val.{toZ, ofZ}
 use mir.Facts.{toZ-ofZ}
 use borrow.Author.Needs.{needs, sfits-of}
-use Rattle.laws.specs.Lists.{Written, written-none, written-read, written-next, written-all}
+use Rattle.laws.specs.Lists.{written-read}
 use Rattle.laws.specs.Machine.{kept}
 use Rattle.numbers.specs.Cut.{raise}
 use Rattle.steps.specs.Side.{adapt}
-use Rattle.steps.proofs.SideLaws.{adapt-length, adapt-at, adapt-room}
+use Rattle.steps.proofs.SideLaws.{adapt-length, adapt-at, adapt-room, changing-none, changing-next, changing-all, Changing}
 use Rattle.steps.proofs.side.adapt_many.Statement.{statement}
 use Rattle.steps.proofs.side.adapt_many.Tie as tie
 
 abbrev Inv-loop : tie.InvT-loop
-Inv-loop w₀ a j t factor i₀ w i = Written (adapt (raise (toZ w32 j) (15 - t)) w₀ a) w₀ i w
+Inv-loop w₀ a j t factor seen₀ i₀ w seen i = Changing (adapt (raise (toZ w32 j) (15 - t)) w₀ a) w₀ i w seen
 
 abbrev μ-loop : tie.MeasureT-loop
-μ-loop w₀ a j t factor i₀ w i = length w₀ - i
+μ-loop w₀ a j t factor seen₀ i₀ w seen i = length w₀ - i
 
 factor-size-requires : tie.Need-factor-size-requires Inv-loop μ-loop
 factor-size-requires c κs = search needs
 
 loop-holds : tie.Need-loop-holds Inv-loop μ-loop
-loop-holds c = written-none _ _
+loop-holds c = changing-none _ _
 
 mul-adapted-by-size : tie.Need-mul-adapted-by-size Inv-loop μ-loop
 mul-adapted-by-size c = search needs
@@ -51,7 +51,7 @@ weight : (c : tie.After-adapted-by-size-arg Inv-loop μ-loop) →
     toZ w16 (ofZ w16 (getD (l .w) (l .i) (pos 0))) ≡ getD (start (c .before .before) .args .w .now) (l .i) (pos 0)
 weight c =
     let l = c .before .before .loop in
-    kept w16 (getD (l .w) (l .i) (pos 0)) (c .adapted-by-size-arg .given) ∙ written-read (l .inv) (pos 0)
+    kept w16 (getD (l .w) (l .i) (pos 0)) (c .adapted-by-size-arg .given) ∙ written-read (l .inv .written) (pos 0)
 
 datum : (c : tie.After-adapted-by-size-arg2 Inv-loop μ-loop) →
     let x = getD (start (c .before .before .before) .args .a .now) (c .before .before .before .loop .i) (pos 0) in
@@ -65,11 +65,14 @@ adapted-by-size-requires c κs =
     let r = adapt-room (s .args .j) (s .args .t) (s .args .w .now) (s .args .a .now) (l .loop .i) (s .pre) (omega arith) in
     simp (weight (c .before), datum c, toZ-ofZ (s .fits .j)) (s .pre .t-most, sized l, r .0, r .1)
 
-mul-t15 : tie.Need-mul-t15 Inv-loop μ-loop
-mul-t15 c = search needs
+mul-new : tie.Need-mul-new Inv-loop μ-loop
+mul-new c = search needs
 
-slice-set-from-w : tie.Need-slice-set-from-w Inv-loop μ-loop
-slice-set-from-w c = search needs
+slice-set-from-new : tie.Need-slice-set-from-new Inv-loop μ-loop
+slice-set-from-new c = search needs
+
+size-requires : tie.Need-size-requires Inv-loop μ-loop
+size-requires c κs = search needs
 
 add-i : tie.Need-add-i Inv-loop μ-loop
 add-i c = search needs
@@ -79,21 +82,23 @@ loop-less c = omega arith
 
 loop-again : tie.Need-loop-again Inv-loop μ-loop
 loop-again c =
-    let l = c .before .before .before .before in
+    let d = c .before in
+    let l = d .before .before .before .before in
     let s = start l .args in
-    written-next (l .loop .inv) (pos 0) (toZ w16 (ofZ w16 (c .adapted-by-size .result))) (rw adapt-length (omega arith)) (omega arith)
-    (kept w16 (c .adapted-by-size .result) (c .adapted-by-size .ok) ∙ c .adapted-by-size .ensures
-    ∙ simp (weight (c .before .before), datum (c .before), toZ-ofZ (start l .fits .j))
+    changing-next (l .loop .inv) (toZ w16 (ofZ w16 (d .adapted-by-size .result))) (c .size .result) (adapt-length _ (s .w .now) _) (omega arith)
+    (kept w16 (d .adapted-by-size .result) (d .adapted-by-size .ok) ∙ d .adapted-by-size .ensures
+    ∙ simp (weight (d .before .before), datum (d .before), toZ-ofZ (start l .fits .j))
     (sym (adapt-at (raise (s .j) (15 - s .t)) (s .w .now) (s .a .now) (l .loop .i) (omega arith) (omega arith))))
+    (c .size .ensures)
 
 same-length : tie.Need-same-length Inv-loop μ-loop
-same-length c = c .before .loop .inv .long
+same-length c = c .before .loop .inv .written .long
 
 returns : tie.Need-returns Inv-loop μ-loop
 returns c =
     let s = start (c .before) in
-    written-all (c .before .loop .inv) (adapt-length _ (s .args .w .now) _) (omega arith)
-    ∙ ap (λ (z : ℤ). adapt (raise z (15 - s .args .t)) (s .args .w .now) (s .args .a .now)) (toZ-ofZ (s .fits .j))
+    let all = changing-all (c .before .loop .inv) (adapt-length _ (s .args .w .now) _) (omega arith) in
+    (all .0 ∙ ap (λ (z : ℤ). adapt (raise z (15 - s .args .t)) (s .args .w .now) (s .args .a .now)) (toZ-ofZ (s .fits .j)), all .1)
 
 pub adapt-many-spec : {M : Type 1} → statement M
 adapt-many-spec =
@@ -108,8 +113,9 @@ adapt-many-spec =
     mul-adapted-by-size-2
     shared-slice-copy-out-adapted-by-size
     adapted-by-size-requires
-    mul-t15
-    slice-set-from-w
+    mul-new
+    slice-set-from-new
+    size-requires
     add-i
     loop-less
     loop-again
