@@ -36,7 +36,7 @@ pub fn begin(k: Settings, was: u32, m: &[i16], gains: &[u8]) -> Begun
 {
     let s = numbers::scale_count::scale_count(k.p as usize);
     let sb = numbers::scale_count::scale_count(k.q as usize);
-    let b = numbers::bit_length::bit_length(super::stored::loudest(m, gains));
+    let b = numbers::bit_length::bit_length(super::stored::loudest(m, gains) as u64);
     let big = larger(b, was);
     Begun {
         s: s,

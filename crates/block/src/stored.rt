@@ -3,45 +3,50 @@ ghost use mathlib.Core.Path.{_≡_};
 ghost use mathlib.Core.List.{map};
 ghost use Prim.Native.Nat.{_<_, _≤_};
 ghost use lib.ListN.{length, getD};
-ghost use lib.IntN.{ℤ, pos};
+ghost use lib.IntN.{ℤ, pos, natAbs};
 ghost use Rattle.laws.specs.Sums.{Each};
+ghost use Rattle.numbers.specs.BitLength.{bitLength};
 ghost use Rattle.numbers.specs.Cut.{rescale};
-ghost use Rattle.steps.specs.Side.{largest, magnitudes};
 ghost use Rattle.block.specs.Block.{received, receivedAll};
+ghost use Rattle.block.specs.Calls.{blockLength};
 ghost use Rattle.block.specs.Line.{Lined};
 ghost use Rattle.block.specs.Sound.{Receivable, Storable};
 
 // X = m·2^(15−g).
-pub fn received(m: i16, g: u8) -> i64
+pub fn received(m: i16, g: u8) -> i32
     requires { ⌜ g ≤ 15 ⌝ }
     ensures { λ r. ⌜ r ≡ received m g ⌝ }
 {
-    numbers::cut::raise(m as i64, 15 - (g as u32))
+    numbers::cut::raise32(m as i32, 15 - (g as u32))
+}
+
+// |X|.
+fn size(x: i32) -> u32
+    ensures { λ r. ⌜ r ≡ natAbs x ⌝ }
+{
+    numbers::bit_length::magnitude(x as i64) as u32
 }
 
 // X of the sample at a place.
-fn received_at(m: &[i16], gains: &[u8], i: usize) -> i64
+fn received_at(m: &[i16], gains: &[u8], i: usize) -> i32
     requires { ⌜ (Receivable (now m) (now gains)) × (i < length (now m)) ⌝ }
     ensures { λ r. ⌜ r ≡ getD (receivedAll (now (m .entry)) (now (gains .entry))) i (pos 0) ⌝ }
 {
     received(m[i], gains[i])
 }
 
-// The largest |X| of a block.
-pub fn loudest(m: &[i16], gains: &[u8]) -> u64
+// The bits of every |X| of a block together: as many as the largest has.
+pub fn loudest(m: &[i16], gains: &[u8]) -> u32
     requires { ⌜ Receivable (now m) (now gains) ⌝ }
-    ensures { λ r. ⌜ r ≡ largest (magnitudes (receivedAll (now (m .entry)) (now (gains .entry)))) ⌝ }
+    ensures { λ r. ⌜ bitLength r ≡ blockLength (now (m .entry)) (now (gains .entry)) ⌝ }
 {
-    let mut most: u64 = 0;
+    let mut seen: u32 = 0;
     let mut i: usize = 0;
     while i < m.len() {
-        let size = numbers::bit_length::magnitude(received_at(m, gains, i));
-        if most < size {
-            most = size;
-        }
+        seen |= size(received_at(m, gains, i));
         i += 1;
     }
-    most
+    seen
 }
 
 // T(z·2^(i−j)) of a number whose result fits 16 bits.
@@ -52,18 +57,60 @@ fn restored(z: i64, i: u32, j: u32) -> i16
     numbers::cut::rescale(z, i, j) as i16
 }
 
-// The line of stored samples: those of a block, and the old ones.
-pub fn store(m: &[i16], gains: &[u8], places: u32, old: &[i16]) -> [i16; 144]
-    requires { ⌜ (Receivable (now m) (now gains)) × (length (now m) ≤ 128) × (Each (Storable 15 places) (receivedAll (now m) (now gains))) × (length (now old) ≤ 16) ⌝ }
+// T(x·2^(15−places)) where it is no larger than x: one cut.
+fn lowered(x: i32, places: u32) -> i16
+    requires { ⌜ (Storable 15 places x) × (15 ≤ places) × (places < 47) ⌝ }
+    ensures { λ r. ⌜ r ≡ rescale x 15 places ⌝ }
+{
+    numbers::cut::cut32(x, places - 15) as i16
+}
+
+// T(x·2^(15−places)) where it is no smaller than x: one product.
+fn raised(x: i32, places: u32) -> i16
+    requires { ⌜ (Storable 15 places x) × (places ≤ 15) ⌝ }
+    ensures { λ r. ⌜ r ≡ rescale x 15 places ⌝ }
+{
+    numbers::cut::raise32(x, 15 - places) as i16
+}
+
+// The line of a block whose samples are cut.
+fn store_lowered(m: &[i16], gains: &[u8], places: u32, old: &[i16]) -> [i16; 144]
+    requires { ⌜ (Receivable (now m) (now gains)) × (length (now m) ≤ 128) × (Each (Storable 15 places) (receivedAll (now m) (now gains))) × (length (now old) ≤ 16) × (15 ≤ places) × (places < 47) ⌝ }
     ensures { λ r. ⌜ Lined (map (λ (x : ℤ). rescale x 15 places) (receivedAll (now (m .entry)) (now (gains .entry)))) (length (now (m .entry))) (now (old .entry)) r ⌝ }
 {
     let mut line = super::line::start(old);
     let mut i: usize = 0;
     while i < m.len() {
-        line[127 - i] = restored(received_at(m, gains, i), 15, places);
+        line[127 - i] = lowered(received_at(m, gains, i), places);
         i += 1;
     }
     line
+}
+
+// The line of a block whose samples are raised.
+fn store_raised(m: &[i16], gains: &[u8], places: u32, old: &[i16]) -> [i16; 144]
+    requires { ⌜ (Receivable (now m) (now gains)) × (length (now m) ≤ 128) × (Each (Storable 15 places) (receivedAll (now m) (now gains))) × (length (now old) ≤ 16) × (places ≤ 15) ⌝ }
+    ensures { λ r. ⌜ Lined (map (λ (x : ℤ). rescale x 15 places) (receivedAll (now (m .entry)) (now (gains .entry)))) (length (now (m .entry))) (now (old .entry)) r ⌝ }
+{
+    let mut line = super::line::start(old);
+    let mut i: usize = 0;
+    while i < m.len() {
+        line[127 - i] = raised(received_at(m, gains, i), places);
+        i += 1;
+    }
+    line
+}
+
+// The line of stored samples: those of a block, and the old ones.
+pub fn store(m: &[i16], gains: &[u8], places: u32, old: &[i16]) -> [i16; 144]
+    requires { ⌜ (Receivable (now m) (now gains)) × (length (now m) ≤ 128) × (Each (Storable 15 places) (receivedAll (now m) (now gains))) × (length (now old) ≤ 16) × (places < 47) ⌝ }
+    ensures { λ r. ⌜ Lined (map (λ (x : ℤ). rescale x 15 places) (receivedAll (now (m .entry)) (now (gains .entry)))) (length (now (m .entry))) (now (old .entry)) r ⌝ }
+{
+    if 15 <= places {
+        store_lowered(m, gains, places, old)
+    } else {
+        store_raised(m, gains, places, old)
+    }
 }
 
 // The old stored samples at another exponent.

@@ -56,15 +56,7 @@ next [] (suc i) = refl
 next (n ∷ ns) zero = omega arith
 next (n ∷ ns) (suc i) = omega (arith, next ns i)
 
--- one element more, which is larger than those before it
-pub largest-rises : (ns : List ℕ) (i m : ℕ) → m ≡ largest (take i ns) → m < getD ns i 0 → getD ns i 0 ≡ largest (take (i + 1) ns)
-largest-rises ns i m e h = sym (ap (λ j. largest (take j ns)) (add-one i) ∙ next ns i ∙ max-eq-right (omega (arith, e)))
-
--- or is not
-pub largest-stays : (ns : List ℕ) (i m : ℕ) → m ≡ largest (take i ns) → getD ns i 0 ≤ m → m ≡ largest (take (i + 1) ns)
-largest-stays ns i m e h = e ∙ sym (ap (λ j. largest (take j ns)) (add-one i) ∙ next ns i ∙ max-eq-left (omega (arith, e)))
-
-pub largest-end : (ns : List ℕ) (i : ℕ) → length ns ≤ i → largest (take i ns) ≡ largest ns
+largest-end : (ns : List ℕ) (i : ℕ) → length ns ≤ i → largest (take i ns) ≡ largest ns
 largest-end ns i h = ap largest (take-all i ns h)
 
 -- ---- below a limit

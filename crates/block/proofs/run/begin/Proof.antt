@@ -3,7 +3,6 @@ use mathlib.Core.Path.{_≡_, ap, ap₂, _∙_}
 use Prim.Native.Nat.{ℕ, _+_, _≤_, max}
 use native.Mathlib.Omega.{arith}
 use borrow.Author.Needs.{needs}
-use Rattle.numbers.specs.BitLength.{bitLength}
 use Rattle.numbers.proofs.BitLengthLaws.{bit-length-le}
 use Rattle.block.specs.Calls.{blockLength}
 use Rattle.filter.proofs.SampleSides.{scale-most}
@@ -25,6 +24,9 @@ scale-count-requires-2 c κs = search needs
 loudest-requires : tie.Need-loudest-requires
 loudest-requires c κs = search needs
 
+cast-bit-length : tie.Need-cast-bit-length
+cast-bit-length c = search needs
+
 bit-length-requires : tie.Need-bit-length-requires
 bit-length-requires c κs = search needs
 
@@ -42,7 +44,7 @@ abbrev start : tie.After-loudest → tie.Start
 start c = scaled c .before .before .before
 
 length-is : (c : tie.After-larger) → c .before .bit-length .result ≡ blockLength (start (loud c) .args .m .now) (start (loud c) .args .gains .now)
-length-is c = c .before .bit-length .ensures ∙ ap bitLength (loud c .loudest .ensures)
+length-is c = c .before .bit-length .ensures ∙ loud c .loudest .ensures
 
 length-most : (c : tie.After-larger) → c .before .bit-length .result ≤ 64
 length-most c = omega (arith, c .before .bit-length .ensures, bit-length-le (loud c .loudest .result) 64 (omega (arith, loud c .loudest .ok)))
@@ -50,8 +52,8 @@ length-most c = omega (arith, c .before .bit-length .ensures, bit-length-le (lou
 larger-most : (c : tie.After-larger) → c .larger .result ≤ 64
 larger-most c = omega (arith, c .larger .ensures, length-most c, start (loud c) .pre .was-most)
 
-add-t11 : tie.Need-add-t11
-add-t11 c = record { fits = omega (arith, larger-most (c .before), start (loud (c .before)) .pre .within .r-most) }
+add-t10 : tie.Need-add-t10
+add-t10 c = record { fits = omega (arith, larger-most (c .before), start (loud (c .before)) .pre .within .r-most) }
 
 add-t12 : tie.Need-add-t12
 add-t12 c =
@@ -88,8 +90,9 @@ begin-spec =
     cast-scale-count-2
     scale-count-requires-2
     loudest-requires
+    cast-bit-length
     bit-length-requires
     larger-requires
-    add-t11
+    add-t10
     add-t12
     returns)

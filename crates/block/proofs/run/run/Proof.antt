@@ -72,7 +72,7 @@ store-requires : tie.Need-store-requires Inv-loop μ-loop
 store-requires c κs =
     let b = c .before .before .before .before .before in
     let h = block-storable (begun b (lent (start b))) (start b .pre) in
-    (h .0, h .1, h .2, most (c .before .before .before))
+    (h .0, h .1, h .2, most (c .before .before .before), omega (arith, places-most (begun b (lent (start b))) (start b .pre)))
 
 symbols-most : (s : tie.Start Inv-loop μ-loop) → length (s .args .symbols .now) ≤ 16
 symbols-most s = omega (arith, s .pre .sound .symbols-long, s .pre .sound .within .q-most)

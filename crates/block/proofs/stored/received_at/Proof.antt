@@ -4,7 +4,7 @@ use Prim.Native.Nat.{ℕ, _≤_}
 use native.Mathlib.Omega.{arith}
 use lib.ListN.{getD}
 use lib.IntN.{ℤ, pos}
-use mir.Syntax.{w16, w64}
+use mir.Syntax.{w16, w32}
 use borrow.Author.Needs.{needs}
 use Rattle.laws.specs.Machine.{kept}
 use Rattle.laws.specs.Sums.{each-at}
@@ -30,7 +30,7 @@ received-requires c κs =
 returns : tie.Need-returns
 returns c =
     let a = c .before .before .before .before .args in
-    kept w64 (c .received .result) (c .received .ok) ∙ c .received .ensures
+    kept w32 (c .received .result) (c .received .ok) ∙ c .received .ensures
     ∙ ap (λ (x : ℤ). received x (getD (a .gains .now) (a .i) 0)) (kept w16 (getD (a .m .now) (a .i) (pos 0)) (c .before .before .received-arg .given))
     ∙ sym (received-at (a .m .now) (a .gains .now) (a .i) (omega arith) (omega arith))
 
