@@ -49,14 +49,6 @@ pub fn loudest(m: &[i16], gains: &[u8]) -> u32
     seen
 }
 
-// T(z·2^(i−j)) of a number whose result fits 16 bits.
-fn restored(z: i64, i: u32, j: u32) -> i16
-    requires { ⌜ Storable i j z ⌝ }
-    ensures { λ r. ⌜ r ≡ rescale z i j ⌝ }
-{
-    numbers::cut::rescale(z, i, j) as i16
-}
-
 // T(x·2^(15−places)) where it is no larger than x: one cut.
 fn lowered(x: i32, places: u32) -> i16
     requires { ⌜ (Storable 15 places x) × (15 ≤ places) × (places < 47) ⌝ }
@@ -111,6 +103,14 @@ pub fn store(m: &[i16], gains: &[u8], places: u32, old: &[i16]) -> [i16; 144]
     } else {
         store_raised(m, gains, places, old)
     }
+}
+
+// T(z·2^(i−j)) of a number whose result fits 16 bits.
+fn restored(z: i64, i: u32, j: u32) -> i16
+    requires { ⌜ Storable i j z ⌝ }
+    ensures { λ r. ⌜ r ≡ rescale z i j ⌝ }
+{
+    numbers::cut::rescale(z, i, j) as i16
 }
 
 // The old stored samples at another exponent.

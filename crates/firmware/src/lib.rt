@@ -5,9 +5,9 @@ ghost use Rattle.state.specs.Answers.{SetUp};
 ghost use Rattle.station.specs.Answers.{Run};
 ghost use Rattle.image.specs.Image.{Save};
 ghost use Rattle.image.specs.Load.{Load};
+use image::save::Saved;
 use state::equaliser::Answer;
 use state::equaliser::Equaliser;
-use image::save::Saved;
 
 // A fresh state, or the number of the refusal beside the smallest one.
 #[no_mangle]

@@ -1,12 +1,12 @@
 -- Up to 15 places the number rule is a product.
 use mathlib.Core.Path.{_≡_, sym, ap, _∙_}
+use Prim.Native.Nat.{_*_, _-_, _^_, _<_}
 use native.Mathlib.Omega.{arith}
 use lib.IntN.{natAbs}
 use mir.Syntax.{w16, w32}
 use mir.Val.{SFits}
 use mir.Facts.{toZ-ofZ}
 use borrow.Author.Needs.{needs}
-use Prim.Native.Nat.{_*_, _-_, _^_, _<_}
 use Rattle.laws.specs.Machine.{kept, fits-abs}
 use Rattle.numbers.specs.Cut.{rescale}
 use Rattle.numbers.proofs.CutLaws.{raise-abs, rescale-up}
