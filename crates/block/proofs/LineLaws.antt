@@ -1,5 +1,5 @@
 -- Lines of 144 places.
-use mathlib.Core.Path.{_≡_, refl, sym, ap, ap₂, _∙_}
+use mathlib.Core.Path.{_≡_, refl, sym, ap, ap₂, _∙_, subst}
 use mathlib.Core.List.{List, [], _∷_, _++_}
 use mathlib.Core.Logic.{_⊎_, inl, inr}
 use Prim.Native.Nat.{ℕ, zero, suc, _+_, _-_, _≤_, _<_}
@@ -10,6 +10,8 @@ use lib.ListN.{length, getD, take, drop, set, replicate, length-set, length-drop
 use lib.Seq.{length-take-le, take-all, take-suc, take-suc-set, take-take, take-at, drop-at, drop-cons, drop-set-add, drop-set-lt, getD-set-same, getD-set-other}
 use lib.IntN.{ℤ, pos}
 use Rattle.steps.specs.Side.{push}
+use Rattle.filter.specs.Calls.{Aged}
+use Rattle.filter.proofs.AgeLaws.{aged-take}
 use Rattle.block.specs.Line.{newest, Lined}
 
 -- ---- the old ones are put in their places
@@ -82,6 +84,18 @@ newest-next p n line l h k =
 pub newest-given : (q n : ℕ) (line past : List ℤ) (v : ℤ) → newest (suc q) (suc n) line ≡ v ∷ past → length past ≡ q → newest q (suc n) line ≡ push v past
 newest-given q n line past v e l =
     sym (take-take q (suc q) (drop (128 - suc n) line) (omega arith)) ∙ ap (take q) e ∙ ap (λ (m : ℕ). take m (v ∷ past)) (sym l)
+
+-- the age of a symbol, when v is given
+pub newest-aged : (r age q n : ℕ) (line past : List ℤ) (v : ℤ) → newest (suc q) (suc n) line ≡ v ∷ past → length line ≡ 144 → n < 128 →
+    Aged r age (getD line (127 - n) (pos 0) ∷ past) → Aged r age (newest q (suc n) line)
+newest-aged r age q n line past v e l h p =
+    subst (Aged r age) (take-take q (suc q) (drop (128 - suc n) line) (omega arith))
+    (aged-take r age q (newest (suc q) (suc n) line) (subst (Aged r age) (ap (λ (x : ℤ). x ∷ past) first ∙ sym e) p))
+  where
+    first : getD line (127 - n) (pos 0) ≡ v
+    first =
+        sym (ap (λ (t : List ℤ). getD (take (suc q) t) 0 (pos 0)) (drop-cons line (127 - n) (pos 0) (omega (arith, l))))
+        ∙ ap (λ (a : ℕ). getD (take (suc q) (drop a line)) 0 (pos 0)) (place n h) ∙ ap (λ (t : List ℤ). getD t 0 (pos 0)) e
 
 -- ---- the parts of a line at sample n
 

@@ -2,12 +2,12 @@
 use mathlib.Core.Path.{_≡_, refl, sym, ap, _∙_, subst}
 use mathlib.Core.Bool.{true, false}
 use mathlib.Core.List.{List, [], _∷_, _++_}
-use Prim.Native.Nat.{ℕ, suc, _+_, _≤_, _<_}
+use Prim.Native.Nat.{ℕ, suc, _+_, _-_, _≤_, _<_}
 use native.Mathlib.Omega.{arith}
 use native.Mathlib.Nat.{le-antisymm}
 use native.Mathlib.Numerals.{add-one}
 use lib.Dec.{T}
-use lib.ListN.{length, take, drop, set, replicate, length-set, length-replicate}
+use lib.ListN.{length, getD, take, drop, set, replicate, length-set, length-take, length-replicate}
 use lib.Seq.{take-suc-set}
 use lib.IntN.{ℤ, pos}
 use borrow.Author.Tests.{le-leb}
@@ -16,14 +16,14 @@ use Rattle.steps.specs.Settings.{Settings, isEntry}
 use Rattle.filter.specs.Sample.{Taps, Y, ξ, decision, Z, θ, next}
 use Rattle.block.specs.Block.{Block, Memory, newb, newB, g, start, after, at, goes, values, entryAt, handedY, handedξ, handedDecision, handedZ, handedθ}
 use Rattle.filter.specs.Sound.{Fit}
-use Rattle.filter.specs.Calls.{Taken-is}
+use Rattle.filter.specs.Calls.{Aged, Older, Taken-is}
 use Rattle.block.specs.Line.{newest}
 use Rattle.block.specs.Calls.{tapsAt, Advanceable, Runnable, Finished, Ran-is}
 use Rattle.filter.specs.declared.sample.Taken.{Taken}
 use Rattle.block.specs.declared.run.Begun.{Begun}
 use Rattle.block.specs.declared.run.Ran.{Ran}
 use Rattle.block.proofs.BlockSound.{fit-at, fit-after, goes-never}
-use Rattle.block.proofs.LineLaws.{newest-given}
+use Rattle.block.proofs.LineLaws.{newest-given, newest-aged}
 use Rattle.block.proofs.RunStart.{Begun-as, Line-is}
 
 -- ---- a work area of which the first n places are filled
@@ -45,13 +45,14 @@ filled-next f n l x h p e = record {
 
 -- ---- n samples are done
 
--- what the loop carries: the weights, the line of symbols, ψ, and the work areas of what is handed out
+-- what the loop carries: the weights, the line of symbols, ψ, the age, and the work areas of what is handed out
 pub record Work : Type 0 where
   pub n : ℕ
   pub forward : List ℤ
   pub back : List ℤ
   pub marks : List ℤ
   pub ψ : ℕ
+  pub age : ℕ
   pub y : List ℤ
   pub xi : List ℕ
   pub decisions : List ℤ
@@ -66,6 +67,8 @@ pub record Passed (k : Settings) (o : Memory) (i : Block) (l : Work) : Type 0 wh
   pub marks-long : length (l .marks) ≡ 144
   pub symbols-are : newest (k .q) (l .n) (l .marks) ≡ after k o i (l .n) .symbols
   pub ψ-is : l .ψ ≡ after k o i (l .n) .ψ
+  pub age-most : l .age ≤ 16 + l .n
+  pub aged : Aged (k .r) (l .age) (newest (k .q) (l .n) (l .marks))
   pub y-filled : Filled (λ m. Y k (g k o i) (at k o i m) (entryAt k o i m)) (l .n) (l .y)
   pub xi-filled : Filled (λ m. ξ k (g k o i) (at k o i m) (entryAt k o i m)) (l .n) (l .xi)
   pub decision-filled : Filled (λ m. decision k (g k o i) (at k o i m) (entryAt k o i m)) (l .n) (l .decisions)
@@ -73,13 +76,14 @@ pub record Passed (k : Settings) (o : Memory) (i : Block) (l : Work) : Type 0 wh
   pub theta-filled : Filled (λ m. θ k (g k o i) (at k o i m) (entryAt k o i m)) (l .n) (l .theta)
 
 -- none, and nothing is handed out yet
-pub passed-none : (k : Settings) (o : Memory) (i : Block) (marks : List ℤ) → length marks ≡ 144 → length (o .symbols) ≡ k .q → take (length (o .symbols)) (drop 128 marks) ≡ o .symbols →
+pub passed-none : (k : Settings) (o : Memory) (i : Block) (marks : List ℤ) → length marks ≡ 144 → length (o .symbols) ≡ k .q → k .q ≤ 16 → take (length (o .symbols)) (drop 128 marks) ≡ o .symbols →
     Passed k o i (record {
       n = 0;
       forward = o .forward;
       back = o .back;
       marks = marks;
       ψ = o .ψ;
+      age = 16;
       y = replicate 128 (pos 0);
       xi = replicate 128 0;
       decisions = replicate 128 (pos 0);
@@ -87,7 +91,7 @@ pub passed-none : (k : Settings) (o : Memory) (i : Block) (marks : List ℤ) →
       theta = replicate 128 0;
     })
 unfolding goes after start
-passed-none k o i marks h l e = record {
+passed-none k o i marks h l m e = record {
   within = omega arith;
   goes-on = refl;
   forward-is = refl;
@@ -95,6 +99,8 @@ passed-none k o i marks h l e = record {
   marks-long = h;
   symbols-are = ap (λ (m : ℕ). take m (drop 128 marks)) (sym l) ∙ e;
   ψ-is = refl;
+  age-most = omega arith;
+  aged = λ a. absurd (omega (arith, length-take (k .q) (drop 128 marks)));
   y-filled = filled-none _ (pos 0);
   xi-filled = filled-none _ 0;
   decision-filled = filled-none _ (pos 0);
@@ -137,7 +143,7 @@ module _ {k : Settings} {o : Memory} {i : Block} {window₀ line : List ℤ} {l 
     room : l .n < 128
     room = omega (arith, run .sound .within .N-most)
 
-    pub advanceable : Advanceable k r (l .n) e line (l .marks) taps
+    pub advanceable : Advanceable k r (l .age) (l .n) e line (l .marks) taps
     advanceable = record {
       room = room;
       line-long = w .long;
@@ -148,6 +154,7 @@ module _ {k : Settings} {o : Memory} {i : Block} {window₀ line : List ℤ} {l 
         forward-scale = q .begun .s-as;
         back-scale = q .begun .sb-as;
       });
+      aged = p .aged;
     }
 
     module _ {t : Taken} {f′ b′ : List ℤ} (m′ : List ℤ) (h : Taken-is k (r .g) taps e t f′ b′ (newest (suc (k .q)) (suc (l .n)) m′)) where
@@ -161,12 +168,14 @@ module _ {k : Settings} {o : Memory} {i : Block} {window₀ line : List ℤ} {l 
 
       -- ψ kept its limit
       pub passed-next : length m′ ≡ 144 → {ty td tz : ℤ} → ty ≡ t .y → td ≡ t .decision → tz ≡ t .z → t .psi ≤ 15 →
+          {age : ℕ} {v : ℤ} → v ≡ getD m′ (127 - l .n) (pos 0) → Older (k .r) (l .age) v age →
           Passed k o i (record {
             n = l .n + 1;
             forward = f′;
             back = b′;
             marks = m′;
             ψ = t .psi;
+            age = age;
             y = set (l .y) (l .n) ty;
             xi = set (l .xi) (l .n) (t .xi);
             decisions = set (l .decisions) (l .n) td;
@@ -174,7 +183,7 @@ module _ {k : Settings} {o : Memory} {i : Block} {window₀ line : List ℤ} {l 
             theta = set (l .theta) (l .n) (t .theta);
           })
       unfolding goes after at next
-      passed-next long ey ed ez m = rw (add-one (l .n)) (record {
+      passed-next long ey ed ez m {age = age} ev older = rw (add-one (l .n)) (record {
         within = more;
         goes-on = rw (p .goes-on) (le-leb _ _ (subst (λ (x : ℕ). x ≤ 15) ψ-next m));
         forward-is = step .forward-is;
@@ -182,6 +191,8 @@ module _ {k : Settings} {o : Memory} {i : Block} {window₀ line : List ℤ} {l 
         marks-long = long;
         symbols-are = newest-given (k .q) (l .n) m′ _ _ (step .symbols-are) (fit-now .symbols-long);
         ψ-is = ψ-next;
+        age-most = omega (arith, older .0, p .age-most);
+        aged = newest-aged (k .r) age (k .q) (l .n) m′ _ _ (h .symbols-are) long room (subst (λ (x : ℤ). Aged (k .r) age (x ∷ taps .symbols)) ev (older .1 (taps .symbols) (p .aged)));
         y-filled = filled-next _ _ _ _ room (p .y-filled) (ey ∙ step .y);
         xi-filled = filled-next _ _ _ _ room (p .xi-filled) (step .xi);
         decision-filled = filled-next _ _ _ _ room (p .decision-filled) (ed ∙ step .decision-is);

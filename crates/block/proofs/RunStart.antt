@@ -119,6 +119,16 @@ module _ {k : Settings} {o : Memory} {i : Block} {r : Begun} (b : Begun-as k o i
 pub place-fits : (n size : ℕ) → n < 128 → size < 5 → Fits w64 (n * size)
 place-fits n size h k = record { fits = omega (arith, mul-le-mul h k) }
 
+-- the place of sample n
+pub before-last : (n : ℕ) → 127 - n < 128
+before-last n = omega arith
+
+pub within-line : (n : ℕ) → 127 - n < 144
+within-line n = omega arith
+
+pub age-fits : {age n : ℕ} → n < 128 → age ≤ 16 + n → age ≤ 256
+age-fits h m = omega arith
+
 pub next-fits : (n : ℕ) → n < 128 → Fits w64 (n + 1)
 next-fits n h = record { fits = omega arith }
 

@@ -64,6 +64,7 @@ fn advance(
     k: Settings,
     e: Begun,
     psi: u32,
+    age: usize,
     n: usize,
     entry: i8,
     forward: &mut [i16],
@@ -71,7 +72,7 @@ fn advance(
     line: &[i16],
     marks: &mut [i16],
 ) -> Taken
-    requires { ⌜ Advanceable (settingsOf k) e n entry (now line) (now marks) (tapsAt (settingsOf k) n (now forward) (now back) (now line) (now marks) psi) ⌝ }
+    requires { ⌜ Advanceable (settingsOf k) e age n entry (now line) (now marks) (tapsAt (settingsOf k) n (now forward) (now back) (now line) (now marks) psi) ⌝ }
     ensures { λ r. ⌜ Taken-is (settingsOf k) (e .g) (tapsAt (settingsOf k) n (now (forward .entry)) (now (back .entry)) (now (line .entry)) (now (marks .entry)) psi) entry r (now (forward .exit)) (now (back .exit)) (newest (suc (k .q)) (suc n) (now (marks .exit))) ⌝ }
 {
     let first = 127 - n;
@@ -83,6 +84,7 @@ fn advance(
         e.sb,
         e.g,
         psi,
+        age,
         wide(entry),
         forward,
         back,
@@ -118,9 +120,22 @@ pub fn run(
     let mut z = [0i32; 128];
     let mut theta = [0u8; 128];
     let mut at = psi;
+    // No symbol is known to have the largest bit length.
+    let mut age: usize = 16;
     let mut n: usize = 0;
     while n < m.len() {
-        let t = advance(k, e, at, n, entries[n], forward, back, &line, &mut marks);
+        let t = advance(
+            k,
+            e,
+            at,
+            age,
+            n,
+            entries[n],
+            forward,
+            back,
+            &line,
+            &mut marks,
+        );
         at = t.psi;
         if 15 < at {
             return Ran {
@@ -143,6 +158,7 @@ pub fn run(
         decision[n] = td;
         z[n] = tz;
         theta[n] = t.theta;
+        age = filter::sample::older(k.r, age, marks[127 - n]);
         n += 1;
     }
     super::line::newest(&line, n, samples);

@@ -9,5 +9,6 @@ pub mod DistanceWeight
 pub mod DistanceSide
 pub mod Distance
 pub mod SampleLaws
+pub mod AgeLaws
 pub mod StepLaws
 pub mod SampleSteps

@@ -13,7 +13,7 @@ use Rattle.steps.specs.Side.{Side}
 use Rattle.filter.specs.Sample.{Taps, ν, F, H, Y, ξ, decision, v, κ, Z, θ, J, forwardSide, backSide, newForward, newBack, small, next}
 use Rattle.steps.specs.Side.{longest}
 use Rattle.steps.specs.Sound.{Adaptable}
-use Rattle.filter.specs.Calls.{Audible, Heard-is, Decidable, Judged-is, Teachable, Changeable, Changed-is, Ready, Taken-is, takenOf, taughtForward, taughtBack}
+use Rattle.filter.specs.Calls.{Aged, Reachable, Audible, Heard-is, Decidable, Judged-is, Teachable, Changeable, Changed-is, Ready, Taken-is, takenOf, taughtForward, taughtBack}
 use Rattle.filter.specs.declared.sample.Heard.{Heard}
 use Rattle.filter.specs.declared.sample.Judged.{Judged}
 use Rattle.filter.specs.declared.sample.Taken.{Taken}
@@ -33,6 +33,9 @@ module _ (k : Settings) (s sb g : ℕ) (t : Taps) (entry : ℤ) (r : Ready k s s
 
   held : raise (dot (t .back) (t .symbols)) (15 - (sb + longest (t .symbols))) ≡ H k g t entry
   held = ap (λ (n : ℕ). raise (dot (t .back) (t .symbols)) (15 - n)) ν-of ∙ sym (S.H-raised k g t entry (r .fit))
+
+  pub reachable : {age : ℕ} → Aged (k .r) age (t .symbols) → Reachable (k .r) age (t .symbols)
+  reachable h = record { r-most = r .fit .within .r-most; symbols-are = r .fit .symbols-are; aged = h }
 
   pub audible : Audible sb g (t .ψ) (t .forward) (t .back) (t .samples) (t .symbols)
   unfolding F

@@ -4,9 +4,9 @@ use mathlib.Core.Bool.{true, _&&_, cond}
 use mathlib.Core.List.{List, [], _∷_, _++_}
 use Prim.Native.Nat.{ℕ, _+_, _-_, _*_, _^_, _≤_, _<_, max}
 use lib.Dec.{eqb}
-use lib.ListN.{length, take}
+use lib.ListN.{length, getD, take}
 use lib.IntN.{ℤ, pos, natAbs, _*ℤ_}
-use Rattle.laws.specs.Sums.{dot}
+use Rattle.laws.specs.Sums.{Each, dot}
 use Rattle.numbers.specs.BitLength.{bitLength}
 use Rattle.numbers.specs.Cut.{cut, raise}
 use Rattle.steps.specs.Settings.{Settings, Within, isEntry, scaleForward, scaleBack}
@@ -30,6 +30,19 @@ abbrev pub tapsOf : List ℤ → List ℤ → List ℤ → List ℤ → ℕ → 
 tapsOf forward back samples symbols ψ = record { forward = forward; back = back; samples = samples; symbols = symbols; ψ = ψ }
 
 -- ---- steps 1 to 3
+
+-- where the age is a place, the symbol there has a bit length above r
+abbrev pub Aged : ℕ → ℕ → List ℤ → Type 0
+Aged r age symbols = age < length symbols → r < bitLength (natAbs (getD symbols age (pos 0)))
+
+-- the age after the symbol v
+abbrev pub Older : ℕ → ℕ → ℤ → ℕ → Type 0
+Older r age v age′ = (age′ ≤ age + 1) × ((symbols : List ℤ) → Aged r age symbols → Aged r age′ (v ∷ symbols))
+
+pub record Reachable (r age : ℕ) (symbols : List ℤ) : Type 0 where
+  pub r-most : r ≤ 3
+  pub symbols-are : Each (λ (v : ℤ). isEntry r v ≡ true) symbols
+  pub aged : Aged r age symbols
 
 pub record Audible (sb g ψ : ℕ) (forward back samples symbols : List ℤ) : Type 0 where
   pub forward-sum : Summable forward samples

@@ -5,7 +5,7 @@ ghost use lib.IntN.{natAbs};
 ghost use lib.ListN.{drop};
 ghost use Rattle.numbers.specs.BitLength.{bitLength};
 ghost use Rattle.steps.specs.Side.{longest};
-ghost use Rattle.filter.specs.Calls.{Audible, Heard-is, Decidable, Judged-is, chosen, Teachable, taught, Settled-is, Changeable, Changed-is, takenOf, Ready, Taken-is, settingsOf, tapsOf};
+ghost use Rattle.filter.specs.Calls.{Aged, Older, Reachable, Audible, Heard-is, Decidable, Judged-is, chosen, Teachable, taught, Settled-is, Changeable, Changed-is, takenOf, Ready, Taken-is, settingsOf, tapsOf};
 
 // The settings of a station.
 pub struct Settings {
@@ -42,8 +42,34 @@ pub struct Taken {
     pub psi: u32,
 }
 
+// How many symbols have come since one of the largest bit length, after the symbol v.
+pub fn older(r: u32, age: usize, v: i16) -> usize
+    requires { ⌜ age ≤ 256 ⌝ }
+    ensures { λ a. ⌜ Older r age v a ⌝ }
+{
+    if r < numbers::bit_length::signed_bit_length(v as i64) {
+        0
+    } else {
+        age + 1
+    }
+}
+
+// Step 1: the largest bit length of the symbols, which needs no search where one of them is known to have it.
+fn reach(r: u32, age: usize, symbols: &[i16]) -> u32
+    requires { ⌜ Reachable r age (now symbols) ⌝ }
+    ensures { λ c. ⌜ c ≡ longest (now (symbols .entry)) ⌝ }
+{
+    if age < symbols.len() {
+        r + 1
+    } else {
+        steps::side::longest(symbols)
+    }
+}
+
 // Steps 1 to 3: ν, Y and ξ.
 pub fn hear(
+    r: u32,
+    age: usize,
     sb: u32,
     g: u32,
     psi: u32,
@@ -52,10 +78,10 @@ pub fn hear(
     samples: &[i16],
     symbols: &[i16],
 ) -> Heard
-    requires { ⌜ Audible sb g psi (now forward) (now back) (now samples) (now symbols) ⌝ }
-    ensures { λ r. ⌜ Heard-is sb g psi (now (forward .entry)) (now (back .entry)) (now (samples .entry)) (now (symbols .entry)) r ⌝ }
+    requires { ⌜ Audible sb g psi (now forward) (now back) (now samples) (now symbols) × Reachable r age (now symbols) ⌝ }
+    ensures { λ h. ⌜ Heard-is sb g psi (now (forward .entry)) (now (back .entry)) (now (samples .entry)) (now (symbols .entry)) h ⌝ }
 {
-    let nu = sb + steps::side::longest(symbols);
+    let nu = sb + reach(r, age, symbols);
     let f = steps::side::sum(forward, samples);
     let h = steps::side::sum(back, symbols);
     let o = steps::output::output(f, h, g, nu, psi);
@@ -168,16 +194,17 @@ pub fn step(
     sb: u32,
     g: u32,
     psi: u32,
+    age: usize,
     entry: i16,
     forward: &mut [i16],
     back: &mut [i16],
     samples: &[i16],
     symbols: &mut [i16],
 ) -> Taken
-    requires { ⌜ Ready (settingsOf k) s sb g (tapsOf (now forward) (now back) (now samples) (drop 1 (now symbols)) psi) entry ⌝ }
+    requires { ⌜ Ready (settingsOf k) s sb g (tapsOf (now forward) (now back) (now samples) (drop 1 (now symbols)) psi) entry × Aged (k .r) age (drop 1 (now symbols)) ⌝ }
     ensures { λ r. ⌜ Taken-is (settingsOf k) g (tapsOf (now (forward .entry)) (now (back .entry)) (now (samples .entry)) (drop 1 (now (symbols .entry))) psi) entry r (now (forward .exit)) (now (back .exit)) (now (symbols .exit)) ⌝ }
 {
-    let h = hear(sb, g, psi, forward, back, samples, &symbols[1..]);
+    let h = hear(k.r, age, sb, g, psi, forward, back, samples, &symbols[1..]);
     let j = judge(k.r, sb, h.y, h.xi, entry);
     let v = j.v;
     symbols[0] = v;

@@ -7,7 +7,7 @@ use native.Mathlib.Nat.{lt-of-lt-of-le}
 use lib.Dec.{lit<}
 use lib.ListN.{length, getD}
 use lib.IntN.{ℤ, pos}
-use mir.Syntax.{w8, w32}
+use mir.Syntax.{w8, w16, w32}
 use mir.Val.{toZ, ofZ}
 use borrow.Author.Needs.{needs}
 use Rattle.laws.specs.Machine.{kept}
@@ -15,21 +15,21 @@ use Rattle.steps.specs.Settings.{Settings}
 use Rattle.block.specs.Block.{Block, Memory}
 use Rattle.filter.specs.Calls.{settingsOf}
 use Rattle.block.specs.Calls.{blockOf, memoryOf, Runnable}
-use Rattle.block.proofs.RunStart.{Begun-as, begun-as, Line-is, line-is, lent-long, startable, window-storable, window-most, places-most, block-storable, place-fits, next-fits, fewer}
+use Rattle.block.proofs.RunStart.{Begun-as, begun-as, Line-is, line-is, lent-long, startable, window-storable, window-most, places-most, block-storable, place-fits, before-last, within-line, age-fits, next-fits, fewer}
 use Rattle.block.proofs.RunLaws.{Work, Passed, Given, passed-none, passed-next, same-lengths, advanceable, stopped, ran}
 use Rattle.block.proofs.run.run.Statement.{statement}
 use Rattle.block.proofs.run.run.Tie as tie
 
 -- for the window as it was lent
 abbrev Inv-loop : tie.InvT-loop
-Inv-loop k psi b big m gains entries forward₀ back₀ samples symbols e line marks₀ y₀ xi₀ decision₀ z₀ theta₀ at₀ n₀ forward back marks y xi decision z theta at n =
+Inv-loop k psi b big m gains entries forward₀ back₀ samples symbols e line marks₀ y₀ xi₀ decision₀ z₀ theta₀ at₀ age₀ n₀ forward back marks y xi decision z theta at age n =
     (window : List ℤ) → Runnable (settingsOf k) (memoryOf forward₀ back₀ window symbols psi b big) (blockOf m gains entries) window →
     Line-is (settingsOf k) (memoryOf forward₀ back₀ window symbols psi b big) (blockOf m gains entries) line →
     Passed (settingsOf k) (memoryOf forward₀ back₀ window symbols psi b big) (blockOf m gains entries)
-    (record { n = n; forward = forward; back = back; marks = marks; ψ = at; y = y; xi = xi; decisions = decision; z = z; theta = theta })
+    (record { n = n; forward = forward; back = back; marks = marks; ψ = at; age = age; y = y; xi = xi; decisions = decision; z = z; theta = theta })
 
 abbrev μ-loop : tie.MeasureT-loop
-μ-loop k psi b big m gains entries forward₀ back₀ samples symbols e line marks₀ y₀ xi₀ decision₀ z₀ theta₀ at₀ n₀ forward back marks y xi decision z theta at n =
+μ-loop k psi b big m gains entries forward₀ back₀ samples symbols e line marks₀ y₀ xi₀ decision₀ z₀ theta₀ at₀ age₀ n₀ forward back marks y xi decision z theta at age n =
     length m - n
 
 -- the settings, the block, and the memory with a given window
@@ -85,7 +85,7 @@ abbrev opening : tie.After-start Inv-loop μ-loop → tie.After-begin Inv-loop �
 opening c = c .before .before .before .before .before .before .before .before
 
 loop-holds : tie.Need-loop-holds Inv-loop μ-loop
-loop-holds c window run line = passed-none _ _ _ _ (search needs) (run .sound .symbols-long) (c .start .ensures)
+loop-holds c window run line = passed-none _ _ _ _ (search needs) (run .sound .symbols-long) (run .sound .within .q-most) (c .start .ensures)
 
 lined : (c : tie.After-start Inv-loop μ-loop) → let s = start (opening c) in Line-is (settings s) (memory s (lent s)) (block s) (c .before .before .store .result)
 lined c =
@@ -100,7 +100,7 @@ origin c = start (opening (c .before))
 abbrev work : tie.At-loop Inv-loop μ-loop → Work
 work c =
     let l = c .loop in
-    record { n = l .n; forward = l .forward; back = l .back; marks = l .marks; ψ = l .at; y = l .y; xi = l .xi; decisions = l .decision; z = l .z; theta = l .theta }
+    record { n = l .n; forward = l .forward; back = l .back; marks = l .marks; ψ = l .at; age = l .age; y = l .y; xi = l .xi; decisions = l .decision; z = l .z; theta = l .theta }
 
 -- on the window that was lent
 passed : (c : tie.At-loop Inv-loop μ-loop) → let s = origin c in Passed (settings s) (memory s (lent s)) (block s) (work c)
@@ -145,10 +145,10 @@ lengths : (c : tie.At-loop Inv-loop μ-loop) → let s = origin c in let l = c .
 lengths c = same-lengths (origin c .pre) (lined (c .before)) (passed c)
 
 same-length : tie.Need-same-length Inv-loop μ-loop
-same-length c = let a = c .before .before .before .before in a .advance .kept .1 .1 .1 .1 .1 .0 ∙ lengths (turn (a .before) .before) .0
+same-length c = let a = c .before .before .before .before in a .advance .kept .1 .1 .1 .1 .1 .1 .0 ∙ lengths (turn (a .before) .before) .0
 
 same-length-2 : tie.Need-same-length-2 Inv-loop μ-loop
-same-length-2 c = let a = c .before .before .before .before in a .advance .kept .1 .1 .1 .1 .1 .1 .0 ∙ lengths (turn (a .before) .before) .1
+same-length-2 c = let a = c .before .before .before .before in a .advance .kept .1 .1 .1 .1 .1 .1 .1 .0 ∙ lengths (turn (a .before) .before) .1
 
 -- the samples are as many as were lent
 abbrev rescaled : tie.At-loop Inv-loop μ-loop → tie.After-rescale-all Inv-loop μ-loop
@@ -195,23 +195,44 @@ array-set-from-z c = room (turned c)
 array-write-theta : tie.Need-array-write-theta Inv-loop μ-loop
 array-write-theta c = room (turned c)
 
+-- the symbol that was written, and the age after it
+
+sub-older : tie.Need-sub-older Inv-loop μ-loop
+sub-older c = let h = room (turned c) in omega arith
+
+mul-older : tie.Need-mul-older Inv-loop μ-loop
+mul-older c = let n = turned c .before .loop .n in place-fits (127 - n) 2 (before-last n) (lit< tt)
+
+array-copy-out-older : tie.Need-array-copy-out-older Inv-loop μ-loop
+array-copy-out-older c = within-line (turned c .before .loop .n)
+
+older-requires : tie.Need-older-requires Inv-loop μ-loop
+older-requires c κs = let t = turned (c .before) in age-fits (room t) (passed (t .before) .age-most)
+
+abbrev stored : tie.After-older Inv-loop μ-loop → tie.After-struct-told3 Inv-loop μ-loop
+stored c = c .before .before
+
 add-n : tie.Need-add-n Inv-loop μ-loop
-add-n c = next-fits (turned c .before .loop .n) (room (turned c))
+add-n c = next-fits (turned (stored c) .before .loop .n) (room (turned (stored c)))
 
 loop-less : tie.Need-loop-less Inv-loop μ-loop
-loop-less c = fewer (length (origin (turned c .before) .args .m .now)) (turned c .before .loop .n) (turned c .loop-test .taken)
+loop-less c =
+    let t = turned (stored c) in
+    fewer (length (origin (t .before) .args .m .now)) (t .before .loop .n) (t .loop-test .taken)
 
 loop-again : tie.Need-loop-again Inv-loop μ-loop
 loop-again c w run line =
-    let a = called c in
+    let d = stored c in
+    let a = called d in
     let r = a .advance .result in
-    let p = turned c .before .loop .inv w run line in
-    passed-next run line p (more (turned c)) (given (a .before) w) _ (a .advance .ensures)
-    (a .advance .kept .1 .1 .1 .1 .1 .1 .1 .1 .0 ∙ p .marks-long)
-    (kept w32 (r .y) (omega (arith, c .before .before .struct-told .given)))
-    (kept w8 (r .decision) (omega (arith, c .before .struct-told2 .given)))
-    (kept w32 (r .z) (omega (arith, c .struct-told3 .given)))
-    (c .before .before .before .if1 .left)
+    let p = turned d .before .loop .inv w run line in
+    passed-next run line p (more (turned d)) (given (a .before) w) _ (a .advance .ensures)
+    (a .advance .kept .1 .1 .1 .1 .1 .1 .1 .1 .1 .0 ∙ p .marks-long)
+    (kept w32 (r .y) (omega (arith, d .before .before .struct-told .given)))
+    (kept w8 (r .decision) (omega (arith, d .before .struct-told2 .given)))
+    (kept w32 (r .z) (omega (arith, d .struct-told3 .given)))
+    (d .before .before .before .if1 .left)
+    (kept w16 _ (c .before .older-arg .given)) (c .older .ensures)
 
 -- ---- after the last sample
 
@@ -284,6 +305,10 @@ run-spec =
     mul-z
     array-set-from-z
     array-write-theta
+    sub-older
+    mul-older
+    array-copy-out-older
+    older-requires
     add-n
     loop-less
     loop-again

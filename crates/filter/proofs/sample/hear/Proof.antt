@@ -11,20 +11,20 @@ use Rattle.steps.specs.Side.{longest}
 use Rattle.filter.proofs.sample.hear.Statement.{statement}
 use Rattle.filter.proofs.sample.hear.Tie as tie
 
-longest-requires : tie.Need-longest-requires
-longest-requires c κs = search needs
+reach-requires : tie.Need-reach-requires
+reach-requires c κs = c .pre .1
 
-nu-is : (c : tie.After-longest) → c .before .args .sb + c .longest .result ≡ c .before .args .sb + longest (c .before .args .symbols .now)
-nu-is c = ap (λ (n : ℕ). c .before .args .sb + n) (c .longest .ensures)
+nu-is : (c : tie.After-reach) → c .before .args .sb + c .reach .result ≡ c .before .args .sb + longest (c .before .args .symbols .now)
+nu-is c = ap (λ (n : ℕ). c .before .args .sb + n) (c .reach .ensures)
 
 add-nu : tie.Need-add-nu
-add-nu c = record { fits = omega (arith, nu-is c, c .before .pre .ν-most) }
+add-nu c = record { fits = omega (arith, nu-is c, c .before .pre .0 .ν-most) }
 
 sum-requires : tie.Need-sum-requires
-sum-requires c κs = c .before .pre .forward-sum
+sum-requires c κs = c .before .pre .0 .forward-sum
 
 sum-requires-2 : tie.Need-sum-requires-2
-sum-requires-2 c κs = c .before .before .pre .back-sum
+sum-requires-2 c κs = c .before .before .pre .0 .back-sum
 
 forward-sum : (c : tie.After-sum) → toZ w32 (ofZ w32 (c .sum .result)) ≡ dot (c .before .before .args .forward .now) (c .before .before .args .samples .now)
 forward-sum c = kept w32 (c .sum .result) (c .sum .ok) ∙ c .sum .ensures
@@ -33,7 +33,7 @@ back-sum : (c : tie.After-sum2) → toZ w32 (ofZ w32 (c .sum2 .result)) ≡ dot 
 back-sum c = kept w32 (c .sum2 .result) (c .sum2 .ok) ∙ c .sum2 .ensures
 
 output-requires : tie.Need-output-requires
-output-requires c κs = rw (forward-sum (c .before), back-sum c, nu-is (c .before .before)) (c .before .before .before .pre .joinable)
+output-requires c κs = rw (forward-sum (c .before), back-sum c, nu-is (c .before .before)) (c .before .before .before .pre .0 .joinable)
 
 returns : tie.Need-returns
 returns c =
@@ -48,4 +48,4 @@ returns c =
 pub hear-spec : {M : Type 1} → statement M
 hear-spec =
     tie.close
-    (tie.spec longest-requires add-nu sum-requires sum-requires-2 output-requires returns)
+    (tie.spec reach-requires add-nu sum-requires sum-requires-2 output-requires returns)

@@ -13,7 +13,7 @@ use borrow.Author.Needs.{needs}
 use Rattle.laws.specs.Machine.{kept}
 use Rattle.steps.specs.Settings.{Settings}
 use Rattle.filter.specs.Sample.{Taps}
-use Rattle.filter.specs.Calls.{settingsOf, tapsOf, Audible, Heard-is, Changeable}
+use Rattle.filter.specs.Calls.{settingsOf, tapsOf, Reachable, Audible, Heard-is, Changeable}
 use Rattle.filter.proofs.SampleLaws.{first-place, past, past-kept}
 use Rattle.filter.proofs.StepLaws as L
 use Rattle.filter.proofs.sample.step.Statement.{statement}
@@ -39,7 +39,7 @@ written c = c .before .before .before .before .before
 -- ---- the symbols
 
 room : (s : tie.Start) → 1 ≤ length (s .args .symbols .now)
-room s = first-place (settings s .q) (s .args .symbols .now) (s .pre .fit .symbols-long) (s .pre .fit .within .q-least)
+room s = first-place (settings s .q) (s .args .symbols .now) (s .pre .0 .fit .symbols-long) (s .pre .0 .fit .within .q-least)
 
 room-kept : (s : tie.Start) (v : ℤ) → 1 ≤ length (set (s .args .symbols .now) 0 v)
 room-kept s v = omega (arith, length-set (s .args .symbols .now) 0 v, room s)
@@ -62,26 +62,26 @@ hear-requires : tie.Need-hear-requires
 hear-requires c κs =
     let s = c .before .before .before .before in
     let a = s .args in
-    subst (λ (l : List ℤ). Audible (a .sb) (a .g) (a .psi) (a .forward .now) (a .back .now) (a .samples .now) l) (sym (past (a .symbols .now)))
-    (L.audible (settings s) (a .s) (a .sb) (a .g) (taps s) (a .entry) (s .pre))
+    subst (λ (l : List ℤ). Audible (a .sb) (a .g) (a .psi) (a .forward .now) (a .back .now) (a .samples .now) l × Reachable (a .k .r) (a .age) l) (sym (past (a .symbols .now)))
+    (L.audible (settings s) (a .s) (a .sb) (a .g) (taps s) (a .entry) (s .pre .0), L.reachable (settings s) (a .s) (a .sb) (a .g) (taps s) (a .entry) (s .pre .0) (s .pre .1))
 
-heard : (c : tie.After-hear) → let s = start c in L.Heard-as (settings s) (s .args .s) (s .args .sb) (s .args .g) (taps s) (s .args .entry) (s .pre) (c .hear .result)
+heard : (c : tie.After-hear) → let s = start c in L.Heard-as (settings s) (s .args .s) (s .args .sb) (s .args .g) (taps s) (s .args .entry) (s .pre .0) (c .hear .result)
 heard c =
     let s = start c in
     let a = s .args in
-    L.heard-as (settings s) (a .s) (a .sb) (a .g) (taps s) (a .entry) (s .pre) (c .hear .result)
+    L.heard-as (settings s) (a .s) (a .sb) (a .g) (taps s) (a .entry) (s .pre .0) (c .hear .result)
     (subst (λ (l : List ℤ). Heard-is (a .sb) (a .g) (a .psi) (a .forward .now) (a .back .now) (a .samples .now) l (c .hear .result)) (past (a .symbols .now)) (c .hear .ensures))
 
 judge-requires : tie.Need-judge-requires
 judge-requires c κs =
     let s = start (c .before) in
     rw (kept w32 (c .before .hear .result .y) (omega (arith, c .struct-told .given)), toZ-ofZ (s .fits .entry))
-    (L.decidable (settings s) (s .args .s) (s .args .sb) (s .args .g) (taps s) (s .args .entry) (s .pre) (c .before .hear .result) (heard (c .before)))
+    (L.decidable (settings s) (s .args .s) (s .args .sb) (s .args .g) (taps s) (s .args .entry) (s .pre .0) (c .before .hear .result) (heard (c .before)))
 
-judged : (c : tie.After-judge) → let s = start (hearing c) in L.Judged-as (settings s) (s .args .s) (s .args .sb) (s .args .g) (taps s) (s .args .entry) (s .pre) (c .judge .result)
+judged : (c : tie.After-judge) → let s = start (hearing c) in L.Judged-as (settings s) (s .args .s) (s .args .sb) (s .args .g) (taps s) (s .args .entry) (s .pre .0) (c .judge .result)
 judged c =
     let s = start (hearing c) in
-    L.judged-as (settings s) (s .args .s) (s .args .sb) (s .args .g) (taps s) (s .args .entry) (s .pre) (hearing c .hear .result) (c .judge .result) (heard (hearing c))
+    L.judged-as (settings s) (s .args .s) (s .args .sb) (s .args .g) (taps s) (s .args .entry) (s .pre .0) (hearing c .hear .result) (c .judge .result) (heard (hearing c))
     (rw (kept w32 (hearing c .hear .result .y) (omega (arith, c .before .struct-told .given)), toZ-ofZ (s .fits .entry)) at (c .judge .ensures))
 
 slice-set-from-v : tie.Need-slice-set-from-v
@@ -103,7 +103,7 @@ change-requires c κs =
     let a = s .args in
     subst (λ (l : List ℤ). Changeable (a .k .m) (a .s) (a .sb) (a .g) (a .psi) (hearing j .hear .result) (j .judge .result) (a .forward .now) (a .back .now) (a .samples .now) l)
     (sym (past-kept (a .symbols .now) _))
-    (L.changeable (settings s) (a .s) (a .sb) (a .g) (taps s) (a .entry) (s .pre) (hearing j .hear .result) (j .judge .result) (heard (hearing j)) (judged j))
+    (L.changeable (settings s) (a .s) (a .sb) (a .g) (taps s) (a .entry) (s .pre .0) (hearing j .hear .result) (j .judge .result) (heard (hearing j)) (judged j))
 
 -- the place before the change
 abbrev changing : tie.After-back → tie.After-change-arg3
@@ -113,7 +113,7 @@ hand-out-requires : tie.Need-hand-out-requires
 hand-out-requires c κs =
     let j = written (changing c) in
     let s = start (hearing j) in
-    L.handable (settings s) (s .args .s) (s .args .sb) (s .args .g) (taps s) (s .args .entry) (s .pre) (hearing j .hear .result) (j .judge .result) (heard (hearing j)) (judged j)
+    L.handable (settings s) (s .args .s) (s .args .sb) (s .args .g) (taps s) (s .args .entry) (s .pre .0) (hearing j .hear .result) (j .judge .result) (heard (hearing j)) (judged j)
 
 same-length : tie.Need-same-length
 same-length c = search needs
@@ -130,7 +130,7 @@ returns c =
     let j = written d in
     let s = start (hearing j) in
     let a = s .args in
-    L.taken-as (settings s) (a .s) (a .sb) (a .g) (taps s) (a .entry) (s .pre) (hearing j .hear .result) (j .judge .result) (heard (hearing j)) (judged j)
+    L.taken-as (settings s) (a .s) (a .sb) (a .g) (taps s) (a .entry) (s .pre .0) (hearing j .hear .result) (j .judge .result) (heard (hearing j)) (judged j)
     _ _ _ _ _ (c .before .before .before .change .ensures) (past-kept (a .symbols .now) _)
     (set-split (a .symbols .now) 0 _ (room s) ∙ ap (λ (x : ℤ). x ∷ drop 1 (a .symbols .now)) (symbol-kept (d .before .before .before .before)))
     (c .hand-out .result) (c .hand-out .ensures)

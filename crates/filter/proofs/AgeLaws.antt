@@ -1,0 +1,40 @@
+-- Laws of the symbols' largest bit length, by the age of one that has it.
+use mathlib.Core.Path.{_≡_}
+use mathlib.Core.Bool.{true}
+use mathlib.Core.List.{List, _∷_}
+use Prim.Native.Nat.{ℕ, _+_, _^_, _<_}
+use native.Mathlib.Omega.{arith}
+use native.Mathlib.Numerals.{add-one}
+use lib.ListN.{length, getD, take, length-take}
+use lib.Seq.{getD-take}
+use lib.IntN.{ℤ, pos, natAbs}
+use Rattle.laws.specs.Powers.{positive}
+use Rattle.laws.specs.Sums.{Each, each-weaken}
+use Rattle.numbers.proofs.BitLengthLaws.{bit-length-le, bit-length-mono}
+use Rattle.steps.specs.Settings.{isEntry}
+use Rattle.steps.specs.Side.{longest, largest, magnitudes}
+use Rattle.steps.proofs.LargestLaws.{largest-magnitude, longest-is, magnitude-at}
+use Rattle.steps.proofs.SymbolLaws.{entry-below}
+use Rattle.filter.specs.Calls.{Aged, Reachable}
+
+-- a symbol of bit length r + 1 has the largest
+pub reached : {r age : ℕ} {l : List ℤ} → Reachable r age l → age < length l → r + 1 ≡ longest l
+reached {r} {age} {l} p h =
+    omega (
+      arith,
+      longest-is l,
+      bit-length-le (largest (magnitudes l)) (r + 1) (largest-magnitude (λ (n : ℕ). n < 2 ^ (r + 1)) (positive (r + 1)) l below),
+      bit-length-mono (magnitude-at l age),
+      p .aged h,
+    )
+  where
+    below : Each (λ (x : ℤ). natAbs x < 2 ^ (r + 1)) l
+    below = each-weaken (λ (x : ℤ). isEntry r x ≡ true) (λ (x : ℤ). natAbs x < 2 ^ (r + 1)) (entry-below r) l (p .symbols-are)
+
+-- one more symbol before them
+pub aged-next : (r age : ℕ) (v : ℤ) (l : List ℤ) → Aged r age l → Aged r (age + 1) (v ∷ l)
+aged-next r age v l p = rw (add-one age) (λ h. p (omega arith))
+
+-- the first of them
+pub aged-take : (r age q : ℕ) (l : List ℤ) → Aged r age l → Aged r age (take q l)
+aged-take r age q l p h = rw (getD-take q l age (pos 0) (omega (arith, length-take q l))) (p (omega (arith, length-take q l)))
