@@ -6,7 +6,7 @@ use Prim.Native.Nat.{ℕ, zero, suc, _+_, _-_, _≤_, _<_}
 use native.Mathlib.Omega.{arith}
 use native.Mathlib.Nat.{eq-or-lt-of-le, add-sub-cancel-left}
 use native.Mathlib.Numerals.{add-one}
-use lib.ListN.{length, getD, take, drop, set, replicate, length-set, length-drop, length-replicate}
+use lib.ListN.{length, getD, take, drop, set, length-set, length-drop}
 use lib.Seq.{length-take-le, take-all, take-suc, take-suc-set, take-take, take-at, drop-at, drop-cons, drop-set-add, drop-set-lt, getD-set-same, getD-set-other}
 use lib.IntN.{ℤ, pos}
 use Rattle.steps.specs.Side.{push}
@@ -20,8 +20,8 @@ pub record Placed (old : List ℤ) (i : ℕ) (line : List ℤ) : Type 0 where
   pub long : length line ≡ 144
   pub is : take i (drop 128 line) ≡ take i old
 
-pub placed-none : (old : List ℤ) → Placed old 0 (replicate 144 (pos 0))
-placed-none old = record { long = length-replicate 144 (pos 0); is = refl }
+pub placed-none : (old line : List ℤ) → length line ≡ 144 → Placed old 0 line
+placed-none old line l = record { long = l; is = refl }
 
 module _ {old line : List ℤ} {i : ℕ} (p : Placed old i line) where
   pub placed-next : i < length old → i < 16 → (x : ℤ) → x ≡ getD old i (pos 0) → Placed old (i + 1) (set line (128 + i) x)
@@ -38,8 +38,8 @@ module _ {old line : List ℤ} {i : ℕ} (p : Placed old i line) where
 
 -- ---- the new ones are added
 
-pub lined-none : (new old line : List ℤ) → length line ≡ 144 → take (length old) (drop 128 line) ≡ old → Lined new 0 old line
-lined-none new old line l e = record { long = l; old-are = e; new-at = λ j h. absurd (omega arith) }
+pub lined-none : (new line : List ℤ) → length line ≡ 144 → Lined new 0 (drop 128 line) line
+lined-none new line l = record { long = l; old-are = take-all (length (drop 128 line)) (drop 128 line) (omega arith); new-at = λ j h. absurd (omega arith) }
 
 pub lined-next : {new old line : List ℤ} {n : ℕ} → Lined new n old line → n < 128 → (x : ℤ) → x ≡ getD new n (pos 0) → Lined new (n + 1) old (set line (127 - n) x)
 lined-next {new = new} {old = old} {line = line} {n = n} p h x e = record {
@@ -56,6 +56,16 @@ lined-next {new = new} {old = old} {line = line} {n = n} p h x e = record {
 
 pub lined-first : {new old line : List ℤ} {i : ℕ} → Lined new i old line → (n : ℕ) → n ≤ i → Lined new n old line
 lined-first p n h = record { long = p .long; old-are = p .old-are; new-at = λ j l. p .new-at j (omega arith) }
+
+-- the old ones are the first of those that stood there
+pub lined-old : {new line : List ℤ} {n : ℕ} (old line₀ : List ℤ) → length line₀ ≡ 144 → length old ≤ 16 → take (length old) (drop 128 line₀) ≡ old →
+    Lined new n (drop 128 line₀) line → Lined new n old line
+lined-old {line = line} old line₀ l h e p = record {
+  long = p .long;
+  old-are = sym (take-take (length old) (length (drop 128 line₀)) (drop 128 line) (omega (arith, l, length-drop 128 line₀)))
+      ∙ ap (take (length old)) (p .old-are) ∙ e;
+  new-at = p .new-at;
+}
 
 -- ---- the newest, when one more is added
 

@@ -4,18 +4,16 @@ ghost use Prim.Native.Nat.{_+_, _≤_};
 ghost use lib.ListN.{length, take, drop};
 ghost use Rattle.block.specs.Line.{newest};
 
-// A line to which nothing is added yet.
-pub fn start(old: &[i16]) -> [i16; 144]
-    requires { ⌜ length (now old) ≤ 16 ⌝ }
-    ensures { λ r. ⌜ take (length (now (old .entry))) (drop 128 r) ≡ now (old .entry) ⌝ }
+// The old ones to their places in a line.
+pub fn start(old: &[i16], line: &mut [i16])
+    requires { ⌜ (length (now old) ≤ 16) × (length (now line) ≡ 144) ⌝ }
+    ensures { λ _. ⌜ take (length (now (old .entry))) (drop 128 (now (line .exit))) ≡ now (old .entry) ⌝ }
 {
-    let mut line = [0i16; 144];
     let mut i: usize = 0;
     while i < old.len() {
         line[128 + i] = old[i];
         i += 1;
     }
-    line
 }
 
 // The newest of a line to which n are added.

@@ -112,8 +112,11 @@ pub fn run(
 {
     let e = begin(k, b, m, gains);
     super::stored::rescale_all(samples, big, e.big);
-    let line = super::stored::store(m, gains, e.big + e.s, samples);
-    let mut marks = super::line::start(symbols);
+    let mut line = [0i16; 144];
+    super::line::start(samples, &mut line);
+    super::stored::store(m, gains, e.big + e.s, &mut line);
+    let mut marks = [0i16; 144];
+    super::line::start(symbols, &mut marks);
     let mut y = [0i32; 128];
     let mut xi = [0u8; 128];
     let mut decision = [0i8; 128];

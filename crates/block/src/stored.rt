@@ -2,7 +2,7 @@
 ghost use mathlib.Core.Path.{_≡_};
 ghost use mathlib.Core.List.{map};
 ghost use Prim.Native.Nat.{_<_, _≤_};
-ghost use lib.ListN.{length, getD};
+ghost use lib.ListN.{length, getD, drop};
 ghost use lib.IntN.{ℤ, pos, natAbs};
 ghost use Rattle.laws.specs.Sums.{Each};
 ghost use Rattle.numbers.specs.BitLength.{bitLength};
@@ -65,43 +65,39 @@ fn raised(x: i32, places: u32) -> i16
     numbers::cut::raise32(x, 15 - places) as i16
 }
 
-// The line of a block whose samples are cut.
-fn store_lowered(m: &[i16], gains: &[u8], places: u32, old: &[i16]) -> [i16; 144]
-    requires { ⌜ (Receivable (now m) (now gains)) × (length (now m) ≤ 128) × (Each (Storable 15 places) (receivedAll (now m) (now gains))) × (length (now old) ≤ 16) × (15 ≤ places) × (places < 47) ⌝ }
-    ensures { λ r. ⌜ Lined (map (λ (x : ℤ). rescale x 15 places) (receivedAll (now (m .entry)) (now (gains .entry)))) (length (now (m .entry))) (now (old .entry)) r ⌝ }
+// The samples of a block into a line, cut.
+fn store_lowered(m: &[i16], gains: &[u8], places: u32, line: &mut [i16])
+    requires { ⌜ (Receivable (now m) (now gains)) × (length (now m) ≤ 128) × (Each (Storable 15 places) (receivedAll (now m) (now gains))) × (length (now line) ≡ 144) × (15 ≤ places) × (places < 47) ⌝ }
+    ensures { λ _. ⌜ Lined (map (λ (x : ℤ). rescale x 15 places) (receivedAll (now (m .entry)) (now (gains .entry)))) (length (now (m .entry))) (drop 128 (now (line .entry))) (now (line .exit)) ⌝ }
 {
-    let mut line = super::line::start(old);
     let mut i: usize = 0;
     while i < m.len() {
         line[127 - i] = lowered(received_at(m, gains, i), places);
         i += 1;
     }
-    line
 }
 
-// The line of a block whose samples are raised.
-fn store_raised(m: &[i16], gains: &[u8], places: u32, old: &[i16]) -> [i16; 144]
-    requires { ⌜ (Receivable (now m) (now gains)) × (length (now m) ≤ 128) × (Each (Storable 15 places) (receivedAll (now m) (now gains))) × (length (now old) ≤ 16) × (places ≤ 15) ⌝ }
-    ensures { λ r. ⌜ Lined (map (λ (x : ℤ). rescale x 15 places) (receivedAll (now (m .entry)) (now (gains .entry)))) (length (now (m .entry))) (now (old .entry)) r ⌝ }
+// The samples of a block into a line, raised.
+fn store_raised(m: &[i16], gains: &[u8], places: u32, line: &mut [i16])
+    requires { ⌜ (Receivable (now m) (now gains)) × (length (now m) ≤ 128) × (Each (Storable 15 places) (receivedAll (now m) (now gains))) × (length (now line) ≡ 144) × (places ≤ 15) ⌝ }
+    ensures { λ _. ⌜ Lined (map (λ (x : ℤ). rescale x 15 places) (receivedAll (now (m .entry)) (now (gains .entry)))) (length (now (m .entry))) (drop 128 (now (line .entry))) (now (line .exit)) ⌝ }
 {
-    let mut line = super::line::start(old);
     let mut i: usize = 0;
     while i < m.len() {
         line[127 - i] = raised(received_at(m, gains, i), places);
         i += 1;
     }
-    line
 }
 
-// The line of stored samples: those of a block, and the old ones.
-pub fn store(m: &[i16], gains: &[u8], places: u32, old: &[i16]) -> [i16; 144]
-    requires { ⌜ (Receivable (now m) (now gains)) × (length (now m) ≤ 128) × (Each (Storable 15 places) (receivedAll (now m) (now gains))) × (length (now old) ≤ 16) × (places < 47) ⌝ }
-    ensures { λ r. ⌜ Lined (map (λ (x : ℤ). rescale x 15 places) (receivedAll (now (m .entry)) (now (gains .entry)))) (length (now (m .entry))) (now (old .entry)) r ⌝ }
+// The samples of a block as stored, into a line before the old ones.
+pub fn store(m: &[i16], gains: &[u8], places: u32, line: &mut [i16])
+    requires { ⌜ (Receivable (now m) (now gains)) × (length (now m) ≤ 128) × (Each (Storable 15 places) (receivedAll (now m) (now gains))) × (length (now line) ≡ 144) × (places < 47) ⌝ }
+    ensures { λ _. ⌜ Lined (map (λ (x : ℤ). rescale x 15 places) (receivedAll (now (m .entry)) (now (gains .entry)))) (length (now (m .entry))) (drop 128 (now (line .entry))) (now (line .exit)) ⌝ }
 {
     if 15 <= places {
-        store_lowered(m, gains, places, old)
+        store_lowered(m, gains, places, line)
     } else {
-        store_raised(m, gains, places, old)
+        store_raised(m, gains, places, line)
     }
 }
 

@@ -1,4 +1,5 @@
 -- One element a turn.
+use mathlib.Core.Path.{sym, _∙_}
 use Prim.Native.Nat.{_-_}
 use native.Mathlib.Omega.{arith}
 use lib.ListN.{length, getD}
@@ -16,7 +17,7 @@ abbrev μ-loop : tie.MeasureT-loop
 μ-loop old line₀ i₀ line i = length old - i
 
 loop-holds : tie.Need-loop-holds Inv-loop μ-loop
-loop-holds c = placed-none _
+loop-holds c = placed-none _ _ (c .pre .1)
 
 mul-line : tie.Need-mul-line Inv-loop μ-loop
 mul-line c = omega arith
@@ -24,14 +25,14 @@ mul-line c = omega arith
 shared-slice-copy-out-line : tie.Need-shared-slice-copy-out-line Inv-loop μ-loop
 shared-slice-copy-out-line c = omega arith
 
-add-line : tie.Need-add-line Inv-loop μ-loop
-add-line c = omega arith
+add-t8 : tie.Need-add-t8 Inv-loop μ-loop
+add-t8 c = omega arith
 
-mul-line-2 : tie.Need-mul-line-2 Inv-loop μ-loop
-mul-line-2 c = omega arith
+mul-t9 : tie.Need-mul-t9 Inv-loop μ-loop
+mul-t9 c = omega arith
 
-array-set-from-line : tie.Need-array-set-from-line Inv-loop μ-loop
-array-set-from-line c = omega arith
+slice-set-from-line : tie.Need-slice-set-from-line Inv-loop μ-loop
+slice-set-from-line c = omega (arith, c .before .before .loop .inv .long)
 
 add-i : tie.Need-add-i Inv-loop μ-loop
 add-i c = omega arith
@@ -45,6 +46,9 @@ loop-again c =
     let a = c .before .before .before .args in
     placed-next (l .inv) (omega arith) (omega arith) _ (kept w16 (getD (a .old .now) (l .i) (pos 0)) (c .line .given))
 
+same-length : tie.Need-same-length Inv-loop μ-loop
+same-length c = c .before .loop .inv .long ∙ sym (c .before .before .pre .1)
+
 returns : tie.Need-returns Inv-loop μ-loop
 returns c = placed-all (c .before .loop .inv) (omega arith)
 
@@ -57,10 +61,11 @@ start-spec =
     loop-holds
     mul-line
     shared-slice-copy-out-line
-    add-line
-    mul-line-2
-    array-set-from-line
+    add-t8
+    mul-t9
+    slice-set-from-line
     add-i
     loop-less
     loop-again
+    same-length
     returns)

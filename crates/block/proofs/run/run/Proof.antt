@@ -15,6 +15,7 @@ use Rattle.steps.specs.Settings.{Settings}
 use Rattle.block.specs.Block.{Block, Memory}
 use Rattle.filter.specs.Calls.{settingsOf}
 use Rattle.block.specs.Calls.{blockOf, memoryOf, Runnable}
+use Rattle.block.proofs.LineLaws.{lined-old}
 use Rattle.block.proofs.RunStart.{Begun-as, begun-as, Line-is, line-is, lent-long, startable, window-storable, window-most, places-most, block-storable, place-fits, before-last, within-line, age-fits, next-fits, fewer}
 use Rattle.block.proofs.RunLaws.{Work, Passed, Given, passed-none, passed-next, same-lengths, advanceable, stopped, ran}
 use Rattle.block.proofs.run.run.Statement.{statement}
@@ -63,34 +64,56 @@ rescale-all-requires c κs = let s = start (c .before) in window-storable (begun
 most : (c : tie.After-rescale-all Inv-loop μ-loop) → length (c .rescale-all .last .0) ≤ 16
 most c = let b = c .before .before in window-most (begun b (lent (start b))) (start b .pre) _ (c .rescale-all .ensures)
 
+-- its line
+slice-aggregate-start : tie.Need-slice-aggregate-start Inv-loop μ-loop
+slice-aggregate-start c = search needs
+
+start-requires : tie.Need-start-requires Inv-loop μ-loop
+start-requires c κs = (most (c .before .before .before), search needs)
+
+line-long : (c : tie.After-start Inv-loop μ-loop) → length (c .start .last .1 .0) ≡ 144
+line-long c = c .start .kept .1 .0
+
 add-store : tie.Need-add-store Inv-loop μ-loop
 add-store c =
-    let b = c .before .before .before .before in
+    let b = c .before .before .before .before .before .before .before .before in
     record { fits = omega (arith, places-most (begun b (lent (start b))) (start b .pre)) }
+
+slice-aggregate-store : tie.Need-slice-aggregate-store Inv-loop μ-loop
+slice-aggregate-store c = sym (line-long (c .before .before .before))
 
 store-requires : tie.Need-store-requires Inv-loop μ-loop
 store-requires c κs =
-    let b = c .before .before .before .before .before in
+    let b = c .before .before .before .before .before .before .before .before .before in
     let h = block-storable (begun b (lent (start b))) (start b .pre) in
-    (h .0, h .1, h .2, most (c .before .before .before), omega (arith, places-most (begun b (lent (start b))) (start b .pre)))
+    (h .0, h .1, h .2, line-long (c .before .before .before), omega (arith, places-most (begun b (lent (start b))) (start b .pre)))
 
+-- the place where the block began
+abbrev opening : tie.After-marks2 Inv-loop μ-loop → tie.After-begin Inv-loop μ-loop
+opening c = c .before .before .before .before .before .before .before .before .before .before .before .before .before .before .before
+
+abbrev filled : tie.After-marks2 Inv-loop μ-loop → tie.After-store Inv-loop μ-loop
+filled c = c .before .before .before .before .before
+
+lined : (c : tie.After-marks2 Inv-loop μ-loop) → let s = start (opening c) in Line-is (settings s) (memory s (lent s)) (block s) (filled c .store .last .1 .1 .1 .0)
+lined c =
+    let s = start (opening c) in
+    let f = filled c .before .before .before .before in
+    let r = f .before .before .before .before in
+    line-is (begun (opening c) (lent s)) (s .pre) (r .rescale-all .ensures) (lined-old _ (f .start .last .1 .0) (line-long f) (most r) (f .start .ensures) (filled c .store .ensures))
+
+-- the line of symbols
 symbols-most : (s : tie.Start Inv-loop μ-loop) → length (s .args .symbols .now) ≤ 16
 symbols-most s = omega (arith, s .pre .sound .symbols-long, s .pre .sound .within .q-most)
 
-start-requires : tie.Need-start-requires Inv-loop μ-loop
-start-requires c κs = symbols-most (start (c .before .before .before .before .before .before .before))
+slice-aggregate-start-2 : tie.Need-slice-aggregate-start-2 Inv-loop μ-loop
+slice-aggregate-start-2 c = search needs
 
--- the place where the block began
-abbrev opening : tie.After-start Inv-loop μ-loop → tie.After-begin Inv-loop μ-loop
-opening c = c .before .before .before .before .before .before .before .before
+start-requires-2 : tie.Need-start-requires-2 Inv-loop μ-loop
+start-requires-2 c κs = (symbols-most (start (c .before .before .before .before .before .before .before .before .before .before .before .before .before)), search needs)
 
 loop-holds : tie.Need-loop-holds Inv-loop μ-loop
-loop-holds c window run line = passed-none _ _ _ _ (search needs) (run .sound .symbols-long) (run .sound .within .q-most) (c .start .ensures)
-
-lined : (c : tie.After-start Inv-loop μ-loop) → let s = start (opening c) in Line-is (settings s) (memory s (lent s)) (block s) (c .before .before .store .result)
-lined c =
-    let s = start (opening c) in
-    line-is (begun (opening c) (lent s)) (s .pre) (c .before .before .before .before .before .before .rescale-all .ensures) (c .before .before .store .ensures)
+loop-holds c window run line = passed-none _ _ _ _ (c .before .start2 .kept .1 .0) (run .sound .symbols-long) (run .sound .within .q-most) (c .before .start2 .ensures)
 
 -- ---- a turn
 
@@ -121,11 +144,11 @@ slice-aggregate-advance c = sym (lined (c .before .before .before .before .befor
 slice-aggregate-advance-2 : tie.Need-slice-aggregate-advance-2 Inv-loop μ-loop
 slice-aggregate-advance-2 c = sym (passed (c .before .before .before .before .before .before) .marks-long)
 
-abbrev turn : tie.After-marks Inv-loop μ-loop → tie.In-loop Inv-loop μ-loop
+abbrev turn : tie.After-marks3 Inv-loop μ-loop → tie.In-loop Inv-loop μ-loop
 turn c = c .before .before .before .before .before
 
 -- the entry that is read
-given : (c : tie.After-marks Inv-loop μ-loop) (w : List ℤ) → let l = turn c .before in let s = origin l in
+given : (c : tie.After-marks3 Inv-loop μ-loop) (w : List ℤ) → let l = turn c .before in let s = origin l in
     Given (settings s) (memory s w) (block s) (l .loop .n) (opening (l .before) .begin .result) (toZ w8 (ofZ w8 (getD (s .args .entries .now) (l .loop .n) (pos 0))))
 given c w =
     let l = turn c .before in
@@ -152,7 +175,7 @@ same-length-2 c = let a = c .before .before .before .before in a .advance .kept 
 
 -- the samples are as many as were lent
 abbrev rescaled : tie.At-loop Inv-loop μ-loop → tie.After-rescale-all Inv-loop μ-loop
-rescaled c = c .before .before .before .before .before .before .before
+rescaled c = c .before .before .before .before .before .before .before .before .before .before .before .before .before .before
 
 same-length-3 : tie.Need-same-length-3 Inv-loop μ-loop
 same-length-3 c = rescaled (turn (c .before .before .before .before .before) .before) .rescale-all .kept .0
@@ -285,9 +308,13 @@ run-spec =
     μ-loop
     begin-requires
     rescale-all-requires
-    add-store
-    store-requires
+    slice-aggregate-start
     start-requires
+    add-store
+    slice-aggregate-store
+    store-requires
+    slice-aggregate-start-2
+    start-requires-2
     loop-holds
     shared-slice-copy-out-advance
     slice-aggregate-advance

@@ -3,11 +3,10 @@ use mathlib.Core.Path.{_≡_, sym, ap, _∙_}
 use mathlib.Core.List.{List, map}
 use Prim.Native.Nat.{_-_}
 use native.Mathlib.Omega.{arith}
-use lib.ListN.{length, getD}
+use lib.ListN.{length, getD, drop}
 use lib.IntN.{ℤ, pos}
 use mir.Syntax.{w16, w32}
 use mir.Val.{toZ, ofZ}
-use borrow.Author.Needs.{needs}
 use Rattle.laws.specs.Lists.{map-at}
 use Rattle.laws.specs.Machine.{kept}
 use Rattle.laws.specs.Sums.{each-at}
@@ -21,10 +20,10 @@ use Rattle.block.proofs.stored.store_lowered.Statement.{statement}
 use Rattle.block.proofs.stored.store_lowered.Tie as tie
 
 abbrev Inv-loop : tie.InvT-loop
-Inv-loop m gains places old line₀ i₀ line i = Lined (map (λ (x : ℤ). rescale x 15 places) (receivedAll m gains)) i old line
+Inv-loop m gains places line₀ i₀ line i = Lined (map (λ (x : ℤ). rescale x 15 places) (receivedAll m gains)) i (drop 128 line₀) line
 
 abbrev μ-loop : tie.MeasureT-loop
-μ-loop m gains places old line₀ i₀ line i = length m - i
+μ-loop m gains places line₀ i₀ line i = length m - i
 
 abbrev samples : tie.Start Inv-loop μ-loop → List ℤ
 samples s = receivedAll (s .args .m .now) (s .args .gains .now)
@@ -32,32 +31,29 @@ samples s = receivedAll (s .args .m .now) (s .args .gains .now)
 samples-long : (s : tie.Start Inv-loop μ-loop) → length (samples s) ≡ length (s .args .m .now)
 samples-long s = received-length (s .args .m .now) (s .args .gains .now) (s .pre .0 .same-length)
 
-start-requires : tie.Need-start-requires Inv-loop μ-loop
-start-requires c κs = c .before .pre .3
-
 loop-holds : tie.Need-loop-holds Inv-loop μ-loop
-loop-holds c = lined-none _ _ _ (search needs) (c .start .ensures)
+loop-holds c = lined-none _ _ (c .before .pre .3)
 
 received-at-requires : tie.Need-received-at-requires Inv-loop μ-loop
-received-at-requires c κs = (c .before .before .before .before .pre .0, c .loop-test .taken)
+received-at-requires c κs = (c .before .before .before .pre .0, c .loop-test .taken)
 
 sample : (c : tie.After-received-at Inv-loop μ-loop) →
-    toZ w32 (ofZ w32 (c .received-at .result)) ≡ getD (samples (c .before .before .before .before .before)) (c .before .before .loop .i) (pos 0)
+    toZ w32 (ofZ w32 (c .received-at .result)) ≡ getD (samples (c .before .before .before .before)) (c .before .before .loop .i) (pos 0)
 sample c = kept w32 (c .received-at .result) (c .received-at .ok) ∙ c .received-at .ensures
 
 lowered-requires : tie.Need-lowered-requires Inv-loop μ-loop
 lowered-requires c κs =
-    let s = c .before .before .before .before .before in
+    let s = c .before .before .before .before in
     (rw (sample c) (each-at (Storable 15 (s .args .places)) (samples s) (c .before .before .loop .i) (pos 0) (s .pre .2) (rw (samples-long s) (omega arith))), s .pre .4, s .pre .5)
 
-sub-line : tie.Need-sub-line Inv-loop μ-loop
-sub-line c = omega arith
+sub-t6 : tie.Need-sub-t6 Inv-loop μ-loop
+sub-t6 c = omega arith
 
-mul-line : tie.Need-mul-line Inv-loop μ-loop
-mul-line c = omega arith
+mul-t10 : tie.Need-mul-t10 Inv-loop μ-loop
+mul-t10 c = omega arith
 
-array-set-from-line : tie.Need-array-set-from-line Inv-loop μ-loop
-array-set-from-line c = omega arith
+slice-set-from-line : tie.Need-slice-set-from-line Inv-loop μ-loop
+slice-set-from-line c = omega (arith, c .before .before .before .loop .inv .long)
 
 add-i : tie.Need-add-i Inv-loop μ-loop
 add-i c = omega arith
@@ -67,11 +63,14 @@ loop-less c = omega arith
 
 loop-again : tie.Need-loop-again Inv-loop μ-loop
 loop-again c =
-    let s = c .before .before .before .before .before .before in
+    let s = c .before .before .before .before .before in
     let l = c .before .before .before .loop in
     lined-next (l .inv) (omega arith) _
     (kept w16 (c .lowered .result) (c .lowered .ok) ∙ c .lowered .ensures ∙ ap (λ (x : ℤ). rescale x 15 (s .args .places)) (sample (c .before))
     ∙ sym (map-at (λ (x : ℤ). rescale x 15 (s .args .places)) (samples s) (l .i) (pos 0) (pos 0) (rw (samples-long s) (omega arith))))
+
+same-length : tie.Need-same-length Inv-loop μ-loop
+same-length c = c .before .loop .inv .long ∙ sym (c .before .before .before .pre .3)
 
 returns : tie.Need-returns Inv-loop μ-loop
 returns c = lined-first (c .before .loop .inv) _ (omega arith)
@@ -82,14 +81,14 @@ store-lowered-spec =
     (tie.spec
     Inv-loop
     μ-loop
-    start-requires
     loop-holds
     received-at-requires
     lowered-requires
-    sub-line
-    mul-line
-    array-set-from-line
+    sub-t6
+    mul-t10
+    slice-set-from-line
     add-i
     loop-less
     loop-again
+    same-length
     returns)
