@@ -1,6 +1,7 @@
 // Lists held to bytes, and lists that nothing has touched.
 ghost use mathlib.Core.Path.{_≡_};
-ghost use lib.ListN.{length};
+ghost use mathlib.Core.Bool.{true};
+ghost use lib.ListN.{length, take, drop};
 use super::values::byte_at;
 use super::values::signed_byte_at;
 use super::values::signed_long_at;
@@ -32,7 +33,9 @@ pub fn filled_longs() -> [i32; 512]
 }
 
 // Whether the n bytes of a from i on are those of b from j on.
-pub fn same_bytes(a: &[u8], i: usize, b: &[u8], j: usize, n: usize) -> bool {
+pub fn same_bytes(a: &[u8], i: usize, b: &[u8], j: usize, n: usize) -> bool
+    ensures { λ r. ⌜ (r ≡ true → take n (drop i (now (a .entry))) ≡ take n (drop j (now (b .entry)))) ⌝ }
+{
     if a.len() < i {
         return false;
     }
