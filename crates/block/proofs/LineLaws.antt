@@ -10,8 +10,8 @@ use lib.ListN.{length, getD, take, drop, set, length-set, length-drop}
 use lib.Seq.{length-take-le, take-all, take-suc, take-suc-set, take-take, take-at, drop-at, drop-cons, drop-set-add, drop-set-lt, getD-set-same, getD-set-other}
 use lib.IntN.{ℤ, pos}
 use Rattle.steps.specs.Side.{push}
-use Rattle.filter.specs.Calls.{Aged}
-use Rattle.filter.proofs.AgeLaws.{aged-take}
+use Rattle.filter.specs.Calls.{LongestAt}
+use Rattle.filter.proofs.DelayLaws.{longest-at-take}
 use Rattle.block.specs.Line.{newest, Lined}
 
 -- ---- the old ones are put in their places
@@ -95,12 +95,12 @@ pub newest-given : (q n : ℕ) (line past : List ℤ) (v : ℤ) → newest (suc 
 newest-given q n line past v e l =
     sym (take-take q (suc q) (drop (128 - suc n) line) (omega arith)) ∙ ap (take q) e ∙ ap (λ (m : ℕ). take m (v ∷ past)) (sym l)
 
--- the age of a symbol, when v is given
-pub newest-aged : (r age q n : ℕ) (line past : List ℤ) (v : ℤ) → newest (suc q) (suc n) line ≡ v ∷ past → length line ≡ 144 → n < 128 →
-    Aged r age (getD line (127 - n) (pos 0) ∷ past) → Aged r age (newest q (suc n) line)
-newest-aged r age q n line past v e l h p =
-    subst (Aged r age) (take-take q (suc q) (drop (128 - suc n) line) (omega arith))
-    (aged-take r age q (newest (suc q) (suc n) line) (subst (Aged r age) (ap (λ (x : ℤ). x ∷ past) first ∙ sym e) p))
+-- the delay of a symbol, when v is given
+pub newest-longest-at : (r delay q n : ℕ) (line past : List ℤ) (v : ℤ) → newest (suc q) (suc n) line ≡ v ∷ past → length line ≡ 144 → n < 128 →
+    LongestAt r delay (getD line (127 - n) (pos 0) ∷ past) → LongestAt r delay (newest q (suc n) line)
+newest-longest-at r delay q n line past v e l h p =
+    subst (LongestAt r delay) (take-take q (suc q) (drop (128 - suc n) line) (omega arith))
+    (longest-at-take r delay q (newest (suc q) (suc n) line) (subst (LongestAt r delay) (ap (λ (x : ℤ). x ∷ past) first ∙ sym e) p))
   where
     first : getD line (127 - n) (pos 0) ≡ v
     first =

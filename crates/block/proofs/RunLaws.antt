@@ -16,14 +16,14 @@ use Rattle.steps.specs.Settings.{Settings, isEntry}
 use Rattle.filter.specs.Sample.{Taps, Y, ξ, decision, Z, θ, next}
 use Rattle.block.specs.Block.{Block, Memory, newb, newB, g, start, after, at, goes, values, entryAt, handedY, handedξ, handedDecision, handedZ, handedθ}
 use Rattle.filter.specs.Sound.{Fit}
-use Rattle.filter.specs.Calls.{Aged, Older, Taken-is}
+use Rattle.filter.specs.Calls.{LongestAt, NextDelay, SampleResult-is}
 use Rattle.block.specs.Line.{newest}
 use Rattle.block.specs.Calls.{tapsAt, Advanceable, Runnable, Finished, Ran-is}
-use Rattle.filter.specs.declared.sample.Taken.{Taken}
+use Rattle.filter.specs.declared.sample.SampleResult.{SampleResult}
 use Rattle.block.specs.declared.run.Begun.{Begun}
 use Rattle.block.specs.declared.run.Ran.{Ran}
 use Rattle.block.proofs.BlockSound.{fit-at, fit-after, goes-never}
-use Rattle.block.proofs.LineLaws.{newest-given, newest-aged}
+use Rattle.block.proofs.LineLaws.{newest-given, newest-longest-at}
 use Rattle.block.proofs.RunStart.{Begun-as, Line-is}
 
 -- ---- a work area of which the first n places are filled
@@ -45,14 +45,14 @@ filled-next f n l x h p e = record {
 
 -- ---- n samples are done
 
--- what the loop carries: the weights, the line of symbols, ψ, the age, and the work areas of what is handed out
+-- what the loop carries: the weights, the line of symbols, ψ, the delay, and the work areas of what is handed out
 pub record Work : Type 0 where
   pub n : ℕ
   pub forward : List ℤ
   pub back : List ℤ
   pub marks : List ℤ
   pub ψ : ℕ
-  pub age : ℕ
+  pub delay : ℕ
   pub y : List ℤ
   pub xi : List ℕ
   pub decisions : List ℤ
@@ -67,8 +67,8 @@ pub record Passed (k : Settings) (o : Memory) (i : Block) (l : Work) : Type 0 wh
   pub marks-long : length (l .marks) ≡ 144
   pub symbols-are : newest (k .q) (l .n) (l .marks) ≡ after k o i (l .n) .symbols
   pub ψ-is : l .ψ ≡ after k o i (l .n) .ψ
-  pub age-most : l .age ≤ 16 + l .n
-  pub aged : Aged (k .r) (l .age) (newest (k .q) (l .n) (l .marks))
+  pub delay-most : l .delay ≤ 16 + l .n
+  pub longest-at : LongestAt (k .r) (l .delay) (newest (k .q) (l .n) (l .marks))
   pub y-filled : Filled (λ m. Y k (g k o i) (at k o i m) (entryAt k o i m)) (l .n) (l .y)
   pub xi-filled : Filled (λ m. ξ k (g k o i) (at k o i m) (entryAt k o i m)) (l .n) (l .xi)
   pub decision-filled : Filled (λ m. decision k (g k o i) (at k o i m) (entryAt k o i m)) (l .n) (l .decisions)
@@ -83,7 +83,7 @@ pub passed-none : (k : Settings) (o : Memory) (i : Block) (marks : List ℤ) →
       back = o .back;
       marks = marks;
       ψ = o .ψ;
-      age = 16;
+      delay = 16;
       y = replicate 128 (pos 0);
       xi = replicate 128 0;
       decisions = replicate 128 (pos 0);
@@ -99,8 +99,8 @@ passed-none k o i marks h l m e = record {
   marks-long = h;
   symbols-are = ap (λ (m : ℕ). take m (drop 128 marks)) (sym l) ∙ e;
   ψ-is = refl;
-  age-most = omega arith;
-  aged = λ a. absurd (omega (arith, length-take (k .q) (drop 128 marks)));
+  delay-most = omega arith;
+  longest-at = λ a. absurd (omega (arith, length-take (k .q) (drop 128 marks)));
   y-filled = filled-none _ (pos 0);
   xi-filled = filled-none _ 0;
   decision-filled = filled-none _ (pos 0);
@@ -143,7 +143,7 @@ module _ {k : Settings} {o : Memory} {i : Block} {window₀ line : List ℤ} {l 
     room : l .n < 128
     room = omega (arith, run .sound .within .N-most)
 
-    pub advanceable : Advanceable k r (l .age) (l .n) e line (l .marks) taps
+    pub advanceable : Advanceable k r (l .delay) (l .n) e line (l .marks) taps
     advanceable = record {
       room = room;
       line-long = w .long;
@@ -154,12 +154,12 @@ module _ {k : Settings} {o : Memory} {i : Block} {window₀ line : List ℤ} {l 
         forward-scale = q .begun .s-as;
         back-scale = q .begun .sb-as;
       });
-      aged = p .aged;
+      longest-at = p .longest-at;
     }
 
-    module _ {t : Taken} {f′ b′ : List ℤ} (m′ : List ℤ) (h : Taken-is k (r .g) taps e t f′ b′ (newest (suc (k .q)) (suc (l .n)) m′)) where
+    module _ {t : SampleResult} {f′ b′ : List ℤ} (m′ : List ℤ) (h : SampleResult-is k (r .g) taps e t f′ b′ (newest (suc (k .q)) (suc (l .n)) m′)) where
       -- a step of the definitions
-      step : Taken-is k (g k o i) (at k o i (l .n)) (entryAt k o i (l .n)) t f′ b′ (newest (suc (k .q)) (suc (l .n)) m′)
+      step : SampleResult-is k (g k o i) (at k o i (l .n)) (entryAt k o i (l .n)) t f′ b′ (newest (suc (k .q)) (suc (l .n)) m′)
       step = rw (taps-at, q .begun .g-as, q .entry) at h
 
       ψ-next : t .psi ≡ after k o i (suc (l .n)) .ψ
@@ -168,14 +168,14 @@ module _ {k : Settings} {o : Memory} {i : Block} {window₀ line : List ℤ} {l 
 
       -- ψ kept its limit
       pub passed-next : length m′ ≡ 144 → {ty td tz : ℤ} → ty ≡ t .y → td ≡ t .decision → tz ≡ t .z → t .psi ≤ 15 →
-          {age : ℕ} {v : ℤ} → v ≡ getD m′ (127 - l .n) (pos 0) → Older (k .r) (l .age) v age →
+          {delay : ℕ} {v : ℤ} → v ≡ getD m′ (127 - l .n) (pos 0) → NextDelay (k .r) (l .delay) v delay →
           Passed k o i (record {
             n = l .n + 1;
             forward = f′;
             back = b′;
             marks = m′;
             ψ = t .psi;
-            age = age;
+            delay = delay;
             y = set (l .y) (l .n) ty;
             xi = set (l .xi) (l .n) (t .xi);
             decisions = set (l .decisions) (l .n) td;
@@ -183,7 +183,7 @@ module _ {k : Settings} {o : Memory} {i : Block} {window₀ line : List ℤ} {l 
             theta = set (l .theta) (l .n) (t .theta);
           })
       unfolding goes after at next
-      passed-next long ey ed ez m {age = age} ev older = rw (add-one (l .n)) (record {
+      passed-next long ey ed ez m {delay = delay} ev next-delay = rw (add-one (l .n)) (record {
         within = more;
         goes-on = rw (p .goes-on) (le-leb _ _ (subst (λ (x : ℕ). x ≤ 15) ψ-next m));
         forward-is = step .forward-is;
@@ -191,8 +191,8 @@ module _ {k : Settings} {o : Memory} {i : Block} {window₀ line : List ℤ} {l 
         marks-long = long;
         symbols-are = newest-given (k .q) (l .n) m′ _ _ (step .symbols-are) (fit-now .symbols-long);
         ψ-is = ψ-next;
-        age-most = omega (arith, older .0, p .age-most);
-        aged = newest-aged (k .r) age (k .q) (l .n) m′ _ _ (h .symbols-are) long room (subst (λ (x : ℤ). Aged (k .r) age (x ∷ taps .symbols)) ev (older .1 (taps .symbols) (p .aged)));
+        delay-most = omega (arith, next-delay .0, p .delay-most);
+        longest-at = newest-longest-at (k .r) delay (k .q) (l .n) m′ _ _ (h .symbols-are) long room (subst (λ (x : ℤ). LongestAt (k .r) delay (x ∷ taps .symbols)) ev (next-delay .1 (taps .symbols) (p .longest-at)));
         y-filled = filled-next _ _ _ _ room (p .y-filled) (ey ∙ step .y);
         xi-filled = filled-next _ _ _ _ room (p .xi-filled) (step .xi);
         decision-filled = filled-next _ _ _ _ room (p .decision-filled) (ed ∙ step .decision-is);

@@ -126,8 +126,8 @@ before-last n = omega arith
 pub within-line : (n : ℕ) → 127 - n < 144
 within-line n = omega arith
 
-pub age-fits : {age n : ℕ} → n < 128 → age ≤ 16 + n → age ≤ 256
-age-fits h m = omega arith
+pub delay-fits : {delay n : ℕ} → n < 128 → delay ≤ 16 + n → delay ≤ 256
+delay-fits h m = omega arith
 
 pub next-fits : (n : ℕ) → n < 128 → Fits w64 (n + 1)
 next-fits n h = record { fits = omega arith }

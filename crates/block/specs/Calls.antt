@@ -9,7 +9,7 @@ use Rattle.numbers.specs.BitLength.{bitLength}
 use Rattle.steps.specs.Settings.{Settings, Within, scaleForward, scaleBack}
 use Rattle.steps.specs.Side.{largest, magnitudes}
 use Rattle.filter.specs.Sample.{Taps}
-use Rattle.filter.specs.Calls.{Aged, Ready, tapsOf}
+use Rattle.filter.specs.Calls.{LongestAt, Ready, tapsOf}
 use Rattle.block.specs.Line.{newest}
 use Rattle.block.specs.Block.{Block, Memory, receivedAll, newb, newB, after, goes, handedY, handedξ, handedDecision, handedZ, handedθ}
 use Rattle.block.specs.Sound.{Sound, Acceptable, Receivable}
@@ -43,12 +43,12 @@ pub record Begun-is (k : Settings) (was : ℕ) (m : List ℤ) (gains : List ℕ)
 abbrev pub tapsAt : Settings → ℕ → List ℤ → List ℤ → List ℤ → List ℤ → ℕ → Taps
 tapsAt k n forward back line marks ψ = tapsOf forward back (newest (k .p) (suc n) line) (newest (k .q) n marks) ψ
 
-pub record Advanceable (k : Settings) (e : Begun) (age n : ℕ) (entry : ℤ) (line marks : List ℤ) (t : Taps) : Type 0 where
+pub record Advanceable (k : Settings) (e : Begun) (delay n : ℕ) (entry : ℤ) (line marks : List ℤ) (t : Taps) : Type 0 where
   pub room : n < 128
   pub line-long : length line ≡ 144
   pub marks-long : length marks ≡ 144
   pub ready : Ready k (e .s) (e .sb) (e .g) t entry
-  pub aged : Aged (k .r) age (t .symbols)
+  pub longest-at : LongestAt (k .r) delay (t .symbols)
 
 pub record Runnable (k : Settings) (o : Memory) (i : Block) (window : List ℤ) : Type 0 where
   pub sound : Sound k o

@@ -1,11 +1,11 @@
 // One block.
 ghost use mathlib.Core.Path.{_≡_};
 ghost use Prim.Native.Nat.{suc, max};
-ghost use Rattle.filter.specs.Calls.{settingsOf, Taken-is};
+ghost use Rattle.filter.specs.Calls.{settingsOf, SampleResult-is};
 ghost use Rattle.block.specs.Line.{newest};
 ghost use Rattle.block.specs.Calls.{blockOf, memoryOf, Begun-is, Startable, tapsAt, Advanceable, Runnable, Ran-is};
+use filter::sample::SampleResult;
 use filter::sample::Settings;
-use filter::sample::Taken;
 
 // The scale counts of a block, its b and B, and γ + 30.
 pub struct Begun {
@@ -36,7 +36,7 @@ pub fn begin(k: Settings, was: u32, m: &[i16], gains: &[u8]) -> Begun
 {
     let s = numbers::scale_count::scale_count(k.p as usize);
     let sb = numbers::scale_count::scale_count(k.q as usize);
-    let b = numbers::bit_length::bit_length(super::stored::loudest(m, gains) as u64);
+    let b = numbers::bit_length::bit_length(super::stored::received_bits(m, gains) as u64);
     let big = larger(b, was);
     Begun {
         s: s,
@@ -64,16 +64,16 @@ fn advance(
     k: Settings,
     e: Begun,
     psi: u32,
-    age: usize,
+    delay: usize,
     n: usize,
     entry: i8,
     forward: &mut [i16],
     back: &mut [i16],
     line: &[i16],
     marks: &mut [i16],
-) -> Taken
-    requires { ⌜ Advanceable (settingsOf k) e age n entry (now line) (now marks) (tapsAt (settingsOf k) n (now forward) (now back) (now line) (now marks) psi) ⌝ }
-    ensures { λ r. ⌜ Taken-is (settingsOf k) (e .g) (tapsAt (settingsOf k) n (now (forward .entry)) (now (back .entry)) (now (line .entry)) (now (marks .entry)) psi) entry r (now (forward .exit)) (now (back .exit)) (newest (suc (k .q)) (suc n) (now (marks .exit))) ⌝ }
+) -> SampleResult
+    requires { ⌜ Advanceable (settingsOf k) e delay n entry (now line) (now marks) (tapsAt (settingsOf k) n (now forward) (now back) (now line) (now marks) psi) ⌝ }
+    ensures { λ r. ⌜ SampleResult-is (settingsOf k) (e .g) (tapsAt (settingsOf k) n (now (forward .entry)) (now (back .entry)) (now (line .entry)) (now (marks .entry)) psi) entry r (now (forward .exit)) (now (back .exit)) (newest (suc (k .q)) (suc n) (now (marks .exit))) ⌝ }
 {
     let first = 127 - n;
     let oldest = first + (k.p as usize);
@@ -84,7 +84,7 @@ fn advance(
         e.sb,
         e.g,
         psi,
-        age,
+        delay,
         wide(entry),
         forward,
         back,
@@ -124,14 +124,14 @@ pub fn run(
     let mut theta = [0u8; 128];
     let mut at = psi;
     // No symbol is known to have the largest bit length.
-    let mut age: usize = 16;
+    let mut delay: usize = 16;
     let mut n: usize = 0;
     while n < m.len() {
         let t = advance(
             k,
             e,
             at,
-            age,
+            delay,
             n,
             entries[n],
             forward,
@@ -161,7 +161,7 @@ pub fn run(
         decision[n] = td;
         z[n] = tz;
         theta[n] = t.theta;
-        age = filter::sample::older(k.r, age, marks[127 - n]);
+        delay = filter::sample::next_delay(k.r, delay, marks[127 - n]);
         n += 1;
     }
     super::line::newest(&line, n, samples);

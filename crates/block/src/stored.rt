@@ -36,7 +36,7 @@ fn received_at(m: &[i16], gains: &[u8], i: usize) -> i32
 }
 
 // The bits of every |X| of a block together: as many as the largest has.
-pub fn loudest(m: &[i16], gains: &[u8]) -> u32
+pub fn received_bits(m: &[i16], gains: &[u8]) -> u32
     requires { ⌜ Receivable (now m) (now gains) ⌝ }
     ensures { λ r. ⌜ bitLength r ≡ blockLength (now (m .entry)) (now (gains .entry)) ⌝ }
 {

@@ -12,7 +12,7 @@ use Rattle.numbers.specs.Cut.{raise}
 use Rattle.numbers.proofs.CutLaws.{raise-raise}
 use Rattle.numbers.proofs.BitLengthLaws.{bit-length-le}
 use Rattle.steps.specs.Settings.{Settings, isEntry, scaleBack}
-use Rattle.steps.specs.Side.{Side, learnt}
+use Rattle.steps.specs.Side.{Side, newWeights}
 use Rattle.filter.specs.Sample.{Taps, ν, held, F, H, Y, ξ, v, κ, Z, θ, J, forwardSide, backSide, newForward, newBack, small, next, settled, settledExponent}
 use Rattle.filter.specs.Sound.{Fit}
 use Rattle.filter.specs.Exact.{exactOutput, exactWeight, Near, Bounded, Faithful}
@@ -56,11 +56,11 @@ module _ (k : Settings) (g : ℕ) (t : Taps) (entry : ℤ) (h : Fit k g t) (e : 
 
   -- the new weights of a side, halved or not
   side-near : {n : ℕ} (f : Side) → SideFit (k .r) n f → (i : ℕ) → i < length (f .weights) →
-      Near (settledExponent (small k g t entry) (t .ψ)) (getD (settled (small k g t entry) (learnt (J k g t entry f) f)) i (pos 0))
+      Near (settledExponent (small k g t entry) (t .ψ)) (getD (settled (small k g t entry) (newWeights (J k g t entry f) f)) i (pos 0))
       (exactWeight (k .M) (t .ψ) (exactOutput g t) (v k g t entry) (getD (f .mantissas) i (pos 0)) (f .exponent) (getD (f .weights) i (pos 0)))
   unfolding J
   side-near f fit i l =
-      settled-near (small k g t entry) (learnt (J k g t entry f) f) i (t .ψ)
+      settled-near (small k g t entry) (newWeights (J k g t entry f) f) i (t .ψ)
       (exactWeight (k .M) (t .ψ) (exactOutput g t) (v k g t entry) (getD (f .mantissas) i (pos 0)) (f .exponent) (getD (f .weights) i (pos 0)))
       (side-distance f fit (k .M) (t .ψ) (θ k g t entry) (Z k g t entry) (v k g t entry) (exactOutput g t) (h .within .r-most) (b .θ-most) error-near
       (step-small k (h .within) (h .admitted) f fit (t .ψ) g (ν k g t entry) (κ k g t entry) (ξ k g t entry) (θ k g t entry) (θ-form k g t entry) (ξ-form k g t entry)

@@ -11,7 +11,7 @@ use Rattle.laws.specs.Sums.{each-at}
 use Rattle.numbers.specs.Cut.{raise}
 use Rattle.numbers.proofs.ScaleCountLaws.{scale-below}
 use Rattle.steps.specs.Settings.{Settings, Within, Admitted, scaleForward, scaleBack}
-use Rattle.steps.specs.Side.{Side, learnt, factor, factorPlaces}
+use Rattle.steps.specs.Side.{Side, newWeights, factor, factorPlaces}
 use Rattle.filter.specs.Exact.{exactWeight}
 use Rattle.steps.proofs.Admission.{admission}
 use Rattle.steps.proofs.SideLaws.{adapt-at}
@@ -21,7 +21,7 @@ use Rattle.filter.proofs.DistanceWeight.{Close, weight-distance}
 -- each new weight, where Z is less than one of its units off v − y and M·2^(x+θ) ≤ 2^(62+ψ+s)
 pub side-distance : {r n : ℕ} (f : Side) → SideFit r n f → (M ψ θ : ℕ) (Z v y : ℤ) → r ≤ 3 → θ ≤ 24 →
     natAbs (raise Z (θ + 30) -ℤ (raise v 60 -ℤ y)) < 2 ^ (θ + 30) → M * (2 ^ f .exponent * 2 ^ θ) ≤ 2 ^ 62 * (2 ^ ψ * 2 ^ f .scale) → (i : ℕ) → i < length (f .weights) →
-    Close ψ (getD (learnt (factor M Z ψ θ f) f) i (pos 0)) (exactWeight M ψ y v (getD (f .mantissas) i (pos 0)) (f .exponent) (getD (f .weights) i (pos 0)))
+    Close ψ (getD (newWeights (factor M Z ψ θ f) f) i (pos 0)) (exactWeight M ψ y v (getD (f .mantissas) i (pos 0)) (f .exponent) (getD (f .weights) i (pos 0)))
 side-distance f h M ψ θ Z v y l m off e i j =
     rw (adapt-at (raise (factor M Z ψ θ f) (f .scale)) (f .weights) (f .mantissas) i j (omega (arith, h .weights-long, h .mantissas-long)))
     (weight-distance (getD (f .weights) i (pos 0)) (getD (f .mantissas) i (pos 0)) Z (raise v 60 -ℤ y) M ψ θ (f .scale) (f .exponent) (factorPlaces ψ θ f)

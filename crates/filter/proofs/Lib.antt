@@ -1,6 +1,6 @@
 pub mod SampleForms
 pub mod SideBounds
-pub mod ErrorBounds
+pub mod ErrorSize
 pub mod StepAdmission
 pub mod SampleSides
 pub mod SampleBounds
@@ -9,6 +9,6 @@ pub mod DistanceWeight
 pub mod DistanceSide
 pub mod Distance
 pub mod SampleLaws
-pub mod AgeLaws
+pub mod DelayLaws
 pub mod StepLaws
 pub mod SampleSteps

@@ -14,8 +14,8 @@ use Rattle.filter.specs.Sample.{Taps, ν, F, H, Y, ξ, v, κ, Z, θ, J, 
 use Rattle.filter.specs.Sound.{Fit}
 use Rattle.steps.specs.Sound.{Small, Summable, Adaptable}
 use Rattle.filter.specs.Exact.{Bounded}
-use Rattle.filter.proofs.SideBounds.{SideFit, sum-small, sum-raised, summable, adaptable, learnt-small, places-least, places-most, all-small, settled-small}
-use Rattle.filter.proofs.ErrorBounds.{output-small, output-scaled, error-small, error-scaled}
+use Rattle.filter.proofs.SideBounds.{SideFit, sum-small, sum-raised, summable, adaptable, newWeights-small, places-least, places-most, all-small, settled-small}
+use Rattle.filter.proofs.ErrorSize.{output-small, output-scaled, error-small, error-scaled}
 use Rattle.filter.proofs.StepAdmission.{error-weighed, factor-small}
 use Rattle.filter.proofs.SampleSides as Sides
 
@@ -117,11 +117,11 @@ module _ (k : Settings) (g : ℕ) (t : Taps) (entry : ℤ) (h : Fit k g t) where
 
     new-forward-small : Each (λ (w : ℤ). natAbs w < 2 ^ 15) (newForward k g t entry)
     unfolding newForward
-    new-forward-small = learnt-small (forwardSide k g t entry) (Sides.forward-fit k g t entry h) (J k g t entry (forwardSide k g t entry)) J-forward
+    new-forward-small = newWeights-small (forwardSide k g t entry) (Sides.forward-fit k g t entry h) (J k g t entry (forwardSide k g t entry)) J-forward
 
     new-back-small : Each (λ (w : ℤ). natAbs w < 2 ^ 15) (newBack k g t entry)
     unfolding newBack
-    new-back-small = learnt-small (backSide k g t entry) (Sides.back-fit k g t entry h) (J k g t entry (backSide k g t entry)) J-back
+    new-back-small = newWeights-small (backSide k g t entry) (Sides.back-fit k g t entry h) (J k g t entry (backSide k g t entry)) J-back
 
     next-forward-small : Each Small (next k g t entry .forward)
     unfolding next small

@@ -10,12 +10,12 @@ use lib.ListN.{length, take, drop, set, length-drop}
 use lib.Seq.{take-all, drop-set-lt}
 use Rattle.steps.specs.Settings.{Settings}
 use Rattle.steps.specs.Decision.{decide}
-use Rattle.steps.specs.Sound.{Missable}
+use Rattle.steps.specs.Sound.{ErrorBounds}
 use Rattle.steps.proofs.SymbolLaws.{symbol-below, decide-symbol, chosen-symbol}
 use Rattle.steps.specs.Side.{allSmall, halved}
 use Rattle.filter.specs.Sample.{Taps}
-use Rattle.filter.specs.Calls.{Decidable, Settled-is, Taken-is, chosen, tapsOf}
-use Rattle.filter.specs.declared.sample.Taken.{Taken}
+use Rattle.filter.specs.Calls.{DecisionBounds, Settled-is, SampleResult-is, chosen, tapsOf}
+use Rattle.filter.specs.declared.sample.SampleResult.{SampleResult}
 
 -- ---- step 7
 
@@ -27,8 +27,8 @@ settled-halved ψ f b f′ b′ e g h = record { exponent = simp e (add-one ψ);
 
 -- ---- steps 4 and 5
 
-pub missable : {r s ξ : ℕ} {y entry : ℤ} → Decidable r s y ξ entry → Missable r s (chosen entry (decide r y ξ)) y ξ
-missable {r} {s} {ξ} {y} {entry} d = record {
+pub error-bounds : {r s ξ : ℕ} {y entry : ℤ} → DecisionBounds r s y ξ entry → ErrorBounds r s (chosen entry (decide r y ξ)) y ξ
+error-bounds {r} {s} {ξ} {y} {entry} d = record {
   r-most = d .r-most;
   scale-least = d .scale-least;
   scale-most = d .scale-most;
@@ -56,10 +56,10 @@ pub past-kept : (l : List ℤ) (v : ℤ) → take (length (set l 0 v) - 1) (drop
 past-kept l v = past (set l 0 v) ∙ drop-set-lt 1 l 0 v (omega arith)
 
 -- a step on equal windows, symbols and entries
-pub taken-of : {k : Settings} {g ψ : ℕ} {f b w w₀ y y₀ : List ℤ} {x x₀ : ℤ} {r : Taken} {f′ b′ y′ : List ℤ} → w ≡ w₀ → y ≡ y₀ → x ≡ x₀ →
-    Taken-is k g (tapsOf f b w y ψ) x r f′ b′ y′ → Taken-is k g (tapsOf f b w₀ y₀ ψ) x₀ r f′ b′ y′
+pub taken-of : {k : Settings} {g ψ : ℕ} {f b w w₀ y y₀ : List ℤ} {x x₀ : ℤ} {r : SampleResult} {f′ b′ y′ : List ℤ} → w ≡ w₀ → y ≡ y₀ → x ≡ x₀ →
+    SampleResult-is k g (tapsOf f b w y ψ) x r f′ b′ y′ → SampleResult-is k g (tapsOf f b w₀ y₀ ψ) x₀ r f′ b′ y′
 taken-of e d h t = rw (e, d, h) at t
 
 -- with equal symbols after it
-pub taken-put : {k : Settings} {g : ℕ} {t : Taps} {x : ℤ} {r : Taken} {f′ b′ y y′ : List ℤ} → y ≡ y′ → Taken-is k g t x r f′ b′ y → Taken-is k g t x r f′ b′ y′
-taken-put {k = k} {g = g} {t = t} {x = x} {r = r} {f′ = f′} {b′ = b′} e h = subst (λ (l : List ℤ). Taken-is k g t x r f′ b′ l) e h
+pub taken-put : {k : Settings} {g : ℕ} {t : Taps} {x : ℤ} {r : SampleResult} {f′ b′ y y′ : List ℤ} → y ≡ y′ → SampleResult-is k g t x r f′ b′ y → SampleResult-is k g t x r f′ b′ y′
+taken-put {k = k} {g = g} {t = t} {x = x} {r = r} {f′ = f′} {b′ = b′} e h = subst (λ (l : List ℤ). SampleResult-is k g t x r f′ b′ l) e h

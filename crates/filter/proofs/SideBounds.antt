@@ -14,7 +14,7 @@ use Rattle.laws.specs.Powers.{split, split3, rises, cancel-le, lower}
 use Rattle.laws.specs.Sums.{Each, each-map, each-of, each-weaken, dot-bound}
 use Rattle.numbers.specs.Cut.{cut, raise}
 use Rattle.numbers.proofs.CutLaws.{cut-lt, raise-abs}
-use Rattle.steps.specs.Side.{Side, sum, adapt, adapted, learnt, isSmall, allSmall, halved, largest, magnitudes}
+use Rattle.steps.specs.Side.{Side, sum, adapt, adapted, newWeights, isSmall, allSmall, halved, largest, magnitudes}
 use Rattle.filter.specs.Sample.{settled}
 use Rattle.steps.specs.Sound.{Small, Summable, Adaptable}
 use Rattle.steps.proofs.LargestLaws.{largest-magnitude, each-magnitude}
@@ -110,8 +110,8 @@ module _ {r n : ℕ} (f : Side) (h : SideFit r n f) where
       go m b = omega (arith, mul-le-mul-right m j, split (29 + (15 - f .scale)) 29 (15 - f .scale) refl, lower m 15 (15 - f .scale) (f .scale) (omega arith) b)
 
   -- each gain is below 2^14, so each new weight is below 2^15
-  pub learnt-small : (J : ℤ) → natAbs J ≤ 2 ^ 29 → Each (λ (x : ℤ). natAbs x < 2 ^ 15) (learnt J f)
-  learnt-small J j =
+  pub newWeights-small : (J : ℤ) → natAbs J ≤ 2 ^ 29 → Each (λ (x : ℤ). natAbs x < 2 ^ 15) (newWeights J f)
+  newWeights-small J j =
       adapt-each (raise J (f .scale)) (largest (magnitudes (f .mantissas))) (go (largest (magnitudes (f .mantissas))) mantissas-largest)
       (f .weights) (f .mantissas) (h .weights-small) (each-magnitude (f .mantissas))
     where

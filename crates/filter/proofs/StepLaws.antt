@@ -13,10 +13,10 @@ use Rattle.steps.specs.Side.{Side}
 use Rattle.filter.specs.Sample.{Taps, ν, F, H, Y, ξ, decision, v, κ, Z, θ, J, forwardSide, backSide, newForward, newBack, small, next}
 use Rattle.steps.specs.Side.{longest}
 use Rattle.steps.specs.Sound.{Adaptable}
-use Rattle.filter.specs.Calls.{Aged, Reachable, Audible, Heard-is, Decidable, Judged-is, Teachable, Changeable, Changed-is, Ready, Taken-is, takenOf, taughtForward, taughtBack}
-use Rattle.filter.specs.declared.sample.Heard.{Heard}
-use Rattle.filter.specs.declared.sample.Judged.{Judged}
-use Rattle.filter.specs.declared.sample.Taken.{Taken}
+use Rattle.filter.specs.Calls.{LongestAt, SymbolBounds, FilterBounds, Output-is, DecisionBounds, Decision-is, UpdateBounds, ChangeBounds, Changed-is, Ready, SampleResult-is, resultOf, updatedForward, updatedBack}
+use Rattle.filter.specs.declared.sample.Output.{Output}
+use Rattle.filter.specs.declared.sample.Decision.{Decision}
+use Rattle.filter.specs.declared.sample.SampleResult.{SampleResult}
 use Rattle.steps.proofs.SymbolLaws.{symbol-below, decide-symbol}
 use Rattle.steps.proofs.DecisionLaws.{symbol-most}
 use Rattle.filter.proofs.SideBounds.{SideFit}
@@ -34,16 +34,16 @@ module _ (k : Settings) (s sb g : ℕ) (t : Taps) (entry : ℤ) (r : Ready k s s
   held : raise (dot (t .back) (t .symbols)) (15 - (sb + longest (t .symbols))) ≡ H k g t entry
   held = ap (λ (n : ℕ). raise (dot (t .back) (t .symbols)) (15 - n)) ν-of ∙ sym (S.H-raised k g t entry (r .fit))
 
-  pub reachable : {age : ℕ} → Aged (k .r) age (t .symbols) → Reachable (k .r) age (t .symbols)
-  reachable h = record { r-most = r .fit .within .r-most; symbols-are = r .fit .symbols-are; aged = h }
+  pub symbol-bounds : {delay : ℕ} → LongestAt (k .r) delay (t .symbols) → SymbolBounds (k .r) delay (t .symbols)
+  symbol-bounds h = record { r-most = r .fit .within .r-most; symbols-are = r .fit .symbols-are; longest-at = h }
 
-  pub audible : Audible sb g (t .ψ) (t .forward) (t .back) (t .samples) (t .symbols)
+  pub filter-bounds : FilterBounds sb g (t .ψ) (t .forward) (t .back) (t .samples) (t .symbols)
   unfolding F
-  audible = record {
+  filter-bounds = record {
     forward-sum = B.forward-summable k g t entry (r .fit);
     back-sum = B.back-summable k g t entry (r .fit);
     ν-most = rw ν-of (S.ν-most k g t entry (r .fit));
-    joinable = rw ν-of (record {
+    output-bounds = rw ν-of (record {
       f-small = B.F-small k g t entry (r .fit);
       h-small = rw (← raise-abs, ← S.H-raised k g t entry (r .fit)) (B.H-small k g t entry (r .fit));
       ψ-most = r .fit .ψ-most;
@@ -52,14 +52,14 @@ module _ (k : Settings) (s sb g : ℕ) (t : Taps) (entry : ℤ) (r : Ready k s s
     });
   }
 
-  pub record Heard-as (h : Heard) : Type 0 where
+  pub record Output-as (h : Output) : Type 0 where
     pub nu-as : h .nu ≡ ν k g t entry
     pub y-as : h .y ≡ Y k g t entry
     pub xi-as : h .xi ≡ ξ k g t entry
 
-  pub heard-as : (h : Heard) → Heard-is sb g (t .ψ) (t .forward) (t .back) (t .samples) (t .symbols) h → Heard-as h
+  pub output-as : (h : Output) → Output-is sb g (t .ψ) (t .forward) (t .back) (t .samples) (t .symbols) h → Output-as h
   unfolding Y ξ F
-  heard-as h p = record {
+  output-as h p = record {
     nu-as = p .nu ∙ ν-of;
     y-as = p .y ∙ rw (held, ν-of);
     xi-as = p .xi ∙ rw ν-of;
@@ -67,8 +67,8 @@ module _ (k : Settings) (s sb g : ℕ) (t : Taps) (entry : ℤ) (r : Ready k s s
 
   -- ---- steps 4 and 5
 
-  pub decidable : (h : Heard) → Heard-as h → Decidable (k .r) sb (h .y) (h .xi) entry
-  decidable h p = record {
+  pub decision-bounds : (h : Output) → Output-as h → DecisionBounds (k .r) sb (h .y) (h .xi) entry
+  decision-bounds h p = record {
     r-most = r .fit .within .r-most;
     scale-least = rw (r .back-scale) (S.scaleBack-least k g t entry (r .fit));
     scale-most = rw (r .back-scale) (S.scaleBack-most k g t entry (r .fit));
@@ -78,15 +78,15 @@ module _ (k : Settings) (s sb g : ℕ) (t : Taps) (entry : ℤ) (r : Ready k s s
     entry-is = r .entry-is;
   }
 
-  pub record Judged-as (j : Judged) : Type 0 where
+  pub record Decision-as (j : Decision) : Type 0 where
     pub decision-as : j .decision ≡ decision k g t entry
     pub v-as : j .v ≡ v k g t entry
     pub z-as : j .z ≡ Z k g t entry
     pub theta-as : j .theta ≡ θ k g t entry
 
-  pub judged-as : (h : Heard) (j : Judged) → Heard-as h → Judged-is (k .r) sb (h .y) (h .xi) entry j → Judged-as j
+  pub decision-as : (h : Output) (j : Decision) → Output-as h → Decision-is (k .r) sb (h .y) (h .xi) entry j → Decision-as j
   unfolding decision v κ Z θ
-  judged-as h j p q = record {
+  decision-as h j p q = record {
     decision-as = q .decision ∙ rw (p .y-as, p .xi-as);
     v-as = q .v ∙ rw (p .y-as, p .xi-as);
     z-as = q .z ∙ rw (p .y-as, p .xi-as, r .back-scale);
@@ -95,10 +95,10 @@ module _ (k : Settings) (s sb g : ℕ) (t : Taps) (entry : ℤ) (r : Ready k s s
 
   -- ---- steps 6 to 8
 
-  teachable : {n : ℕ} (f : Side) → SideFit (k .r) n f → (more : ℕ) → f .scale + more ≤ 15 → (w a : List ℤ) → Adaptable (J k g t entry f) (15 - (f .scale + more)) w a →
-      Teachable (k .M) (Z k g t entry) (t .ψ) (θ k g t entry) (f .scale) (f .exponent) more w a
+  update-bounds : {n : ℕ} (f : Side) → SideFit (k .r) n f → (more : ℕ) → f .scale + more ≤ 15 → (w a : List ℤ) → Adaptable (J k g t entry f) (15 - (f .scale + more)) w a →
+      UpdateBounds (k .M) (Z k g t entry) (t .ψ) (θ k g t entry) (f .scale) (f .exponent) more w a
   unfolding J
-  teachable f fit more l w a h = record {
+  update-bounds f fit more l w a h = record {
     z-small = B.Z-small k g t entry (r .fit) (r .entry-is);
     ψ-most = r .fit .ψ-most;
     room = l;
@@ -107,24 +107,24 @@ module _ (k : Settings) (s sb g : ℕ) (t : Taps) (entry : ℤ) (r : Ready k s s
     adaptable = h;
   }
 
-  ahead : Teachable (k .M) (Z k g t entry) (t .ψ) (θ k g t entry) (scaleForward k) g 0 (t .forward) (t .samples)
+  ahead : UpdateBounds (k .M) (Z k g t entry) (t .ψ) (θ k g t entry) (scaleForward k) g 0 (t .forward) (t .samples)
   ahead =
-      teachable (forwardSide k g t entry) (S.forward-fit k g t entry (r .fit)) 0 (omega (arith, S.scaleForward-most k g t entry (r .fit))) (t .forward) (t .samples)
+      update-bounds (forwardSide k g t entry) (S.forward-fit k g t entry (r .fit)) 0 (omega (arith, S.scaleForward-most k g t entry (r .fit))) (t .forward) (t .samples)
       (rw add-zero (B.forward-adaptable k g t entry (r .fit) (r .entry-is)))
 
-  behind : Teachable (k .M) (Z k g t entry) (t .ψ) (θ k g t entry) (scaleBack k) (ν k g t entry + 30) (15 - ν k g t entry) (t .back) (t .symbols)
+  behind : UpdateBounds (k .M) (Z k g t entry) (t .ψ) (θ k g t entry) (scaleBack k) (ν k g t entry + 30) (15 - ν k g t entry) (t .back) (t .symbols)
   behind =
-      teachable (backSide k g t entry) (S.back-fit k g t entry (r .fit)) (15 - ν k g t entry) (S.symbol-scale-most k g t entry (r .fit)) (t .back) (t .symbols)
+      update-bounds (backSide k g t entry) (S.back-fit k g t entry (r .fit)) (15 - ν k g t entry) (S.symbol-scale-most k g t entry (r .fit)) (t .back) (t .symbols)
       (B.back-adaptable k g t entry (r .fit) (r .entry-is))
 
-  pub changeable : (h : Heard) (j : Judged) → Heard-as h → Judged-as j → Changeable (k .M) s sb g (t .ψ) h j (t .forward) (t .back) (t .samples) (t .symbols)
-  changeable h j p q = record {
+  pub change-bounds : (h : Output) (j : Decision) → Output-as h → Decision-as j → ChangeBounds (k .M) s sb g (t .ψ) h j (t .forward) (t .back) (t .samples) (t .symbols)
+  change-bounds h j p q = record {
     ν-most = rw (p .nu-as) (S.ν-most k g t entry (r .fit));
     ahead = rw (q .z-as, q .theta-as, r .forward-scale) ahead;
     behind = rw (q .z-as, q .theta-as, p .nu-as, r .back-scale) behind;
   }
 
-  pub handable : (h : Heard) (j : Judged) → Heard-as h → Judged-as j → (h .xi ≤ 24) × (j .theta ≤ 24) × (natAbs (j .decision) < 2 ^ 4)
+  pub handable : (h : Output) (j : Decision) → Output-as h → Decision-as j → (h .xi ≤ 24) × (j .theta ≤ 24) × (natAbs (j .decision) < 2 ^ 4)
   unfolding decision
   handable h j p q = (
     rw (p .xi-as) (omega (arith, S.ξ-most k g t entry (r .fit), r .fit .ψ-most)),
@@ -136,28 +136,28 @@ module _ (k : Settings) (s sb g : ℕ) (t : Taps) (entry : ℤ) (r : Ready k s s
     )),
   )
 
-  forward-taught : (j : Judged) → Judged-as j → taughtForward (k .M) s g (t .ψ) j (t .forward) (t .samples) ≡ newForward k g t entry
+  forward-updated : (j : Decision) → Decision-as j → updatedForward (k .M) s g (t .ψ) j (t .forward) (t .samples) ≡ newForward k g t entry
   unfolding newForward J
-  forward-taught j q = rw (q .z-as, q .theta-as, r .forward-scale, add-zero)
+  forward-updated j q = rw (q .z-as, q .theta-as, r .forward-scale, add-zero)
 
-  back-taught : (h : Heard) (j : Judged) → Heard-as h → Judged-as j → taughtBack (k .M) sb (h .nu) (t .ψ) j (t .back) (t .symbols) ≡ newBack k g t entry
+  back-updated : (h : Output) (j : Decision) → Output-as h → Decision-as j → updatedBack (k .M) sb (h .nu) (t .ψ) j (t .back) (t .symbols) ≡ newBack k g t entry
   unfolding J
-  back-taught h j p q = rw (q .z-as, q .theta-as, p .nu-as, r .back-scale) (sym (S.newBack-raised k g t entry (r .fit)))
+  back-updated h j p q = rw (q .z-as, q .theta-as, p .nu-as, r .back-scale) (sym (S.newBack-raised k g t entry (r .fit)))
 
-  pub taken-as : (h : Heard) (j : Judged) → Heard-as h → Judged-as j → (ψ′ : ℕ) (f′ b′ y y′ : List ℤ) →
-      Changed-is (k .M) s sb g (t .ψ) h j (t .forward) (t .back) (t .samples) y ψ′ f′ b′ → y ≡ t .symbols → y′ ≡ j .v ∷ t .symbols → (x : Taken) → x ≡ takenOf h j ψ′ →
-      Taken-is k g t entry x f′ b′ y′
+  pub result-as : (h : Output) (j : Decision) → Output-as h → Decision-as j → (ψ′ : ℕ) (f′ b′ y y′ : List ℤ) →
+      Changed-is (k .M) s sb g (t .ψ) h j (t .forward) (t .back) (t .samples) y ψ′ f′ b′ → y ≡ t .symbols → y′ ≡ j .v ∷ t .symbols → (x : SampleResult) → x ≡ resultOf h j ψ′ →
+      SampleResult-is k g t entry x f′ b′ y′
   unfolding next small
-  taken-as h j p q ψ′ f′ b′ y y′ c l d x e =
-      let behind = ap (taughtBack (k .M) sb (h .nu) (t .ψ) j (t .back)) l ∙ back-taught h j p q in
-      let w = settled-of (forward-taught j q) behind c in
+  result-as h j p q ψ′ f′ b′ y y′ c l d x e =
+      let behind = ap (updatedBack (k .M) sb (h .nu) (t .ψ) j (t .back)) l ∙ back-updated h j p q in
+      let w = settled-of (forward-updated j q) behind c in
       record {
-        y = ap (λ (z : Taken). z .y) e ∙ p .y-as;
-        xi = ap (λ (z : Taken). z .xi) e ∙ p .xi-as;
-        decision-is = ap (λ (z : Taken). z .decision) e ∙ q .decision-as;
-        z = ap (λ (z : Taken). z .z) e ∙ q .z-as;
-        theta = ap (λ (z : Taken). z .theta) e ∙ q .theta-as;
-        psi = ap (λ (z : Taken). z .psi) e ∙ w .exponent;
+        y = ap (λ (z : SampleResult). z .y) e ∙ p .y-as;
+        xi = ap (λ (z : SampleResult). z .xi) e ∙ p .xi-as;
+        decision-is = ap (λ (z : SampleResult). z .decision) e ∙ q .decision-as;
+        z = ap (λ (z : SampleResult). z .z) e ∙ q .z-as;
+        theta = ap (λ (z : SampleResult). z .theta) e ∙ q .theta-as;
+        psi = ap (λ (z : SampleResult). z .psi) e ∙ w .exponent;
         forward-is = w .ahead;
         back-is = w .behind;
         symbols-are = d ∙ ap (λ (z : ℤ). z ∷ t .symbols) (q .v-as);

@@ -17,11 +17,11 @@ use Rattle.steps.specs.Error.{error, errorExponent}
 use Rattle.filter.specs.Sample.{Taps, settled, settledExponent, Y, ξ, decision, v, Z, θ, next}
 use Rattle.steps.specs.Side.{longest}
 use Rattle.filter.specs.Sound.{Fit}
-use Rattle.steps.specs.Sound.{Summable, Adaptable, Joinable}
+use Rattle.steps.specs.Sound.{Summable, Adaptable, OutputBounds}
 use Rattle.filter.specs.declared.sample.Settings as Declared
-use Rattle.filter.specs.declared.sample.Heard.{Heard}
-use Rattle.filter.specs.declared.sample.Judged.{Judged}
-use Rattle.filter.specs.declared.sample.Taken.{Taken}
+use Rattle.filter.specs.declared.sample.Output.{Output}
+use Rattle.filter.specs.declared.sample.Decision.{Decision}
+use Rattle.filter.specs.declared.sample.SampleResult.{SampleResult}
 
 abbrev pub settingsOf : Declared.Settings → Settings
 settingsOf k = record { p = k .p; q = k .q; N = k .n; r = k .r; L = k .l; M = k .m }
@@ -31,33 +31,33 @@ tapsOf forward back samples symbols ψ = record { forward = forward; back = back
 
 -- ---- steps 1 to 3
 
--- where the age is a place, the symbol there has a bit length above r
-abbrev pub Aged : ℕ → ℕ → List ℤ → Type 0
-Aged r age symbols = age < length symbols → r < bitLength (natAbs (getD symbols age (pos 0)))
+-- where the delay is a place, the symbol there has a bit length above r
+abbrev pub LongestAt : ℕ → ℕ → List ℤ → Type 0
+LongestAt r delay symbols = delay < length symbols → r < bitLength (natAbs (getD symbols delay (pos 0)))
 
--- the age after the symbol v
-abbrev pub Older : ℕ → ℕ → ℤ → ℕ → Type 0
-Older r age v age′ = (age′ ≤ age + 1) × ((symbols : List ℤ) → Aged r age symbols → Aged r age′ (v ∷ symbols))
+-- the delay after the symbol v
+abbrev pub NextDelay : ℕ → ℕ → ℤ → ℕ → Type 0
+NextDelay r delay v delay′ = (delay′ ≤ delay + 1) × ((symbols : List ℤ) → LongestAt r delay symbols → LongestAt r delay′ (v ∷ symbols))
 
-pub record Reachable (r age : ℕ) (symbols : List ℤ) : Type 0 where
+pub record SymbolBounds (r delay : ℕ) (symbols : List ℤ) : Type 0 where
   pub r-most : r ≤ 3
   pub symbols-are : Each (λ (v : ℤ). isEntry r v ≡ true) symbols
-  pub aged : Aged r age symbols
+  pub longest-at : LongestAt r delay symbols
 
-pub record Audible (sb g ψ : ℕ) (forward back samples symbols : List ℤ) : Type 0 where
+pub record FilterBounds (sb g ψ : ℕ) (forward back samples symbols : List ℤ) : Type 0 where
   pub forward-sum : Summable forward samples
   pub back-sum : Summable back symbols
   pub ν-most : sb + longest symbols ≤ 9
-  pub joinable : Joinable (dot forward samples) (dot back symbols) g (sb + longest symbols) ψ
+  pub output-bounds : OutputBounds (dot forward samples) (dot back symbols) g (sb + longest symbols) ψ
 
-pub record Heard-is (sb g ψ : ℕ) (forward back samples symbols : List ℤ) (h : Heard) : Type 0 where
+pub record Output-is (sb g ψ : ℕ) (forward back samples symbols : List ℤ) (h : Output) : Type 0 where
   pub nu : h .nu ≡ sb + longest symbols
   pub y : h .y ≡ output (dot forward samples) (raise (dot back symbols) (15 - (sb + longest symbols))) g (sb + longest symbols)
   pub xi : h .xi ≡ outputExponent ψ g (sb + longest symbols)
 
 -- ---- steps 4 and 5
 
-pub record Decidable (r sb : ℕ) (y : ℤ) (ξ : ℕ) (entry : ℤ) : Type 0 where
+pub record DecisionBounds (r sb : ℕ) (y : ℤ) (ξ : ℕ) (entry : ℤ) : Type 0 where
   pub r-most : r ≤ 3
   pub scale-least : 1 ≤ sb
   pub scale-most : sb ≤ 5
@@ -69,7 +69,7 @@ pub record Decidable (r sb : ℕ) (y : ℤ) (ξ : ℕ) (entry : ℤ) : Type 0 wh
 abbrev pub chosen : ℤ → ℤ → ℤ
 chosen entry d = cond (eqb (natAbs entry) 0) d entry
 
-pub record Judged-is (r sb : ℕ) (y : ℤ) (ξ : ℕ) (entry : ℤ) (j : Judged) : Type 0 where
+pub record Decision-is (r sb : ℕ) (y : ℤ) (ξ : ℕ) (entry : ℤ) (j : Decision) : Type 0 where
   pub decision : j .decision ≡ decide r y ξ
   pub v : j .v ≡ chosen entry (decide r y ξ)
   pub z : j .z ≡ error (chosen entry (decide r y ξ)) y ξ (sb + bitLength (natAbs (chosen entry (decide r y ξ))))
@@ -82,10 +82,10 @@ abbrev pub factorOf : ℕ → ℤ → ℕ → ℕ → ℕ → ℕ → ℤ
 factorOf m z ψ θ scale exponent = cut (pos m *ℤ z) (60 + ψ + scale - (exponent + θ))
 
 -- the new weights of a side whose data are raised by some places more
-abbrev pub taught : ℕ → ℤ → ℕ → ℕ → ℕ → ℕ → ℕ → List ℤ → List ℤ → List ℤ
-taught m z ψ θ scale exponent more w a = adapt (raise (factorOf m z ψ θ scale exponent) (scale + more)) w a
+abbrev pub updated : ℕ → ℤ → ℕ → ℕ → ℕ → ℕ → ℕ → List ℤ → List ℤ → List ℤ
+updated m z ψ θ scale exponent more w a = adapt (raise (factorOf m z ψ θ scale exponent) (scale + more)) w a
 
-pub record Teachable (m : ℕ) (z : ℤ) (ψ θ scale exponent more : ℕ) (w a : List ℤ) : Type 0 where
+pub record UpdateBounds (m : ℕ) (z : ℤ) (ψ θ scale exponent more : ℕ) (w a : List ℤ) : Type 0 where
   pub z-small : natAbs z < 2 ^ 30
   pub ψ-most : ψ ≤ 15
   pub room : scale + more ≤ 15
@@ -102,26 +102,26 @@ pub record Settled-is (ψ : ℕ) (forward back : List ℤ) (ψ′ : ℕ) (forwar
 
 -- ---- steps 6 and 7
 
-pub record Changeable (m s sb g ψ : ℕ) (h : Heard) (j : Judged) (forward back samples symbols : List ℤ) : Type 0 where
+pub record ChangeBounds (m s sb g ψ : ℕ) (h : Output) (j : Decision) (forward back samples symbols : List ℤ) : Type 0 where
   pub ν-most : h .nu ≤ 9
-  pub ahead : Teachable m (j .z) ψ (j .theta) s g 0 forward samples
-  pub behind : Teachable m (j .z) ψ (j .theta) sb (h .nu + 30) (15 - h .nu) back symbols
+  pub ahead : UpdateBounds m (j .z) ψ (j .theta) s g 0 forward samples
+  pub behind : UpdateBounds m (j .z) ψ (j .theta) sb (h .nu + 30) (15 - h .nu) back symbols
 
 -- the new weights before step 7
-abbrev pub taughtForward : ℕ → ℕ → ℕ → ℕ → Judged → List ℤ → List ℤ → List ℤ
-taughtForward m s g ψ j forward samples = taught m (j .z) ψ (j .theta) s g 0 forward samples
+abbrev pub updatedForward : ℕ → ℕ → ℕ → ℕ → Decision → List ℤ → List ℤ → List ℤ
+updatedForward m s g ψ j forward samples = updated m (j .z) ψ (j .theta) s g 0 forward samples
 
-abbrev pub taughtBack : ℕ → ℕ → ℕ → ℕ → Judged → List ℤ → List ℤ → List ℤ
-taughtBack m sb ν ψ j back symbols = taught m (j .z) ψ (j .theta) sb (ν + 30) (15 - ν) back symbols
+abbrev pub updatedBack : ℕ → ℕ → ℕ → ℕ → Decision → List ℤ → List ℤ → List ℤ
+updatedBack m sb ν ψ j back symbols = updated m (j .z) ψ (j .theta) sb (ν + 30) (15 - ν) back symbols
 
-abbrev pub Changed-is : ℕ → ℕ → ℕ → ℕ → ℕ → Heard → Judged → List ℤ → List ℤ → List ℤ → List ℤ → ℕ → List ℤ → List ℤ → Type 0
+abbrev pub Changed-is : ℕ → ℕ → ℕ → ℕ → ℕ → Output → Decision → List ℤ → List ℤ → List ℤ → List ℤ → ℕ → List ℤ → List ℤ → Type 0
 Changed-is m s sb g ψ h j forward back samples symbols ψ′ forward′ back′ =
-    Settled-is ψ (taughtForward m s g ψ j forward samples) (taughtBack m sb (h .nu) ψ j back symbols) ψ′ forward′ back′
+    Settled-is ψ (updatedForward m s g ψ j forward samples) (updatedBack m sb (h .nu) ψ j back symbols) ψ′ forward′ back′
 
 -- ---- the sample as a whole
 
-abbrev pub takenOf : Heard → Judged → ℕ → Taken
-takenOf h j ψ = record { y = h .y; xi = h .xi; decision = j .decision; z = j .z; theta = j .theta; psi = ψ }
+abbrev pub resultOf : Output → Decision → ℕ → SampleResult
+resultOf h j ψ = record { y = h .y; xi = h .xi; decision = j .decision; z = j .z; theta = j .theta; psi = ψ }
 
 pub record Ready (k : Settings) (s sb g : ℕ) (t : Taps) (entry : ℤ) : Type 0 where
   pub fit : Fit k g t
@@ -130,7 +130,7 @@ pub record Ready (k : Settings) (s sb g : ℕ) (t : Taps) (entry : ℤ) : Type 0
   pub back-scale : sb ≡ scaleBack k
 
 -- symbols has the new symbol before the old ones
-pub record Taken-is (k : Settings) (g : ℕ) (t : Taps) (entry : ℤ) (r : Taken) (forward back symbols : List ℤ) : Type 0 where
+pub record SampleResult-is (k : Settings) (g : ℕ) (t : Taps) (entry : ℤ) (r : SampleResult) (forward back symbols : List ℤ) : Type 0 where
   pub y : r .y ≡ Y k g t entry
   pub xi : r .xi ≡ ξ k g t entry
   pub decision-is : r .decision ≡ decision k g t entry

@@ -7,7 +7,7 @@ use lib.IntN.{ℤ, natAbs}
 use Rattle.numbers.specs.BitLength.{bitLength}
 use Rattle.numbers.specs.Cut.{raise}
 use Rattle.steps.specs.Settings.{Settings, scaleForward, scaleBack}
-use Rattle.steps.specs.Side.{Side, sum, factor, learnt, allSmall, halved, push, longest}
+use Rattle.steps.specs.Side.{Side, sum, factor, newWeights, allSmall, halved, push, longest}
 use Rattle.steps.specs.Output.{output, outputExponent}
 use Rattle.steps.specs.Decision.{decide}
 use Rattle.steps.specs.Error.{error, errorExponent}
@@ -78,10 +78,10 @@ module _ (k : Settings) (g : ℕ) (t : Taps) (entry : ℤ) where
   J f = factor (k .M) Z (t .ψ) θ f
 
   unfoldable pub newForward : List ℤ
-  newForward = learnt (J forwardSide) forwardSide
+  newForward = newWeights (J forwardSide) forwardSide
 
   unfoldable pub newBack : List ℤ
-  newBack = learnt (J backSide) backSide
+  newBack = newWeights (J backSide) backSide
 
   -- 7
   unfoldable pub small : Bool

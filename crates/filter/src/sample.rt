@@ -5,7 +5,7 @@ ghost use lib.IntN.{natAbs};
 ghost use lib.ListN.{drop};
 ghost use Rattle.numbers.specs.BitLength.{bitLength};
 ghost use Rattle.steps.specs.Side.{longest};
-ghost use Rattle.filter.specs.Calls.{Aged, Older, Reachable, Audible, Heard-is, Decidable, Judged-is, chosen, Teachable, taught, Settled-is, Changeable, Changed-is, takenOf, Ready, Taken-is, settingsOf, tapsOf};
+ghost use Rattle.filter.specs.Calls.{LongestAt, NextDelay, SymbolBounds, FilterBounds, Output-is, DecisionBounds, Decision-is, chosen, UpdateBounds, updated, Settled-is, ChangeBounds, Changed-is, resultOf, Ready, SampleResult-is, settingsOf, tapsOf};
 
 // The settings of a station.
 pub struct Settings {
@@ -18,14 +18,14 @@ pub struct Settings {
 }
 
 // What steps 1 to 3 give.
-pub struct Heard {
+pub struct Output {
     pub nu: u32,
     pub y: i32,
     pub xi: u32,
 }
 
 // What steps 4 and 5 give.
-pub struct Judged {
+pub struct Decision {
     pub decision: i16,
     pub v: i16,
     pub z: i32,
@@ -33,7 +33,7 @@ pub struct Judged {
 }
 
 // What a sample hands out, and the new ψ.
-pub struct Taken {
+pub struct SampleResult {
     pub y: i32,
     pub xi: u8,
     pub decision: i8,
@@ -43,23 +43,23 @@ pub struct Taken {
 }
 
 // How many symbols have come since one of the largest bit length, after the symbol v.
-pub fn older(r: u32, age: usize, v: i16) -> usize
-    requires { ⌜ age ≤ 256 ⌝ }
-    ensures { λ a. ⌜ Older r age v a ⌝ }
+pub fn next_delay(r: u32, delay: usize, v: i16) -> usize
+    requires { ⌜ delay ≤ 256 ⌝ }
+    ensures { λ a. ⌜ NextDelay r delay v a ⌝ }
 {
     if r < numbers::bit_length::signed_bit_length(v as i64) {
         0
     } else {
-        age + 1
+        delay + 1
     }
 }
 
 // Step 1: the largest bit length of the symbols, which needs no search where one of them is known to have it.
-fn reach(r: u32, age: usize, symbols: &[i16]) -> u32
-    requires { ⌜ Reachable r age (now symbols) ⌝ }
+fn reach(r: u32, delay: usize, symbols: &[i16]) -> u32
+    requires { ⌜ SymbolBounds r delay (now symbols) ⌝ }
     ensures { λ c. ⌜ c ≡ longest (now (symbols .entry)) ⌝ }
 {
-    if age < symbols.len() {
+    if delay < symbols.len() {
         r + 1
     } else {
         steps::side::longest(symbols)
@@ -67,9 +67,9 @@ fn reach(r: u32, age: usize, symbols: &[i16]) -> u32
 }
 
 // Steps 1 to 3: ν, Y and ξ.
-pub fn hear(
+pub fn filter_output(
     r: u32,
-    age: usize,
+    delay: usize,
     sb: u32,
     g: u32,
     psi: u32,
@@ -77,15 +77,15 @@ pub fn hear(
     back: &[i16],
     samples: &[i16],
     symbols: &[i16],
-) -> Heard
-    requires { ⌜ Audible sb g psi (now forward) (now back) (now samples) (now symbols) × Reachable r age (now symbols) ⌝ }
-    ensures { λ h. ⌜ Heard-is sb g psi (now (forward .entry)) (now (back .entry)) (now (samples .entry)) (now (symbols .entry)) h ⌝ }
+) -> Output
+    requires { ⌜ FilterBounds sb g psi (now forward) (now back) (now samples) (now symbols) × SymbolBounds r delay (now symbols) ⌝ }
+    ensures { λ h. ⌜ Output-is sb g psi (now (forward .entry)) (now (back .entry)) (now (samples .entry)) (now (symbols .entry)) h ⌝ }
 {
-    let nu = sb + reach(r, age, symbols);
+    let nu = sb + reach(r, delay, symbols);
     let f = steps::side::sum(forward, samples);
     let h = steps::side::sum(back, symbols);
     let o = steps::output::output(f, h, g, nu, psi);
-    Heard {
+    Output {
         nu: nu,
         y: o.y,
         xi: o.xi,
@@ -100,14 +100,14 @@ fn chosen(entry: i16, d: i16) -> i16
 }
 
 // Steps 4 and 5: the decision, v, Z and θ.
-pub fn judge(r: u32, sb: u32, y: i32, xi: u32, entry: i16) -> Judged
-    requires { ⌜ Decidable r sb y xi entry ⌝ }
-    ensures { λ j. ⌜ Judged-is r sb y xi entry j ⌝ }
+pub fn decision_error(r: u32, sb: u32, y: i32, xi: u32, entry: i16) -> Decision
+    requires { ⌜ DecisionBounds r sb y xi entry ⌝ }
+    ensures { λ j. ⌜ Decision-is r sb y xi entry j ⌝ }
 {
     let d = steps::decision::decide(y, xi, r);
     let v = chosen(entry, d);
     let e = steps::error::error(r, sb, v, y, xi);
-    Judged {
+    Decision {
         decision: d,
         v: v,
         z: e.z,
@@ -116,7 +116,7 @@ pub fn judge(r: u32, sb: u32, y: i32, xi: u32, entry: i16) -> Judged
 }
 
 // Step 6: the new weights of a side whose data are raised by some places more, and the bits of their magnitudes together.
-pub fn learn(
+pub fn update(
     w: &mut [i16],
     a: &[i16],
     m: u32,
@@ -127,8 +127,8 @@ pub fn learn(
     exponent: u32,
     more: u32,
 ) -> u16
-    requires { ⌜ Teachable m z psi theta scale exponent more (now w) (now a) ⌝ }
-    ensures { λ r. ⌜ (now (w .exit) ≡ taught m z psi theta scale exponent more (now (w .entry)) (now (a .entry))) × (bitLength r ≡ longest (now (w .exit))) ⌝ }
+    requires { ⌜ UpdateBounds m z psi theta scale exponent more (now w) (now a) ⌝ }
+    ensures { λ r. ⌜ (now (w .exit) ≡ updated m z psi theta scale exponent more (now (w .entry)) (now (a .entry))) × (bitLength r ≡ longest (now (w .exit))) ⌝ }
 {
     let j = steps::factor::factor(m, z, 60 + psi + scale - (exponent + theta));
     steps::side::adapt(w, a, j as i32, 15 - (scale + more))
@@ -154,30 +154,30 @@ pub fn change(
     sb: u32,
     g: u32,
     psi: u32,
-    h: Heard,
-    j: Judged,
+    h: Output,
+    j: Decision,
     forward: &mut [i16],
     back: &mut [i16],
     samples: &[i16],
     symbols: &[i16],
 ) -> u32
-    requires { ⌜ Changeable m s sb g psi h j (now forward) (now back) (now samples) (now symbols) ⌝ }
+    requires { ⌜ ChangeBounds m s sb g psi h j (now forward) (now back) (now samples) (now symbols) ⌝ }
     ensures { λ r. ⌜ Changed-is m s sb g psi h j (now (forward .entry)) (now (back .entry)) (now (samples .entry)) (now (symbols .entry)) r (now (forward .exit)) (now (back .exit)) ⌝ }
 {
     let nu = h.nu;
     let z = j.z;
     let theta = j.theta;
-    let ahead = learn(forward, samples, m, z, psi, theta, s, g, 0);
-    let behind = learn(back, symbols, m, z, psi, theta, sb, nu + 30, 15 - nu);
+    let ahead = update(forward, samples, m, z, psi, theta, s, g, 0);
+    let behind = update(back, symbols, m, z, psi, theta, sb, nu + 30, 15 - nu);
     settle(forward, back, ahead | behind, psi)
 }
 
 // What is handed out, in its final widths.
-fn hand_out(h: Heard, j: Judged, psi: u32) -> Taken
+fn hand_out(h: Output, j: Decision, psi: u32) -> SampleResult
     requires { ⌜ (h .xi ≤ 24) × (j .theta ≤ 24) × (natAbs (j .decision) < 2 ^ 4) ⌝ }
-    ensures { λ r. ⌜ r ≡ takenOf h j psi ⌝ }
+    ensures { λ r. ⌜ r ≡ resultOf h j psi ⌝ }
 {
-    Taken {
+    SampleResult {
         y: h.y,
         xi: h.xi as u8,
         decision: j.decision as i8,
@@ -194,18 +194,28 @@ pub fn step(
     sb: u32,
     g: u32,
     psi: u32,
-    age: usize,
+    delay: usize,
     entry: i16,
     forward: &mut [i16],
     back: &mut [i16],
     samples: &[i16],
     symbols: &mut [i16],
-) -> Taken
-    requires { ⌜ Ready (settingsOf k) s sb g (tapsOf (now forward) (now back) (now samples) (drop 1 (now symbols)) psi) entry × Aged (k .r) age (drop 1 (now symbols)) ⌝ }
-    ensures { λ r. ⌜ Taken-is (settingsOf k) g (tapsOf (now (forward .entry)) (now (back .entry)) (now (samples .entry)) (drop 1 (now (symbols .entry))) psi) entry r (now (forward .exit)) (now (back .exit)) (now (symbols .exit)) ⌝ }
+) -> SampleResult
+    requires { ⌜ Ready (settingsOf k) s sb g (tapsOf (now forward) (now back) (now samples) (drop 1 (now symbols)) psi) entry × LongestAt (k .r) delay (drop 1 (now symbols)) ⌝ }
+    ensures { λ r. ⌜ SampleResult-is (settingsOf k) g (tapsOf (now (forward .entry)) (now (back .entry)) (now (samples .entry)) (drop 1 (now (symbols .entry))) psi) entry r (now (forward .exit)) (now (back .exit)) (now (symbols .exit)) ⌝ }
 {
-    let h = hear(k.r, age, sb, g, psi, forward, back, samples, &symbols[1..]);
-    let j = judge(k.r, sb, h.y, h.xi, entry);
+    let h = filter_output(
+        k.r,
+        delay,
+        sb,
+        g,
+        psi,
+        forward,
+        back,
+        samples,
+        &symbols[1..],
+    );
+    let j = decision_error(k.r, sb, h.y, h.xi, entry);
     let v = j.v;
     symbols[0] = v;
     let next = change(

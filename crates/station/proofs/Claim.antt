@@ -33,27 +33,27 @@ use Rattle.image.proofs.LoadLaws.{load-image, loaded-sound, loaded-long, image-
 use Rattle.station.specs.Answers.{runNumber, accepted, runState}
 use Rattle.checks.specs.Checks.{Lent, block, lengthsFit, gainFits, checkNumber}
 use Rattle.checks.specs.Calls.{Sampled, Checked}
-use Rattle.station.specs.Claim.{Typed, Call, run, save, load, left, leftBy, Start, set-up, loaded, Good, Unblamed, Keeps, KeepsAll, LaterNear, Right, FairRun, FairSave, FairLoad, Fair, Holds}
+use Rattle.station.specs.Claim.{Typed, Call, run, save, load, left, leftBy, Start, set-up, loaded, WithinLimits, StateAccepted, Keeps, KeepsAll, LaterNear, AcceptedBlock, RunHolds, SaveHolds, LoadHolds, CallHolds, Holds}
 use Rattle.checks.proofs.CheckLaws.{checked-is}
 use Rattle.station.proofs.AnswerLaws.{run-tests}
 
--- ---- good states
+-- ---- within states
 
-good-of : (e : Equaliser) → length (e .weights) ≡ places → length (e .past) ≡ places → examined e ≡ 0 → Good e
-good-of e w d x =
+within-of : (e : Equaliser) → length (e .weights) ≡ places → length (e .past) ≡ places → examined e ≡ 0 → WithinLimits e
+within-of e w d x =
     let t = examined-tests e x in
     record { sizes = t .0; admitted = t .1; sound = t .2; facts = examined-sound e w d x; weights-long = w; past-long = d }
 
-good-examined : (e : Equaliser) → Good e → examined e ≡ 0
-good-examined e g = tests-examined e (g .sizes) (g .admitted) (g .sound)
+within-examined : (e : Equaliser) → WithinLimits e → examined e ≡ 0
+within-examined e g = tests-examined e (g .sizes) (g .admitted) (g .sound)
 
-good-fresh : (k : Settings) → sizesFit k ≡ true → admits k ≡ true → Good (fresh k)
+within-fresh : (k : Settings) → sizesFit k ≡ true → admits k ≡ true → WithinLimits (fresh k)
 unfolding fresh
-good-fresh k f a = good-of (fresh k) (length-replicate places (pos 0)) (length-replicate places (pos 0)) (fresh-examined k f a)
+within-fresh k f a = within-of (fresh k) (length-replicate places (pos 0)) (length-replicate places (pos 0)) (fresh-examined k f a)
 
-good-refused : Good refused
+within-refused : WithinLimits refused
 unfolding refused
-good-refused = good-fresh (given 1 1 1 0 0 0) refl refl
+within-refused = within-fresh (given 1 1 1 0 0 0) refl refl
 
 two : (a b : Bool) → _≡_ {A = ℕ} (cond a (cond b 0 2) 1) 0 → (a ≡ true) × (b ≡ true)
 two true true h = (refl, refl)
@@ -64,27 +64,27 @@ settings-tests : (k : Settings) → settingsNumber k ≡ 0 → (sizesFit k ≡ t
 unfolding settingsNumber
 settings-tests k h = two (sizesFit k) (admits k) h
 
-pub good-set-up : (k : Settings) → Good (setUpState k)
-good-set-up k = go (eqb (settingsNumber k) 0) refl
+pub within-set-up : (k : Settings) → WithinLimits (setUpState k)
+within-set-up k = go (eqb (settingsNumber k) 0) refl
   where
-    go : (b : Bool) → eqb (settingsNumber k) 0 ≡ b → Good (cond b (fresh k) refused)
-    go true e = let t = settings-tests k (eqb-true (settingsNumber k) 0 e) in good-fresh k (t .0) (t .1)
-    go false e = good-refused
+    go : (b : Bool) → eqb (settingsNumber k) 0 ≡ b → WithinLimits (cond b (fresh k) refused)
+    go true e = let t = settings-tests k (eqb-true (settingsNumber k) 0 e) in within-fresh k (t .0) (t .1)
+    go false e = within-refused
 
-pub good-load : (bytes : List ℕ) → Each Byte bytes → Good (loadState bytes)
+pub within-load : (bytes : List ℕ) → Each Byte bytes → WithinLimits (loadState bytes)
 unfolding loadState
-good-load bytes b = go (eqb (loadNumber bytes) 0) refl
+within-load bytes b = go (eqb (loadNumber bytes) 0) refl
   where
-    go : (t : Bool) → eqb (loadNumber bytes) 0 ≡ t → Good (cond t (stateIn bytes) refused)
+    go : (t : Bool) → eqb (loadNumber bytes) 0 ≡ t → WithinLimits (cond t (stateIn bytes) refused)
     go true e =
         let ok = eqb-true (loadNumber bytes) 0 e in
         let long = loaded-long bytes b ok in
-        good-of (stateIn bytes) (long .0) (long .1) (loaded-sound bytes b ok)
-    go false e = good-refused
+        within-of (stateIn bytes) (long .0) (long .1) (loaded-sound bytes b ok)
+    go false e = within-refused
 
-pub good-start : (s : Equaliser) → Start s → Good s
-good-start s (set-up k e) = subst Good (sym e) (good-set-up k)
-good-start s (loaded bytes b e) = subst Good (sym e) (good-load bytes b)
+pub within-start : (s : Equaliser) → Start s → WithinLimits s
+within-start s (set-up k e) = subst WithinLimits (sym e) (within-set-up k)
+within-start s (loaded bytes b e) = subst WithinLimits (sym e) (within-load bytes b)
 
 -- ---- a block
 
@@ -99,7 +99,7 @@ accepted-leaves : (s : Equaliser) (l : Lent) → runNumber s l ≡ 0 → runStat
 unfolding runState
 accepted-leaves s l h = ap (λ b. cond b (stateOf (settings s) (Block.left (settings s) (memory s) (block l))) s) (eq-eqb (runNumber s l) 0 h)
 
-module _ (s : Equaliser) (g : Good s) (l : Lent) (t : Typed l) (ok : runNumber s l ≡ 0) where
+module _ (s : Equaliser) (g : WithinLimits s) (l : Lent) (t : Typed l) (ok : runNumber s l ≡ 0) where
   checked : Checked s (block l)
   checked = checked-is s l (run-tests s l ok .0) (g .weights-long) (g .past-long) (sampled l t)
 
@@ -109,37 +109,37 @@ module _ (s : Equaliser) (g : Good s) (l : Lent) (t : Typed l) (ok : runNumber s
   next-sound : Sound (settings s) next
   next-sound = left-sound (settings s) (memory s) (block l) (checked .sound) (checked .acceptable) (run-tests s l ok .1)
 
-  good-next : Good (stateOf (settings s) next)
-  good-next =
+  within-next : WithinLimits (stateOf (settings s) next)
+  within-next =
       let long = kept-long (settings s) next next-sound in
-      good-of (stateOf (settings s) next) (long .0) (long .1) (kept-examined (settings s) next next-sound (g .sizes) (g .admitted))
+      within-of (stateOf (settings s) next) (long .0) (long .1) (kept-examined (settings s) next next-sound (g .sizes) (g .admitted))
 
-pub good-run : (s : Equaliser) → Good s → (l : Lent) → Typed l → Good (runState s l)
-good-run s g l t = go (eqb (runNumber s l) 0) refl
+pub within-run : (s : Equaliser) → WithinLimits s → (l : Lent) → Typed l → WithinLimits (runState s l)
+within-run s g l t = go (eqb (runNumber s l) 0) refl
   where
-    go : (b : Bool) → eqb (runNumber s l) 0 ≡ b → Good (runState s l)
-    go true e = let ok = eqb-true (runNumber s l) 0 e in subst Good (sym (accepted-leaves s l ok)) (good-next s g l t ok)
-    go false e = subst Good (sym (refused-same s l (eqb-false (runNumber s l) 0 e))) g
+    go : (b : Bool) → eqb (runNumber s l) 0 ≡ b → WithinLimits (runState s l)
+    go true e = let ok = eqb-true (runNumber s l) 0 e in subst WithinLimits (sym (accepted-leaves s l ok)) (within-next s g l t ok)
+    go false e = subst WithinLimits (sym (refused-same s l (eqb-false (runNumber s l) 0 e))) g
 
-pub good-left : (s : Equaliser) → Good s → (c : Call) → Good (left s c)
-good-left s g (run l t) = good-run s g l t
-good-left s g (save buffer t) = g
-good-left s g (load bytes t) = good-load bytes t
+pub within-left : (s : Equaliser) → WithinLimits s → (c : Call) → WithinLimits (left s c)
+within-left s g (run l t) = within-run s g l t
+within-left s g (save buffer t) = g
+within-left s g (load bytes t) = within-load bytes t
 
 -- ---- the state between two blocks
 
-keeps-same : (s : Equaliser) → Good s → (c : Call) → Keeps s c → left s c ≡ s
+keeps-same : (s : Equaliser) → WithinLimits s → (c : Call) → Keeps s c → left s c ≡ s
 keeps-same s g (run l t) f = refused-same s l f
 keeps-same s g (save buffer t) f = refl
-keeps-same s g (load bytes t) e = ap loadState e ∙ load-image s (g .weights-long) (g .past-long) (good-examined s g) .1
+keeps-same s g (load bytes t) e = ap loadState e ∙ load-image s (g .weights-long) (g .past-long) (within-examined s g) .1
 
-keeps-all : (s : Equaliser) → Good s → (cs : List Call) → KeepsAll s cs → leftBy s cs ≡ s
+keeps-all : (s : Equaliser) → WithinLimits s → (cs : List Call) → KeepsAll s cs → leftBy s cs ≡ s
 keeps-all s g [] h = refl
-keeps-all s g (c ∷ cs) h = let e = keeps-same s g c (h .0) in keeps-all (left s c) (good-left s g c) cs (h .1) ∙ e
+keeps-all s g (c ∷ cs) h = let e = keeps-same s g c (h .0) in keeps-all (left s c) (within-left s g c) cs (h .1) ∙ e
 
 -- ---- an accepted block
 
-module _ (s : Equaliser) (g : Good s) (l : Lent) (t : Typed l) (ok : runNumber s l ≡ 0) where
+module _ (s : Equaliser) (g : WithinLimits s) (l : Lent) (t : Typed l) (ok : runNumber s l ≡ 0) where
   near : MetNear (settings s) (memory s) (block l)
   near = met-near (settings s) (memory s) (block l) (checked s g l t ok .sound) (checked s g l t ok .acceptable)
 
@@ -154,44 +154,44 @@ module _ (s : Equaliser) (g : Good s) (l : Lent) (t : Typed l) (ok : runNumber s
         (sym (memory-is (settings s) (next s g l t ok) (next-sound s g l t ok))) (near .later (block l′) n j h k e);
   }
 
-  right : Right s l
-  right = record {
+  accepted-block : AcceptedBlock s l
+  accepted-block = record {
     sample = λ n h. at-sample (settings s) (memory s) (block l) (checked s g l t ok .sound) (checked s g l t ok .acceptable) (run-tests s l ok .1) n h;
     leaves = accepted-leaves s l ok;
     stored = stored-near (settings s) (memory s) (block l) (checked s g l t ok .acceptable);
     met = near;
     later = λ cs h l′ ok′.
         subst (λ (s′ : Equaliser). LaterNear s l s′ l′)
-        (sym (keeps-all (runState s l) (good-run s g l t) cs h ∙ accepted-leaves s l ok)) (near-next l′);
+        (sym (keeps-all (runState s l) (within-run s g l t) cs h ∙ accepted-leaves s l ok)) (near-next l′);
   }
 
 -- ---- the numbers
 
-unblamed-check : (a b c : Bool) → Unblamed (cond a (cond b (cond c 0 5) 4) 3)
-unblamed-check true true true = record { not-sizes = λ e. omega arith; not-step = λ e. omega arith; not-state = λ e. omega arith }
-unblamed-check true true false = record { not-sizes = λ e. omega arith; not-step = λ e. omega arith; not-state = λ e. omega arith }
-unblamed-check true false c = record { not-sizes = λ e. omega arith; not-step = λ e. omega arith; not-state = λ e. omega arith }
-unblamed-check false b c = record { not-sizes = λ e. omega arith; not-step = λ e. omega arith; not-state = λ e. omega arith }
+state-accepted-check : (a b c : Bool) → StateAccepted (cond a (cond b (cond c 0 5) 4) 3)
+state-accepted-check true true true = record { not-sizes = λ e. omega arith; not-step = λ e. omega arith; not-state = λ e. omega arith }
+state-accepted-check true true false = record { not-sizes = λ e. omega arith; not-step = λ e. omega arith; not-state = λ e. omega arith }
+state-accepted-check true false c = record { not-sizes = λ e. omega arith; not-step = λ e. omega arith; not-state = λ e. omega arith }
+state-accepted-check false b c = record { not-sizes = λ e. omega arith; not-step = λ e. omega arith; not-state = λ e. omega arith }
 
-module _ (s : Equaliser) (g : Good s) where
-  check-unblamed : (l : Lent) → Unblamed (checkNumber s l)
+module _ (s : Equaliser) (g : WithinLimits s) where
+  check-state-accepted : (l : Lent) → StateAccepted (checkNumber s l)
   unfolding checkNumber
-  check-unblamed l = rw (good-examined s g) (unblamed-check (lengthsFit (s .n) l) (all (gainFits (s .l)) (l .gains)) (all (isEntry (s .r)) (l .entries)))
+  check-state-accepted l = rw (within-examined s g) (state-accepted-check (lengthsFit (s .n) l) (all (gainFits (s .l)) (l .gains)) (all (isEntry (s .r)) (l .entries)))
 
-  run-unblamed : (l : Lent) → Unblamed (runNumber s l)
+  run-state-accepted : (l : Lent) → StateAccepted (runNumber s l)
   unfolding runNumber
-  run-unblamed l = go (eqb (checkNumber s l) 0) (goes (settings s) (memory s) (block l) (s .n))
+  run-state-accepted l = go (eqb (checkNumber s l) 0) (goes (settings s) (memory s) (block l) (s .n))
     where
-      go : (t a : Bool) → Unblamed (cond t (cond a 0 6) (checkNumber s l))
+      go : (t a : Bool) → StateAccepted (cond t (cond a 0 6) (checkNumber s l))
       go true true = record { not-sizes = λ e. omega arith; not-step = λ e. omega arith; not-state = λ e. omega arith }
       go true false = record { not-sizes = λ e. omega arith; not-step = λ e. omega arith; not-state = λ e. omega arith }
-      go false a = check-unblamed l
+      go false a = check-state-accepted l
 
-  save-unblamed : (buffer : List ℕ) → Unblamed (saveNumber s buffer)
+  save-state-accepted : (buffer : List ℕ) → StateAccepted (saveNumber s buffer)
   unfolding saveNumber
-  save-unblamed buffer = rw (good-examined s g) (go (leb (imageLength s) (length buffer)))
+  save-state-accepted buffer = rw (within-examined s g) (go (leb (imageLength s) (length buffer)))
     where
-      go : (a : Bool) → Unblamed (cond a 0 7)
+      go : (a : Bool) → StateAccepted (cond a 0 7)
       go true = record { not-sizes = λ e. omega arith; not-step = λ e. omega arith; not-state = λ e. omega arith }
       go false = record { not-sizes = λ e. omega arith; not-step = λ e. omega arith; not-state = λ e. omega arith }
 
@@ -201,16 +201,16 @@ saves-same : (bytes : List ℕ) → Each Byte bytes → loadNumber bytes ≡ 0 �
 unfolding loadState
 saves-same bytes b ok = rw ok (image-loaded bytes b ok)
 
-fair : (s : Equaliser) → Good s → (c : Call) → Fair s c
-fair s g (run l t) = record { number = run-unblamed s g l; accepted = right s g l t; refused = refused-same s l }
-fair s g (save buffer t) =
-    let back = load-image s (g .weights-long) (g .past-long) (good-examined s g) in
-    record { number = save-unblamed s g buffer; accepted-back = back .0; state-back = back .1 }
-fair s g (load bytes t) = record { same = saves-same bytes t }
+call-holds : (s : Equaliser) → WithinLimits s → (c : Call) → CallHolds s c
+call-holds s g (run l t) = record { number = run-state-accepted s g l; accepted = accepted-block s g l t; refused = refused-same s l }
+call-holds s g (save buffer t) =
+    let back = load-image s (g .weights-long) (g .past-long) (within-examined s g) in
+    record { number = save-state-accepted s g buffer; accepted-back = back .0; state-back = back .1 }
+call-holds s g (load bytes t) = record { same = saves-same bytes t }
 
-holds : (s : Equaliser) → Good s → (cs : List Call) → Holds s cs
+holds : (s : Equaliser) → WithinLimits s → (cs : List Call) → Holds s cs
 holds s g [] = g
-holds s g (c ∷ cs) = (g, (fair s g c, holds (left s c) (good-left s g c) cs))
+holds s g (c ∷ cs) = (g, (call-holds s g c, holds (left s c) (within-left s g c) cs))
 
 pub claim : (s : Equaliser) → Start s → (cs : List Call) → Holds s cs
-claim s start cs = holds s (good-start s start) cs
+claim s start cs = holds s (within-start s start) cs

@@ -75,12 +75,12 @@ module _ (e : Equaliser) (i : Block) (h : Checked e i) where
 
 -- ---- a run on these parts
 
-module _ (e : Equaliser) (i : Block) (ahead behind window heard : List ℤ) (h : Parts e i ahead behind window heard) where
+module _ (e : Equaliser) (i : Block) (ahead behind window recent : List ℤ) (h : Parts e i ahead behind window recent) where
   pub record Long : Type 0 where
     pub forward-long : length ahead ≡ e .p
     pub back-long : length behind ≡ e .q
     pub window-long : length window ≡ e .p
-    pub symbols-long : length heard ≡ e .q
+    pub symbols-long : length recent ≡ e .q
 
   pub long : Long
   long =
@@ -95,10 +95,10 @@ module _ (e : Equaliser) (i : Block) (ahead behind window heard : List ℤ) (h :
   window-samples : take (length window - 1) window ≡ samples e
   window-samples = ap (λ (l : List ℤ). take (length l - 1) l) (h .window-is) ∙ but-last (samples e) (pos 0)
 
-  pub memory-is : memoryOf ahead behind window heard (e .psi) (e .b) (e .big) ≡ memory e
+  pub memory-is : memoryOf ahead behind window recent (e .psi) (e .b) (e .big) ≡ memory e
   memory-is = rw (h .forward-is, h .back-is, window-samples, h .symbols-are)
 
-  pub runnable : Runnable (settings e) (memoryOf ahead behind window heard (e .psi) (e .b) (e .big)) i window
+  pub runnable : Runnable (settings e) (memoryOf ahead behind window recent (e .psi) (e .b) (e .big)) i window
   runnable = record {
     sound = subst (Sound (settings e)) (sym memory-is) (h .checked .sound);
     acceptable = h .checked .acceptable;
@@ -107,8 +107,8 @@ module _ (e : Equaliser) (i : Block) (ahead behind window heard : List ℤ) (h :
 
 -- ---- what a run leaves
 
-module _ (e : Equaliser) (i : Block) (c : Checked e i) (ran : Ran) (ahead behind window heard : List ℤ)
-    (h : Ran-is (settings e) (memory e) i ran ahead behind window heard) where
+module _ (e : Equaliser) (i : Block) (c : Checked e i) (ran : Ran) (ahead behind window recent : List ℤ)
+    (h : Ran-is (settings e) (memory e) i ran ahead behind window recent) where
   -- ψ would pass its limit
   pub stopped : (r : Done) → ran .done ≡ false → r .done ≡ false → Done-is e i r
   stopped r f d = record {
@@ -129,16 +129,16 @@ module _ (e : Equaliser) (i : Block) (c : Checked e i) (ran : Ran) (ahead behind
         big = omega (arith, f .big, s .B-most);
       }
 
-  past-is : (f : Filter.Finished (settings e) (memory e) i ran ahead behind window heard) → length window ≡ e .p →
-      padded (set window (length window - 1) (pos 0) ++ heard) ≡ padded (take (e .p - 1) (after (settings e) (memory e) i (e .n) .samples) ++ pos 0 ∷ after (settings e) (memory e) i (e .n) .symbols)
+  past-is : (f : Filter.Finished (settings e) (memory e) i ran ahead behind window recent) → length window ≡ e .p →
+      padded (set window (length window - 1) (pos 0) ++ recent) ≡ padded (take (e .p - 1) (after (settings e) (memory e) i (e .n) .samples) ++ pos 0 ∷ after (settings e) (memory e) i (e .n) .symbols)
   past-is f l =
       ap padded (
-      ap (λ (t : List ℤ). t ++ heard) (new-last window (pos 0) (e .p) l (c .sound .within .p-least))
-      ∙ append-snoc (take (e .p - 1) window) (pos 0) heard
+      ap (λ (t : List ℤ). t ++ recent) (new-last window (pos 0) (e .p) l (c .sound .within .p-least))
+      ∙ append-snoc (take (e .p - 1) window) (pos 0) recent
       ∙ ap₂ (λ (t u : List ℤ). take (e .p - 1) t ++ pos 0 ∷ u) (f .window-is) (f .symbols-are)
       )
 
-  pub done-is : (ws ds : List ℤ) → ws ≡ padded (ahead ++ behind) → ds ≡ padded (set window (length window - 1) (pos 0) ++ heard) → length window ≡ e .p → Done-is e i (doneOf e ran ws ds)
+  pub done-is : (ws ds : List ℤ) → ws ≡ padded (ahead ++ behind) → ds ≡ padded (set window (length window - 1) (pos 0) ++ recent) → length window ≡ e .p → Done-is e i (doneOf e ran ws ds)
   unfolding stateOf left
   done-is ws ds ew ed l = record {
     done = h .done;

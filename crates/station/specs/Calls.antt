@@ -13,12 +13,12 @@ use Rattle.station.specs.declared.run.Done.{Done}
 use Rattle.block.specs.declared.run.Ran.{Ran}
 
 -- the four parts of a state that passed the checks, as a block is run on them
-pub record Parts (e : Equaliser) (i : Block) (ahead behind window heard : List ℤ) : Type 0 where
+pub record Parts (e : Equaliser) (i : Block) (ahead behind window recent : List ℤ) : Type 0 where
   pub checked : Checked e i
   pub forward-is : ahead ≡ forward e
   pub back-is : behind ≡ back e
   pub window-is : window ≡ samples e ++ (pos 0 ∷ [])
-  pub symbols-are : heard ≡ symbols e
+  pub symbols-are : recent ≡ symbols e
 
 pub record Finished (e : Equaliser) (i : Block) (r : Done) : Type 0 where
   pub state : r .state ≡ stateOf (settings e) (left (settings e) (memory e) i)

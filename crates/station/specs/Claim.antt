@@ -60,7 +60,7 @@ pub data Start (s : Equaliser) : Type 0 where
 -- ---- what holds of a state
 
 -- within limits, admitted and sound
-pub record Good (s : Equaliser) : Type 0 where
+pub record WithinLimits (s : Equaliser) : Type 0 where
   pub sizes : sizesFit (settings s) ≡ true
   pub admitted : admits (settings s) ≡ true
   pub sound : isSound s ≡ true
@@ -71,7 +71,7 @@ pub record Good (s : Equaliser) : Type 0 where
 -- ---- what holds of a call
 
 -- turned down, if at all, for something else than the state
-pub record Unblamed (number : ℕ) : Type 0 where
+pub record StateAccepted (number : ℕ) : Type 0 where
   pub not-sizes : number ≡ 1 → ⊥
   pub not-step : number ≡ 2 → ⊥
   pub not-state : number ≡ 9 → ⊥
@@ -95,7 +95,7 @@ pub record LaterNear (s : Equaliser) (l : Lent) (s′ : Equaliser) (l′ : Lent)
       (getD (at (settings s′) (memory s′) (block l′) n .samples) j (pos 0)) (getD (receivedAll (l .m) (l .gains)) (s .n + n - j) (pos 0))
 
 -- an accepted block
-pub record Right (s : Equaliser) (l : Lent) : Type 0 where
+pub record AcceptedBlock (s : Equaliser) (l : Lent) : Type 0 where
   -- at every sample: the bounds, nothing clipped, one halving, the distances of y and of each weight
   pub sample : (n : ℕ) → n < s .n → AtSample (settings s) (memory s) (block l) n
   -- the state that it leaves is the one that its last sample gives
@@ -106,27 +106,27 @@ pub record Right (s : Equaliser) (l : Lent) : Type 0 where
   -- and in any accepted block that runs on the state that it left
   pub later : (cs : List Call) → KeepsAll (runState s l) cs → (l′ : Lent) → runNumber (leftBy (runState s l) cs) l′ ≡ 0 → LaterNear s l (leftBy (runState s l) cs) l′
 
-pub record FairRun (s : Equaliser) (l : Lent) : Type 0 where
-  pub number : Unblamed (runNumber s l)
-  pub accepted : runNumber s l ≡ 0 → Right s l
+pub record RunHolds (s : Equaliser) (l : Lent) : Type 0 where
+  pub number : StateAccepted (runNumber s l)
+  pub accepted : runNumber s l ≡ 0 → AcceptedBlock s l
   pub refused : (runNumber s l ≡ 0 → ⊥) → runState s l ≡ s
 
 -- what a save wrote loads as the state that was saved
-pub record FairSave (s : Equaliser) (buffer : List ℕ) : Type 0 where
-  pub number : Unblamed (saveNumber s buffer)
+pub record SaveHolds (s : Equaliser) (buffer : List ℕ) : Type 0 where
+  pub number : StateAccepted (saveNumber s buffer)
   pub accepted-back : loadNumber (image s) ≡ 0
   pub state-back : loadState (image s) ≡ s
 
 -- what was loaded saves to the same bytes
-pub record FairLoad (bytes : List ℕ) : Type 0 where
+pub record LoadHolds (bytes : List ℕ) : Type 0 where
   pub same : loadNumber bytes ≡ 0 → image (loadState bytes) ≡ bytes
 
-abbrev pub Fair : Equaliser → Call → Type 0
-Fair s (run l t) = FairRun s l
-Fair s (save buffer t) = FairSave s buffer
-Fair s (load bytes t) = FairLoad bytes
+abbrev pub CallHolds : Equaliser → Call → Type 0
+CallHolds s (run l t) = RunHolds s l
+CallHolds s (save buffer t) = SaveHolds s buffer
+CallHolds s (load bytes t) = LoadHolds bytes
 
 -- at every place of a list of calls
 abbrev pub Holds : Equaliser → List Call → Type 0
-Holds s [] = Good s
-Holds s (c ∷ cs) = Good s × (Fair s c × Holds (left s c) cs)
+Holds s [] = WithinLimits s
+Holds s (c ∷ cs) = WithinLimits s × (CallHolds s c × Holds (left s c) cs)

@@ -12,7 +12,7 @@ use Rattle.numbers.specs.Cut.{cut, raise}
 use Rattle.numbers.proofs.CutLaws.{cut-none}
 use Rattle.numbers.proofs.BitLengthLaws.{bit-length-le, bit-length-above}
 use Rattle.steps.specs.Error.{error, errorExponent}
-use Rattle.steps.specs.Sound.{Missable, Comparable}
+use Rattle.steps.specs.Sound.{ErrorBounds, DifferenceBounds}
 use Rattle.steps.proofs.OutputLaws.{error-exponent-form}
 
 pub exponent-kept : (ξ κ : ℕ) → κ ≤ ξ → errorExponent ξ κ ≡ ξ
@@ -23,12 +23,12 @@ pub error-kept : (v Y : ℤ) (ξ κ : ℕ) → κ ≤ ξ → error v Y ξ κ ≡
 unfolding error
 error-kept v Y ξ κ h = simp (le-ltb ξ κ h) (ap (λ (x : ℤ). raise v (30 - ξ) -ℤ x) (sym (cut-none Y)))
 
-pub length-most : {r s ξ : ℕ} {v y : ℤ} → Missable r s v y ξ → bitLength (natAbs v) ≤ r + 1
+pub length-most : {r s ξ : ℕ} {v y : ℤ} → ErrorBounds r s v y ξ → bitLength (natAbs v) ≤ r + 1
 length-most {r} {s} {ξ} {v} m = bit-length-le (natAbs v) (r + 1) (m .v-small)
 
 -- θ is at least the bit length and one
-pub comparable : {r s ξ : ℕ} {v y : ℤ} → Missable r s v y ξ → Comparable v y ξ (s + bitLength (natAbs v))
-comparable {r} {s} {ξ} {v} {y} m = record {
+pub difference-bounds : {r s ξ : ℕ} {v y : ℤ} → ErrorBounds r s v y ξ → DifferenceBounds v y ξ (s + bitLength (natAbs v))
+difference-bounds {r} {s} {ξ} {v} {y} m = record {
   y-small = m .y-small;
   ξ-most = omega (arith, m .ξ-most);
   κ-most = omega (arith, length-most m, m .r-most, m .scale-most);

@@ -40,8 +40,8 @@ adapt K (w ∷ ws) [] = w ∷ ws
 adapt K (w ∷ ws) (a ∷ b) = adapted K w a ∷ adapt K ws b
 
 -- step 6: the new weights of a side
-abbrev pub learnt : ℤ → Side → List ℤ
-learnt J f = adapt (raise J (f .scale)) (f .weights) (f .mantissas)
+abbrev pub newWeights : ℤ → Side → List ℤ
+newWeights J f = adapt (raise J (f .scale)) (f .weights) (f .mantissas)
 
 -- step 7: a weight has not reached the halving limit
 abbrev pub isSmall : ℤ → Bool

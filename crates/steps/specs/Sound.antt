@@ -28,7 +28,7 @@ pub record Adaptable (J : ℤ) (t : ℕ) (w a : List ℤ) : Type 0 where
   pub bound : natAbs J * largest (magnitudes a) < 2 ^ (29 + t)
 
 -- the sums of weights times samples and times symbols, and their exponents
-pub record Joinable (f h : ℤ) (g ν ψ : ℕ) : Type 0 where
+pub record OutputBounds (f h : ℤ) (g ν ψ : ℕ) : Type 0 where
   pub f-small : natAbs f < 2 ^ 28
   pub h-small : natAbs h * 2 ^ (15 - ν) < 2 ^ 28
   pub ψ-most : ψ ≤ 15
@@ -36,7 +36,7 @@ pub record Joinable (f h : ℤ) (g ν ψ : ℕ) : Type 0 where
   pub g-most : g ≤ 39
 
 -- a symbol beside an output
-pub record Missable (r s : ℕ) (v y : ℤ) (ξ : ℕ) : Type 0 where
+pub record ErrorBounds (r s : ℕ) (v y : ℤ) (ξ : ℕ) : Type 0 where
   pub r-most : r ≤ 3
   pub scale-least : 1 ≤ s
   pub scale-most : s ≤ 5
@@ -46,7 +46,7 @@ pub record Missable (r s : ℕ) (v y : ℤ) (ξ : ℕ) : Type 0 where
   pub ξ-most : ξ ≤ 24
 
 -- both with their exponents
-pub record Comparable (v y : ℤ) (ξ κ : ℕ) : Type 0 where
+pub record DifferenceBounds (v y : ℤ) (ξ κ : ℕ) : Type 0 where
   pub y-small : natAbs y < 2 ^ 29
   pub ξ-most : ξ ≤ 30
   pub κ-most : κ ≤ 30

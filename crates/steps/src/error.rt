@@ -5,9 +5,9 @@ ghost use lib.IntN.{natAbs, _-ℤ_};
 ghost use Rattle.numbers.specs.BitLength.{bitLength};
 ghost use Rattle.numbers.specs.Cut.{cut, raise};
 ghost use Rattle.steps.specs.Error.{error, errorExponent};
-ghost use Rattle.steps.specs.Sound.{Comparable, Missable};
+ghost use Rattle.steps.specs.Sound.{DifferenceBounds, ErrorBounds};
 
-pub struct Missed {
+pub struct ScaledError {
     pub z: i32,
     pub theta: u32,
 }
@@ -21,24 +21,24 @@ fn difference(v: i16, y: i32, up: u32, down: u32) -> i32
 }
 
 // At the larger of both exponents.
-fn compared(v: i16, y: i32, xi: u32, kappa: u32) -> Missed
-    requires { ⌜ Comparable v y xi kappa ⌝ }
+fn compared(v: i16, y: i32, xi: u32, kappa: u32) -> ScaledError
+    requires { ⌜ DifferenceBounds v y xi kappa ⌝ }
     ensures { λ m. ⌜ (m .z ≡ error v y xi kappa) × (m .theta ≡ errorExponent xi kappa) ⌝ }
 {
     let theta = super::exponent::larger(kappa, xi);
-    Missed {
+    ScaledError {
         z: difference(v, y, 30 - theta, theta - xi),
         theta: theta,
     }
 }
 
 // κ is at most S′ + r + 1: from there on ξ is no smaller, whatever v is.
-pub fn error(r: u32, sb: u32, v: i16, y: i32, xi: u32) -> Missed
-    requires { ⌜ Missable r sb v y xi ⌝ }
+pub fn error(r: u32, sb: u32, v: i16, y: i32, xi: u32) -> ScaledError
+    requires { ⌜ ErrorBounds r sb v y xi ⌝ }
     ensures { λ m. ⌜ (m .z ≡ error v y xi (sb + bitLength (natAbs v))) × (m .theta ≡ errorExponent xi (sb + bitLength (natAbs v))) ⌝ }
 {
     if sb + r + 1 <= xi {
-        Missed {
+        ScaledError {
             z: difference(v, y, 30 - xi, 0),
             theta: xi,
         }

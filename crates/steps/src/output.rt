@@ -4,9 +4,9 @@ ghost use Prim.Native.Nat.{_*_, _-_, _^_, _<_, _≤_, min};
 ghost use lib.IntN.{natAbs, _+ℤ_};
 ghost use Rattle.numbers.specs.Cut.{cut, raise};
 ghost use Rattle.steps.specs.Output.{output, outputExponent};
-ghost use Rattle.steps.specs.Sound.{Joinable};
+ghost use Rattle.steps.specs.Sound.{OutputBounds};
 
-pub struct Joined {
+pub struct ScaledOutput {
     pub y: i32,
     pub xi: u32,
 }
@@ -27,12 +27,12 @@ fn added(f: i32, h: i32, down: u32, up: u32) -> i32
 }
 
 // From the sum h of weights times symbols, so H = h·2^(15−ν). As γ ≤ 9, T(H·2^(ν−γ)) = h·2^(15−γ): nothing is cut off.
-pub fn output(f: i32, h: i32, g: u32, nu: u32, psi: u32) -> Joined
-    requires { ⌜ Joinable f h g nu psi ⌝ }
+pub fn output(f: i32, h: i32, g: u32, nu: u32, psi: u32) -> ScaledOutput
+    requires { ⌜ OutputBounds f h g nu psi ⌝ }
     ensures { λ r. ⌜ (r .y ≡ output f (raise h (15 - nu)) g nu) × (r .xi ≡ outputExponent psi g nu) ⌝ }
 {
     let over = super::exponent::larger(g, nu + 30);
-    Joined {
+    ScaledOutput {
         y: added(f, h, over - g, 45 - over),
         xi: psi + over - 30,
     }

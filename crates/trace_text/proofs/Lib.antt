@@ -6,4 +6,4 @@ pub mod WorkedExample
 pub mod BlockTextLaws
 pub mod TextLaws
 pub mod TraceLaws
-pub mod HeardLaws
+pub mod RunResultLaws

@@ -14,7 +14,7 @@ use Rattle.state.specs.declared.equaliser.Equaliser.{Equaliser}
 use Rattle.trace_text.specs.Trace.{traceLimit, settingsIn, countIn, samplesIn, wellFormed, lentAt}
 use Rattle.trace_text.specs.Text.{blockLines, stopLine, traceText, textLimit}
 use Rattle.trace_text.specs.Written.{Fronted}
-use Rattle.trace_text.specs.declared.blocks.Heard.{Heard}
+use Rattle.trace_text.specs.declared.blocks.RunResult.{RunResult}
 use Rattle.trace_text.specs.declared.blocks.Added.{Added}
 use Rattle.trace_text.specs.declared.Written.{Written}
 
@@ -48,13 +48,13 @@ pub record Runnable (t : List ℕ) (e : Equaliser) (first start : ℕ) : Type 0 
   pub start-is : start ≡ 12 + 3 * samplesIn t
 
 -- Y, ξ and decision of an accepted block, which can be printed
-pub record Handed (e : Equaliser) (i : Block) (place : ℕ) (r : Heard) : Type 0 where
+pub record Handed (e : Equaliser) (i : Block) (place : ℕ) (r : RunResult) : Type 0 where
   pub y-is : take (e .n) (r .y) ≡ handedY (settings e) (memory e) i
   pub xi-is : take (e .n) (r .xi) ≡ handedξ (settings e) (memory e) i
   pub decision-is : take (e .n) (r .decision) ≡ handedDecision (settings e) (memory e) i
   pub printable : AllPrintable place (take (e .n) (r .y)) (take (e .n) (r .xi)) (take (e .n) (r .decision))
 
-pub record Heard-is (e : Equaliser) (l : Lent) (place : ℕ) (r : Heard) : Type 0 where
+pub record RunResult-is (e : Equaliser) (l : Lent) (place : ℕ) (r : RunResult) : Type 0 where
   pub number : r .number ≡ runNumber e l
   pub state : r .state ≡ runState e l
   pub handed : r .number ≡ 0 → Handed e (block l) place r

@@ -2,11 +2,11 @@
 ghost use Rattle.trace_text.specs.Text.{textFrom};
 ghost use Rattle.trace_text.specs.Trace.{countIn, lentAt};
 ghost use Rattle.trace_text.specs.Written.{Fronted};
-ghost use Rattle.trace_text.specs.Calls.{Runnable, Heard-is, Blockable, Added-is, Traceable};
+ghost use Rattle.trace_text.specs.Calls.{Runnable, RunResult-is, Blockable, Added-is, Traceable};
 use state::equaliser::Equaliser;
 
 // A block that was run: the number and the state it answers, and Y, ξ and decision at the front of work areas.
-pub struct Heard {
+pub struct RunResult {
     pub number: u8,
     pub state: Equaliser,
     pub y: [i32; 128],
@@ -22,9 +22,9 @@ pub struct Added {
 }
 
 // The block whose first sample has this place.
-pub fn run_block(t: &[u8], e: Equaliser, first: usize, start: usize) -> Heard
+pub fn run_block(t: &[u8], e: Equaliser, first: usize, start: usize) -> RunResult
     requires { ⌜ Runnable (now t) e first start ⌝ }
-    ensures { λ r. ⌜ Heard-is e (lentAt (now (t .entry)) first) first r ⌝ }
+    ensures { λ r. ⌜ RunResult-is e (lentAt (now (t .entry)) first) first r ⌝ }
 {
     let n = e.n as usize;
     let m = super::read::samples(t, first, n);
@@ -48,7 +48,7 @@ pub fn run_block(t: &[u8], e: Equaliser, first: usize, start: usize) -> Heard
     );
     let number = a.number;
     let state = a.state;
-    Heard {
+    RunResult {
         number: number,
         state: state,
         y: y,
@@ -64,22 +64,22 @@ pub fn block_text(t: &[u8], e: Equaliser, i: usize, start: usize, out: &mut [u8]
 {
     let n = e.n as usize;
     let first = i * n;
-    let heard = run_block(t, e, first, start);
-    let number = heard.number;
+    let result = run_block(t, e, first, start);
+    let number = result.number;
     if number != 0 {
         let length = super::line::stop_line(number, i as u32, out);
-        let state = heard.state;
+        let state = result.state;
         return Added {
             number: number,
             length: length,
             state: state,
         };
     }
-    let y = heard.y;
-    let xi = heard.xi;
-    let decision = heard.decision;
+    let y = result.y;
+    let xi = result.xi;
+    let decision = result.decision;
     let length = super::line::lines(first as u32, &y[..n], &xi[..n], &decision[..n], out);
-    let state = heard.state;
+    let state = result.state;
     Added {
         number: 0,
         length: length,

@@ -69,7 +69,7 @@ step-requires c κs =
     let d = c .before .before .before .before in
     let s = start d in
     let a = s .args in
-    rw (window-part (a .k .p) (a .n) (a .line .now) (s .pre .room), past-part (a .k .q) (a .n) (a .marks .now) (s .pre .marks-long) (s .pre .room), entry-is d) (s .pre .ready, s .pre .aged)
+    rw (window-part (a .k .p) (a .n) (a .line .now) (s .pre .room), past-part (a .k .q) (a .n) (a .marks .now) (s .pre .marks-long) (s .pre .room), entry-is d) (s .pre .ready, s .pre .longest-at)
 
 same-length : tie.Need-same-length
 same-length c = search needs

@@ -1,4 +1,4 @@
--- The scale counts, the bit length of the loudest sample, and the larger of it and the one before.
+-- The scale counts, the bit length of the received-bits sample, and the larger of it and the one before.
 use mathlib.Core.Path.{_≡_, ap, ap₂, _∙_}
 use Prim.Native.Nat.{ℕ, _+_, _≤_, max}
 use native.Mathlib.Omega.{arith}
@@ -21,8 +21,8 @@ cast-scale-count-2 c = search needs
 scale-count-requires-2 : tie.Need-scale-count-requires-2
 scale-count-requires-2 c κs = search needs
 
-loudest-requires : tie.Need-loudest-requires
-loudest-requires c κs = search needs
+received-bits-requires : tie.Need-received-bits-requires
+received-bits-requires c κs = search needs
 
 cast-bit-length : tie.Need-cast-bit-length
 cast-bit-length c = search needs
@@ -34,20 +34,20 @@ larger-requires : tie.Need-larger-requires
 larger-requires c κs = search needs
 
 -- the places of the calls
-abbrev loud : tie.After-larger → tie.After-loudest
+abbrev loud : tie.After-larger → tie.After-received-bits
 loud c = c .before .before
 
-abbrev scaled : tie.After-loudest → tie.After-scale-count
+abbrev scaled : tie.After-received-bits → tie.After-scale-count
 scaled c = c .before .before .before
 
-abbrev start : tie.After-loudest → tie.Start
+abbrev start : tie.After-received-bits → tie.Start
 start c = scaled c .before .before .before
 
 length-is : (c : tie.After-larger) → c .before .bit-length .result ≡ blockLength (start (loud c) .args .m .now) (start (loud c) .args .gains .now)
-length-is c = c .before .bit-length .ensures ∙ loud c .loudest .ensures
+length-is c = c .before .bit-length .ensures ∙ loud c .received-bits .ensures
 
 length-most : (c : tie.After-larger) → c .before .bit-length .result ≤ 64
-length-most c = omega (arith, c .before .bit-length .ensures, bit-length-le (loud c .loudest .result) 64 (omega (arith, loud c .loudest .ok)))
+length-most c = omega (arith, c .before .bit-length .ensures, bit-length-le (loud c .received-bits .result) 64 (omega (arith, loud c .received-bits .ok)))
 
 larger-most : (c : tie.After-larger) → c .larger .result ≤ 64
 larger-most c = omega (arith, c .larger .ensures, length-most c, start (loud c) .pre .was-most)
@@ -89,7 +89,7 @@ begin-spec =
     scale-count-requires
     cast-scale-count-2
     scale-count-requires-2
-    loudest-requires
+    received-bits-requires
     cast-bit-length
     bit-length-requires
     larger-requires

@@ -16,21 +16,21 @@ use Rattle.block.specs.Block.{Block, Memory}
 use Rattle.filter.specs.Calls.{settingsOf}
 use Rattle.block.specs.Calls.{blockOf, memoryOf, Runnable}
 use Rattle.block.proofs.LineLaws.{lined-old}
-use Rattle.block.proofs.RunStart.{Begun-as, begun-as, Line-is, line-is, lent-long, startable, window-storable, window-most, places-most, block-storable, place-fits, before-last, within-line, age-fits, next-fits, fewer}
+use Rattle.block.proofs.RunStart.{Begun-as, begun-as, Line-is, line-is, lent-long, startable, window-storable, window-most, places-most, block-storable, place-fits, before-last, within-line, delay-fits, next-fits, fewer}
 use Rattle.block.proofs.RunLaws.{Work, Passed, Given, passed-none, passed-next, same-lengths, advanceable, stopped, ran}
 use Rattle.block.proofs.run.run.Statement.{statement}
 use Rattle.block.proofs.run.run.Tie as tie
 
 -- for the window as it was lent
 abbrev Inv-loop : tie.InvT-loop
-Inv-loop k psi b big m gains entries forward₀ back₀ samples symbols e line marks₀ y₀ xi₀ decision₀ z₀ theta₀ at₀ age₀ n₀ forward back marks y xi decision z theta at age n =
+Inv-loop k psi b big m gains entries forward₀ back₀ samples symbols e line marks₀ y₀ xi₀ decision₀ z₀ theta₀ at₀ age₀ n₀ forward back marks y xi decision z theta at delay n =
     (window : List ℤ) → Runnable (settingsOf k) (memoryOf forward₀ back₀ window symbols psi b big) (blockOf m gains entries) window →
     Line-is (settingsOf k) (memoryOf forward₀ back₀ window symbols psi b big) (blockOf m gains entries) line →
     Passed (settingsOf k) (memoryOf forward₀ back₀ window symbols psi b big) (blockOf m gains entries)
-    (record { n = n; forward = forward; back = back; marks = marks; ψ = at; age = age; y = y; xi = xi; decisions = decision; z = z; theta = theta })
+    (record { n = n; forward = forward; back = back; marks = marks; ψ = at; delay = delay; y = y; xi = xi; decisions = decision; z = z; theta = theta })
 
 abbrev μ-loop : tie.MeasureT-loop
-μ-loop k psi b big m gains entries forward₀ back₀ samples symbols e line marks₀ y₀ xi₀ decision₀ z₀ theta₀ at₀ age₀ n₀ forward back marks y xi decision z theta at age n =
+μ-loop k psi b big m gains entries forward₀ back₀ samples symbols e line marks₀ y₀ xi₀ decision₀ z₀ theta₀ at₀ age₀ n₀ forward back marks y xi decision z theta at delay n =
     length m - n
 
 -- the settings, the block, and the memory with a given window
@@ -123,7 +123,7 @@ origin c = start (opening (c .before))
 abbrev work : tie.At-loop Inv-loop μ-loop → Work
 work c =
     let l = c .loop in
-    record { n = l .n; forward = l .forward; back = l .back; marks = l .marks; ψ = l .at; age = l .age; y = l .y; xi = l .xi; decisions = l .decision; z = l .z; theta = l .theta }
+    record { n = l .n; forward = l .forward; back = l .back; marks = l .marks; ψ = l .at; delay = l .delay; y = l .y; xi = l .xi; decisions = l .decision; z = l .z; theta = l .theta }
 
 -- on the window that was lent
 passed : (c : tie.At-loop Inv-loop μ-loop) → let s = origin c in Passed (settings s) (memory s (lent s)) (block s) (work c)
@@ -218,21 +218,21 @@ array-set-from-z c = room (turned c)
 array-write-theta : tie.Need-array-write-theta Inv-loop μ-loop
 array-write-theta c = room (turned c)
 
--- the symbol that was written, and the age after it
+-- the symbol that was written, and the delay after it
 
-sub-older : tie.Need-sub-older Inv-loop μ-loop
-sub-older c = let h = room (turned c) in omega arith
+sub-next-delay : tie.Need-sub-next-delay Inv-loop μ-loop
+sub-next-delay c = let h = room (turned c) in omega arith
 
-mul-older : tie.Need-mul-older Inv-loop μ-loop
-mul-older c = let n = turned c .before .loop .n in place-fits (127 - n) 2 (before-last n) (lit< tt)
+mul-next-delay : tie.Need-mul-next-delay Inv-loop μ-loop
+mul-next-delay c = let n = turned c .before .loop .n in place-fits (127 - n) 2 (before-last n) (lit< tt)
 
-array-copy-out-older : tie.Need-array-copy-out-older Inv-loop μ-loop
-array-copy-out-older c = within-line (turned c .before .loop .n)
+array-copy-out-next-delay : tie.Need-array-copy-out-next-delay Inv-loop μ-loop
+array-copy-out-next-delay c = within-line (turned c .before .loop .n)
 
-older-requires : tie.Need-older-requires Inv-loop μ-loop
-older-requires c κs = let t = turned (c .before) in age-fits (room t) (passed (t .before) .age-most)
+next-delay-requires : tie.Need-next-delay-requires Inv-loop μ-loop
+next-delay-requires c κs = let t = turned (c .before) in delay-fits (room t) (passed (t .before) .delay-most)
 
-abbrev stored : tie.After-older Inv-loop μ-loop → tie.After-struct-told3 Inv-loop μ-loop
+abbrev stored : tie.After-next-delay Inv-loop μ-loop → tie.After-struct-told3 Inv-loop μ-loop
 stored c = c .before .before
 
 add-n : tie.Need-add-n Inv-loop μ-loop
@@ -255,7 +255,7 @@ loop-again c w run line =
     (kept w8 (r .decision) (omega (arith, d .before .struct-told2 .given)))
     (kept w32 (r .z) (omega (arith, d .struct-told3 .given)))
     (d .before .before .before .if1 .left)
-    (kept w16 _ (c .before .older-arg .given)) (c .older .ensures)
+    (kept w16 _ (c .before .next-delay-arg .given)) (c .next-delay .ensures)
 
 -- ---- after the last sample
 
@@ -332,10 +332,10 @@ run-spec =
     mul-z
     array-set-from-z
     array-write-theta
-    sub-older
-    mul-older
-    array-copy-out-older
-    older-requires
+    sub-next-delay
+    mul-next-delay
+    array-copy-out-next-delay
+    next-delay-requires
     add-n
     loop-less
     loop-again

@@ -7,22 +7,22 @@ use mir.Val.{toZ, ofZ}
 use borrow.Author.Needs.{needs}
 use Rattle.laws.specs.Machine.{kept}
 use Rattle.steps.proofs.LargestLaws.{or-bit-length}
-use Rattle.filter.specs.Calls.{taughtForward, taughtBack}
+use Rattle.filter.specs.Calls.{updatedForward, updatedBack}
 use Rattle.filter.proofs.SampleLaws.{settled-of}
 use Rattle.filter.proofs.sample.change.Statement.{statement}
 use Rattle.filter.proofs.sample.change.Tie as tie
 
-learn-requires : tie.Need-learn-requires
-learn-requires c κs = search needs
+update-requires : tie.Need-update-requires
+update-requires c κs = search needs
 
-add-learn : tie.Need-add-learn
-add-learn c = search needs
+add-update : tie.Need-add-update
+add-update c = search needs
 
-sub-learn : tie.Need-sub-learn
-sub-learn c = search needs
+sub-update : tie.Need-sub-update
+sub-update c = search needs
 
-learn-requires-2 : tie.Need-learn-requires-2
-learn-requires-2 c κs = search needs
+update-requires-2 : tie.Need-update-requires-2
+update-requires-2 c κs = search needs
 
 same-length : tie.Need-same-length
 same-length c = search needs
@@ -31,28 +31,28 @@ same-length-2 : tie.Need-same-length-2
 same-length-2 c = search needs
 
 -- the places of the calls, from the end
-abbrev second : tie.After-back2 → tie.After-learn2
+abbrev second : tie.After-back2 → tie.After-update2
 second c = c .before .before .before .before .before .before
 
-abbrev first : tie.After-learn2 → tie.After-learn
+abbrev first : tie.After-update2 → tie.After-update
 first c = c .before .before .before
 
-abbrev start : tie.After-learn → tie.Start
+abbrev start : tie.After-update → tie.Start
 start c = c .before .before .before
 
 settle-requires : tie.Need-settle-requires
 settle-requires c κs =
     let d = c .before .before .before in
-    (start (first d) .pre .ahead .ψ-most, or-bit-length (first d .learn .result) (d .learn2 .result) ∙ ap₂ max (first d .learn .ensures .1) (d .learn2 .ensures .1))
+    (start (first d) .pre .ahead .ψ-most, or-bit-length (first d .update .result) (d .update2 .result) ∙ ap₂ max (first d .update .ensures .1) (d .update2 .ensures .1))
 
-error-kept : (c : tie.After-learn) → toZ w32 (ofZ w32 (start c .args .j .z)) ≡ start c .args .j .z
+error-kept : (c : tie.After-update) → toZ w32 (ofZ w32 (start c .args .j .z)) ≡ start c .args .j .z
 error-kept c = kept w32 (start c .args .j .z) (omega (arith, c .before .before .struct-told .given))
 
-ahead : (c : tie.After-learn) → let a = start c .args in c .learn .last .0 ≡ taughtForward (a .m) (a .s) (a .g) (a .psi) (a .j) (a .forward .now) (a .samples .now)
-ahead c = c .learn .ensures .0 ∙ rw (error-kept c)
+ahead : (c : tie.After-update) → let a = start c .args in c .update .last .0 ≡ updatedForward (a .m) (a .s) (a .g) (a .psi) (a .j) (a .forward .now) (a .samples .now)
+ahead c = c .update .ensures .0 ∙ rw (error-kept c)
 
-behind : (c : tie.After-learn2) → let a = start (first c) .args in c .learn2 .last .0 ≡ taughtBack (a .m) (a .sb) (a .h .nu) (a .psi) (a .j) (a .back .now) (a .symbols .now)
-behind c = c .learn2 .ensures .0 ∙ rw (error-kept (first c))
+behind : (c : tie.After-update2) → let a = start (first c) .args in c .update2 .last .0 ≡ updatedBack (a .m) (a .sb) (a .h .nu) (a .psi) (a .j) (a .back .now) (a .symbols .now)
+behind c = c .update2 .ensures .0 ∙ rw (error-kept (first c))
 
 returns : tie.Need-returns
 returns c = settled-of (ahead (first (second c))) (behind (second c)) (c .before .before .settle .ensures)
@@ -61,10 +61,10 @@ pub change-spec : {M : Type 1} → statement M
 change-spec =
     tie.close
     (tie.spec
-    learn-requires
-    add-learn
-    sub-learn
-    learn-requires-2
+    update-requires
+    add-update
+    sub-update
+    update-requires-2
     settle-requires
     same-length
     same-length-2

@@ -1,6 +1,6 @@
 -- A symbol of the largest bit length that there can be, or a search.
 use borrow.Author.Needs.{needs}
-use Rattle.filter.proofs.AgeLaws.{reached}
+use Rattle.filter.proofs.DelayLaws.{reached}
 use Rattle.filter.proofs.sample.reach.Statement.{statement}
 use Rattle.filter.proofs.sample.reach.Tie as tie
 

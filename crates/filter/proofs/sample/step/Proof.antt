@@ -13,7 +13,7 @@ use borrow.Author.Needs.{needs}
 use Rattle.laws.specs.Machine.{kept}
 use Rattle.steps.specs.Settings.{Settings}
 use Rattle.filter.specs.Sample.{Taps}
-use Rattle.filter.specs.Calls.{settingsOf, tapsOf, Reachable, Audible, Heard-is, Changeable}
+use Rattle.filter.specs.Calls.{settingsOf, tapsOf, SymbolBounds, FilterBounds, Output-is, ChangeBounds}
 use Rattle.filter.proofs.SampleLaws.{first-place, past, past-kept}
 use Rattle.filter.proofs.StepLaws as L
 use Rattle.filter.proofs.sample.step.Statement.{statement}
@@ -27,13 +27,13 @@ abbrev taps : tie.Start → Taps
 taps c = tapsOf (c .args .forward .now) (c .args .back .now) (c .args .samples .now) (drop 1 (c .args .symbols .now)) (c .args .psi)
 
 -- the places of the calls
-abbrev start : tie.After-hear → tie.Start
+abbrev start : tie.After-filter-output → tie.Start
 start c = c .before .before .before .before .before
 
-abbrev hearing : tie.After-judge → tie.After-hear
-hearing c = c .before .before
+abbrev put-out : tie.After-decision-error → tie.After-filter-output
+put-out c = c .before .before
 
-abbrev written : tie.After-change-arg3 → tie.After-judge
+abbrev written : tie.After-change-arg3 → tie.After-decision-error
 written c = c .before .before .before .before .before
 
 -- ---- the symbols
@@ -44,54 +44,54 @@ room s = first-place (settings s .q) (s .args .symbols .now) (s .pre .0 .fit .sy
 room-kept : (s : tie.Start) (v : ℤ) → 1 ≤ length (set (s .args .symbols .now) 0 v)
 room-kept s v = omega (arith, length-set (s .args .symbols .now) 0 v, room s)
 
-symbol-kept : (c : tie.After-struct-told2) → let v = c .before .judge .result .v in toZ w16 (ofZ w16 v) ≡ v
-symbol-kept c = kept w16 (c .before .judge .result .v) (omega (arith, c .struct-told2 .given))
+symbol-kept : (c : tie.After-struct-told2) → let v = c .before .decision-error .result .v in toZ w16 (ofZ w16 v) ≡ v
+symbol-kept c = kept w16 (c .before .decision-error .result .v) (omega (arith, c .struct-told2 .given))
 
 -- ---- what the code asks
 
-sub-hear : tie.Need-sub-hear
-sub-hear c = room (c .before .before)
+sub-filter-output : tie.Need-sub-filter-output
+sub-filter-output c = room (c .before .before)
 
-part-hear-start : tie.Need-part-hear-start
-part-hear-start c = room (c .before .before .before)
+part-filter-output-start : tie.Need-part-filter-output-start
+part-filter-output-start c = room (c .before .before .before)
 
-part-hear-end : tie.Need-part-hear-end
-part-hear-end c = search needs
+part-filter-output-end : tie.Need-part-filter-output-end
+part-filter-output-end c = search needs
 
-hear-requires : tie.Need-hear-requires
-hear-requires c κs =
+filter-output-requires : tie.Need-filter-output-requires
+filter-output-requires c κs =
     let s = c .before .before .before .before in
     let a = s .args in
-    subst (λ (l : List ℤ). Audible (a .sb) (a .g) (a .psi) (a .forward .now) (a .back .now) (a .samples .now) l × Reachable (a .k .r) (a .age) l) (sym (past (a .symbols .now)))
-    (L.audible (settings s) (a .s) (a .sb) (a .g) (taps s) (a .entry) (s .pre .0), L.reachable (settings s) (a .s) (a .sb) (a .g) (taps s) (a .entry) (s .pre .0) (s .pre .1))
+    subst (λ (l : List ℤ). FilterBounds (a .sb) (a .g) (a .psi) (a .forward .now) (a .back .now) (a .samples .now) l × SymbolBounds (a .k .r) (a .delay) l) (sym (past (a .symbols .now)))
+    (L.filter-bounds (settings s) (a .s) (a .sb) (a .g) (taps s) (a .entry) (s .pre .0), L.symbol-bounds (settings s) (a .s) (a .sb) (a .g) (taps s) (a .entry) (s .pre .0) (s .pre .1))
 
-heard : (c : tie.After-hear) → let s = start c in L.Heard-as (settings s) (s .args .s) (s .args .sb) (s .args .g) (taps s) (s .args .entry) (s .pre .0) (c .hear .result)
-heard c =
+given-output : (c : tie.After-filter-output) → let s = start c in L.Output-as (settings s) (s .args .s) (s .args .sb) (s .args .g) (taps s) (s .args .entry) (s .pre .0) (c .filter-output .result)
+given-output c =
     let s = start c in
     let a = s .args in
-    L.heard-as (settings s) (a .s) (a .sb) (a .g) (taps s) (a .entry) (s .pre .0) (c .hear .result)
-    (subst (λ (l : List ℤ). Heard-is (a .sb) (a .g) (a .psi) (a .forward .now) (a .back .now) (a .samples .now) l (c .hear .result)) (past (a .symbols .now)) (c .hear .ensures))
+    L.output-as (settings s) (a .s) (a .sb) (a .g) (taps s) (a .entry) (s .pre .0) (c .filter-output .result)
+    (subst (λ (l : List ℤ). Output-is (a .sb) (a .g) (a .psi) (a .forward .now) (a .back .now) (a .samples .now) l (c .filter-output .result)) (past (a .symbols .now)) (c .filter-output .ensures))
 
-judge-requires : tie.Need-judge-requires
-judge-requires c κs =
+decision-error-requires : tie.Need-decision-error-requires
+decision-error-requires c κs =
     let s = start (c .before) in
-    rw (kept w32 (c .before .hear .result .y) (omega (arith, c .struct-told .given)), toZ-ofZ (s .fits .entry))
-    (L.decidable (settings s) (s .args .s) (s .args .sb) (s .args .g) (taps s) (s .args .entry) (s .pre .0) (c .before .hear .result) (heard (c .before)))
+    rw (kept w32 (c .before .filter-output .result .y) (omega (arith, c .struct-told .given)), toZ-ofZ (s .fits .entry))
+    (L.decision-bounds (settings s) (s .args .s) (s .args .sb) (s .args .g) (taps s) (s .args .entry) (s .pre .0) (c .before .filter-output .result) (given-output (c .before)))
 
-judged : (c : tie.After-judge) → let s = start (hearing c) in L.Judged-as (settings s) (s .args .s) (s .args .sb) (s .args .g) (taps s) (s .args .entry) (s .pre .0) (c .judge .result)
-judged c =
-    let s = start (hearing c) in
-    L.judged-as (settings s) (s .args .s) (s .args .sb) (s .args .g) (taps s) (s .args .entry) (s .pre .0) (hearing c .hear .result) (c .judge .result) (heard (hearing c))
-    (rw (kept w32 (hearing c .hear .result .y) (omega (arith, c .before .struct-told .given)), toZ-ofZ (s .fits .entry)) at (c .judge .ensures))
+decided : (c : tie.After-decision-error) → let s = start (put-out c) in L.Decision-as (settings s) (s .args .s) (s .args .sb) (s .args .g) (taps s) (s .args .entry) (s .pre .0) (c .decision-error .result)
+decided c =
+    let s = start (put-out c) in
+    L.decision-as (settings s) (s .args .s) (s .args .sb) (s .args .g) (taps s) (s .args .entry) (s .pre .0) (put-out c .filter-output .result) (c .decision-error .result) (given-output (put-out c))
+    (rw (kept w32 (put-out c .filter-output .result .y) (omega (arith, c .before .struct-told .given)), toZ-ofZ (s .fits .entry)) at (c .decision-error .ensures))
 
 slice-set-from-v : tie.Need-slice-set-from-v
-slice-set-from-v c = room (start (hearing (c .before)))
+slice-set-from-v c = room (start (put-out (c .before)))
 
 sub-change : tie.Need-sub-change
-sub-change c = room-kept (start (hearing (c .before .before .before))) _
+sub-change c = room-kept (start (put-out (c .before .before .before))) _
 
 part-change-start : tie.Need-part-change-start
-part-change-start c = room-kept (start (hearing (c .before .before .before .before))) _
+part-change-start c = room-kept (start (put-out (c .before .before .before .before))) _
 
 part-change-end : tie.Need-part-change-end
 part-change-end c = search needs
@@ -99,11 +99,11 @@ part-change-end c = search needs
 change-requires : tie.Need-change-requires
 change-requires c κs =
     let j = written c in
-    let s = start (hearing j) in
+    let s = start (put-out j) in
     let a = s .args in
-    subst (λ (l : List ℤ). Changeable (a .k .m) (a .s) (a .sb) (a .g) (a .psi) (hearing j .hear .result) (j .judge .result) (a .forward .now) (a .back .now) (a .samples .now) l)
+    subst (λ (l : List ℤ). ChangeBounds (a .k .m) (a .s) (a .sb) (a .g) (a .psi) (put-out j .filter-output .result) (j .decision-error .result) (a .forward .now) (a .back .now) (a .samples .now) l)
     (sym (past-kept (a .symbols .now) _))
-    (L.changeable (settings s) (a .s) (a .sb) (a .g) (taps s) (a .entry) (s .pre .0) (hearing j .hear .result) (j .judge .result) (heard (hearing j)) (judged j))
+    (L.change-bounds (settings s) (a .s) (a .sb) (a .g) (taps s) (a .entry) (s .pre .0) (put-out j .filter-output .result) (j .decision-error .result) (given-output (put-out j)) (decided j))
 
 -- the place before the change
 abbrev changing : tie.After-back → tie.After-change-arg3
@@ -112,8 +112,8 @@ changing c = c .before .before .before
 hand-out-requires : tie.Need-hand-out-requires
 hand-out-requires c κs =
     let j = written (changing c) in
-    let s = start (hearing j) in
-    L.handable (settings s) (s .args .s) (s .args .sb) (s .args .g) (taps s) (s .args .entry) (s .pre .0) (hearing j .hear .result) (j .judge .result) (heard (hearing j)) (judged j)
+    let s = start (put-out j) in
+    L.handable (settings s) (s .args .s) (s .args .sb) (s .args .g) (taps s) (s .args .entry) (s .pre .0) (put-out j .filter-output .result) (j .decision-error .result) (given-output (put-out j)) (decided j)
 
 same-length : tie.Need-same-length
 same-length c = search needs
@@ -128,9 +128,9 @@ returns : tie.Need-returns
 returns c =
     let d = changing (c .before) in
     let j = written d in
-    let s = start (hearing j) in
+    let s = start (put-out j) in
     let a = s .args in
-    L.taken-as (settings s) (a .s) (a .sb) (a .g) (taps s) (a .entry) (s .pre .0) (hearing j .hear .result) (j .judge .result) (heard (hearing j)) (judged j)
+    L.result-as (settings s) (a .s) (a .sb) (a .g) (taps s) (a .entry) (s .pre .0) (put-out j .filter-output .result) (j .decision-error .result) (given-output (put-out j)) (decided j)
     _ _ _ _ _ (c .before .before .before .change .ensures) (past-kept (a .symbols .now) _)
     (set-split (a .symbols .now) 0 _ (room s) ∙ ap (λ (x : ℤ). x ∷ drop 1 (a .symbols .now)) (symbol-kept (d .before .before .before .before)))
     (c .hand-out .result) (c .hand-out .ensures)
@@ -139,11 +139,11 @@ pub step-spec : {M : Type 1} → statement M
 step-spec =
     tie.close
     (tie.spec
-    sub-hear
-    part-hear-start
-    part-hear-end
-    hear-requires
-    judge-requires
+    sub-filter-output
+    part-filter-output-start
+    part-filter-output-end
+    filter-output-requires
+    decision-error-requires
     slice-set-from-v
     sub-change
     part-change-start

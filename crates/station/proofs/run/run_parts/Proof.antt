@@ -36,8 +36,8 @@ behind c = c .run .last .1 .1 .1 .1 .1 .1 .1 .1 .0
 abbrev window : tie.After-run → List ℤ
 window c = c .run .last .1 .1 .1 .1 .1 .1 .1 .1 .1 .0
 
-abbrev heard : tie.After-run → List ℤ
-heard c = c .run .last .1 .1 .1 .1 .1 .1 .1 .1 .1 .1 .0
+abbrev recent : tie.After-run → List ℤ
+recent c = c .run .last .1 .1 .1 .1 .1 .1 .1 .1 .1 .1 .0
 
 long : (c : tie.After-run-arg4) → let s = start c in R.Long (state s) (block s) (s .args .forward .now) (s .args .back .now) (s .args .window .now) (s .args .symbols .now) (s .pre)
 long c = R.long _ _ _ _ _ _ (start c .pre)
@@ -72,10 +72,10 @@ run-requires c κs = R.runnable _ _ _ _ _ _ (start c .pre)
 -- ---- after the run
 
 ran-is : (c : tie.After-run) → let s = start (c .before) in
-    Ran-is (settings (state s)) (memory (state s)) (block s) (c .run .result) (ahead c) (behind c) (window c) (heard c)
+    Ran-is (settings (state s)) (memory (state s)) (block s) (c .run .result) (ahead c) (behind c) (window c) (recent c)
 ran-is c =
     let s = start (c .before) in
-    subst (λ (o : Memory). Ran-is (settings (state s)) o (block s) (c .run .result) (ahead c) (behind c) (window c) (heard c))
+    subst (λ (o : Memory). Ran-is (settings (state s)) o (block s) (c .run .result) (ahead c) (behind c) (window c) (recent c))
     (R.memory-is (state s) (block s) _ _ _ _ (s .pre)) (c .run .ensures)
 
 window-long : (c : tie.After-run) → length (window c) ≡ state (start (c .before)) .p
@@ -94,7 +94,7 @@ weights-room c =
       w .q-most,
     )
 
-past-room : (c : tie.After-run) (n : ℕ) → n ≡ length (window c) → n + length (heard c) ≤ 32
+past-room : (c : tie.After-run) (n : ℕ) → n ≡ length (window c) → n + length (recent c) ≤ 32
 past-room c n e =
     let w = start (c .before) .pre .checked .sound .within in
     omega (arith, window-long c, c .run .kept .1 .1 .1 .1 .1 .1 .1 .1 .1 .1 .0, long (c .before) .symbols-long, w .p-most, w .q-most)

@@ -8,7 +8,7 @@ use mir.Facts.{toZ-ofZ, sfits-widen}
 use borrow.Author.Needs.{needs}
 use Rattle.laws.specs.Machine.{kept}
 use Rattle.numbers.specs.BitLength.{bitLength}
-use Rattle.steps.proofs.ErrorLaws.{exponent-kept, error-kept, length-most, comparable}
+use Rattle.steps.proofs.ErrorLaws.{exponent-kept, error-kept, length-most, difference-bounds}
 use Rattle.steps.proofs.error.error.Statement.{statement}
 use Rattle.steps.proofs.error.error.Tie as tie
 
@@ -29,7 +29,7 @@ kappa-most : (c : tie.Then1) → kappa (c .before) ≤ c .before .args .xi
 kappa-most c = omega (arith, length-most (c .before .pre), c .if1 .taken)
 
 room : (c : tie.Then1) → natAbs (c .before .args .v) * 2 ^ (30 - c .before .args .xi) ≤ 2 ^ 29
-room c = rw (← exponent-kept (c .before .args .xi) (kappa (c .before)) (kappa-most c)) (comparable (c .before .pre) .room)
+room c = rw (← exponent-kept (c .before .args .xi) (kappa (c .before)) (kappa-most c)) (difference-bounds (c .before .pre) .room)
 
 difference-requires : tie.Need-difference-requires
 difference-requires c κs =
@@ -46,11 +46,11 @@ length-is c =
     c .signed-bit-length .ensures ∙ simp (toZ-ofZ (c .before .before .fits .v), toZ-ofZ {w = w64} (sfits-widen tt (c .before .before .fits .v)))
 
 add-compared : tie.Need-add-compared
-add-compared c = record { fits = omega (arith, length-is c, comparable (c .before .before .pre) .κ-most) }
+add-compared c = record { fits = omega (arith, length-is c, difference-bounds (c .before .before .pre) .κ-most) }
 
 compared-requires : tie.Need-compared-requires
 compared-requires c κs =
-    simp (toZ-ofZ (c .before .before .fits .v), toZ-ofZ (c .before .before .fits .y), length-is c) (comparable (c .before .before .pre))
+    simp (toZ-ofZ (c .before .before .fits .v), toZ-ofZ (c .before .before .fits .y), length-is c) (difference-bounds (c .before .before .pre))
 
 returns : tie.Need-returns
 returns c =

@@ -9,7 +9,7 @@ use borrow.Author.Needs.{needs}
 use Rattle.trace_text.specs.Trace.{lentAt}
 use Rattle.trace_text.specs.Calls.{Blockable}
 use Rattle.trace_text.proofs.BlockTextLaws.{run-most}
-use Rattle.trace_text.proofs.HeardLaws.{block-within, block-runnable, added-stop, added-lines}
+use Rattle.trace_text.proofs.RunResultLaws.{block-within, block-runnable, added-stop, added-lines}
 use Rattle.trace_text.proofs.blocks.block_text.Statement.{statement}
 use Rattle.trace_text.proofs.blocks.block_text.Tie as tie
 

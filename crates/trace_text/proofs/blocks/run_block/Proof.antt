@@ -10,7 +10,7 @@ use Rattle.checks.specs.Calls.{lentOf}
 use Rattle.trace_text.specs.Trace.{byteAt, lentAt}
 use Rattle.trace_text.specs.Calls.{Runnable}
 use Rattle.block.proofs.ValuesLaws.{values-length}
-use Rattle.trace_text.proofs.HeardLaws.{zeros, lent-is, sampled, heard}
+use Rattle.trace_text.proofs.RunResultLaws.{zeros, lent-is, sampled, result}
 use Rattle.trace_text.proofs.blocks.run_block.Statement.{statement}
 use Rattle.trace_text.proofs.blocks.run_block.Tie as tie
 
@@ -124,7 +124,7 @@ returns c =
     let r = read w in
     let s = start r in
     let rest = drop (N r) (replicate 128 (pos 0)) in
-    heard (s .args .e) (lentAt (s .args .t .now) (s .args .first)) (s .args .first) (w .run .result) _ _ _ _ _ (given w) (given-is w) (w .run .ensures) (weights-long r) (past-long r)
+    result (s .args .e) (lentAt (s .args .t .now) (s .args .first)) (s .args .first) (w .run .result) _ _ _ _ _ (given w) (given-is w) (w .run .ensures) (weights-long r) (past-long r)
     (sampled _ _ (bytes-below r)) (omega (arith, asked r .within, asked r .long, asked r .most)) rest (drop (N r) (replicate 128 0)) rest
 
 pub run-block-spec : {M : Type 1} → statement M

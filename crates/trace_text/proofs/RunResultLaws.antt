@@ -25,8 +25,8 @@ use Rattle.state.specs.declared.equaliser.Answer.{Answer}
 use Rattle.trace_text.specs.Trace.{byteAt, number16, settingsIn, countIn, samplesIn, sampleAt, gainAt, entryAt, lentAt}
 use Rattle.trace_text.specs.Text.{lines, blockLines, stopLine}
 use Rattle.trace_text.specs.Written.{Fronted}
-use Rattle.trace_text.specs.Calls.{lineLimit, AllPrintable, Runnable, Handed, Heard-is, blockText, Blockable, Added-is}
-use Rattle.trace_text.specs.declared.blocks.Heard.{Heard}
+use Rattle.trace_text.specs.Calls.{lineLimit, AllPrintable, Runnable, Handed, RunResult-is, blockText, Blockable, Added-is}
+use Rattle.trace_text.specs.declared.blocks.RunResult.{RunResult}
 use Rattle.trace_text.proofs.LineLaws.{lines-short}
 use Rattle.trace_text.proofs.FrontLaws.{front-text}
 use Rattle.block.proofs.ValuesLaws.{values-length, values-at}
@@ -67,7 +67,7 @@ sampled t first h =
 module _ (e : Equaliser) (l : Lent) (place : ℕ) (a : Answer) (y : List ℤ) (xi : List ℕ) (decision z : List ℤ) (theta : List ℕ)
     (given : Lent) (same : given ≡ l) (ran : Run e given a y xi decision z theta) (w : length (e .weights) ≡ 32) (d : length (e .past) ≡ 32) (m : Sampled (l .m)) (room : place + e .n ≤ 100000)
     (ry : List ℤ) (rx : List ℕ) (rd : List ℤ) where
-  abbrev told : Heard
+  abbrev told : RunResult
   told = record { number = a .number; state = a .state; y = y ++ ry; xi = xi ++ rx; decision = decision ++ rd }
 
   r : Run e l a y xi decision z theta
@@ -91,8 +91,8 @@ module _ (e : Equaliser) (l : Lent) (place : ℕ) (a : Answer) (y : List ℤ) (x
         printable = rw (tY, tX, tD) (printable e l place none w d m room);
       }
 
-  pub heard : Heard-is e l place told
-  heard = record { number = r .number; state = r .state; handed = handed }
+  pub result : RunResult-is e l place told
+  result = record { number = r .number; state = r .state; handed = handed }
 
 -- ---- the text of a block
 
@@ -107,7 +107,7 @@ module _ (t : List ℕ) (e : Equaliser) (i start : ℕ) (out : List ℕ) (b : Bl
   lent = lentAt t (i * e .n)
 
   -- it is refused
-  pub added-stop : (r : Heard) (count : ℕ) (after : List ℕ) → Heard-is e lent (i * e .n) r → (r .number ≡ 0 → ⊥) → Fronted (stopLine (r .number) i) out count after →
+  pub added-stop : (r : RunResult) (count : ℕ) (after : List ℕ) → RunResult-is e lent (i * e .n) r → (r .number ≡ 0 → ⊥) → Fronted (stopLine (r .number) i) out count after →
       Added-is t e i (record { number = r .number; length = count; state = r .state }) out after
   added-stop r count after h f w = record {
     number = h .number;
@@ -118,7 +118,7 @@ module _ (t : List ℕ) (e : Equaliser) (i start : ℕ) (out : List ℕ) (b : Bl
   }
 
   -- it is accepted
-  pub added-lines : (r : Heard) (count : ℕ) (after : List ℕ) → Heard-is e lent (i * e .n) r → r .number ≡ 0 → length (take (e .n) (r .y)) ≡ e .n →
+  pub added-lines : (r : RunResult) (count : ℕ) (after : List ℕ) → RunResult-is e lent (i * e .n) r → r .number ≡ 0 → length (take (e .n) (r .y)) ≡ e .n →
       Fronted (lines (i * e .n) (take (e .n) (r .y)) (take (e .n) (r .xi)) (take (e .n) (r .decision)) (length (take (e .n) (r .y)))) out count after →
       Added-is t e i (record { number = 0; length = count; state = r .state }) out after
   unfolding blockLines

@@ -11,8 +11,8 @@ use Rattle.laws.specs.Machine.{kept, fits-abs}
 use Rattle.numbers.specs.Cut.{raise}
 use Rattle.steps.specs.Side.{adapt}
 use Rattle.filter.specs.Calls.{factorOf}
-use Rattle.filter.proofs.sample.learn.Statement.{statement}
-use Rattle.filter.proofs.sample.learn.Tie as tie
+use Rattle.filter.proofs.sample.update.Statement.{statement}
+use Rattle.filter.proofs.sample.update.Tie as tie
 
 add-factor : tie.Need-add-factor
 add-factor c = search needs
@@ -67,8 +67,8 @@ returns c =
       e .1,
     )
 
-pub learn-spec : {M : Type 1} → statement M
-learn-spec =
+pub update-spec : {M : Type 1} → statement M
+update-spec =
     tie.close
     (tie.spec
     add-factor

@@ -9,9 +9,9 @@ use borrow.Author.Needs.{needs}
 use Rattle.laws.specs.Machine.{kept}
 use Rattle.steps.specs.Decision.{decide}
 use Rattle.filter.specs.Calls.{chosen}
-use Rattle.filter.proofs.SampleLaws.{missable}
-use Rattle.filter.proofs.sample.judge.Statement.{statement}
-use Rattle.filter.proofs.sample.judge.Tie as tie
+use Rattle.filter.proofs.SampleLaws.{error-bounds}
+use Rattle.filter.proofs.sample.decision_error.Statement.{statement}
+use Rattle.filter.proofs.sample.decision_error.Tie as tie
 
 decide-requires : tie.Need-decide-requires
 decide-requires c κs = simp (toZ-ofZ (c .fits .y)) (omega (arith, c .pre))
@@ -31,7 +31,7 @@ picked c =
     ∙ ap₂ (λ (e d : ℤ). chosen e d) (toZ-ofZ (c .before .before .fits .entry)) (decided (c .before))
 
 error-requires : tie.Need-error-requires
-error-requires c κs = rw (picked c, toZ-ofZ (c .before .before .fits .y)) (missable (c .before .before .pre))
+error-requires c κs = rw (picked c, toZ-ofZ (c .before .before .fits .y)) (error-bounds (c .before .before .pre))
 
 returns : tie.Need-returns
 returns c =
@@ -44,5 +44,5 @@ returns c =
       theta = e .1 ∙ rw (picked d);
     }
 
-pub judge-spec : {M : Type 1} → statement M
-judge-spec = tie.close (tie.spec decide-requires chosen-requires error-requires returns)
+pub decision-error-spec : {M : Type 1} → statement M
+decision-error-spec = tie.close (tie.spec decide-requires chosen-requires error-requires returns)

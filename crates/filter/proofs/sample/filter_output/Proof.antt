@@ -8,8 +8,8 @@ use borrow.Author.Needs.{needs}
 use Rattle.laws.specs.Machine.{kept}
 use Rattle.laws.specs.Sums.{dot}
 use Rattle.steps.specs.Side.{longest}
-use Rattle.filter.proofs.sample.hear.Statement.{statement}
-use Rattle.filter.proofs.sample.hear.Tie as tie
+use Rattle.filter.proofs.sample.filter_output.Statement.{statement}
+use Rattle.filter.proofs.sample.filter_output.Tie as tie
 
 reach-requires : tie.Need-reach-requires
 reach-requires c κs = c .pre .1
@@ -33,7 +33,7 @@ back-sum : (c : tie.After-sum2) → toZ w32 (ofZ w32 (c .sum2 .result)) ≡ dot 
 back-sum c = kept w32 (c .sum2 .result) (c .sum2 .ok) ∙ c .sum2 .ensures
 
 output-requires : tie.Need-output-requires
-output-requires c κs = rw (forward-sum (c .before), back-sum c, nu-is (c .before .before)) (c .before .before .before .pre .0 .joinable)
+output-requires c κs = rw (forward-sum (c .before), back-sum c, nu-is (c .before .before)) (c .before .before .before .pre .0 .output-bounds)
 
 returns : tie.Need-returns
 returns c =
@@ -45,7 +45,7 @@ returns c =
       xi = e .1 ∙ rw (nu-is (d .before .before));
     }
 
-pub hear-spec : {M : Type 1} → statement M
-hear-spec =
+pub filter-output-spec : {M : Type 1} → statement M
+filter-output-spec =
     tie.close
     (tie.spec reach-requires add-nu sum-requires sum-requires-2 output-requires returns)

@@ -14,8 +14,8 @@ use Rattle.steps.specs.Side.{largest, magnitudes}
 use Rattle.steps.proofs.LargestLaws.{largest-none, longest-is, bits-next, bits-end}
 use Rattle.block.specs.Block.{receivedAll}
 use Rattle.block.proofs.ReceivedLaws.{received-length}
-use Rattle.block.proofs.stored.loudest.Statement.{statement}
-use Rattle.block.proofs.stored.loudest.Tie as tie
+use Rattle.block.proofs.stored.received_bits.Statement.{statement}
+use Rattle.block.proofs.stored.received_bits.Tie as tie
 
 abbrev Inv-loop : tie.InvT-loop
 Inv-loop m gains seen₀ i₀ seen i = bitLength seen ≡ bitLength (largest (take i (magnitudes (receivedAll m gains))))
@@ -61,8 +61,8 @@ returns c =
     bits-end (samples s) (l .i) (l .seen) (omega (arith, c .loop-test .left, received-length (s .args .m .now) (s .args .gains .now) (s .pre .same-length))) (l .inv)
     ∙ longest-is (samples s)
 
-pub loudest-spec : {M : Type 1} → statement M
-loudest-spec =
+pub received-bits-spec : {M : Type 1} → statement M
+received-bits-spec =
     tie.close
     (tie.spec
     Inv-loop

@@ -1,4 +1,4 @@
--- Laws of the symbols' largest bit length, by the age of one that has it.
+-- Laws of the symbols' largest bit length, by the delay of one that has it.
 use mathlib.Core.Path.{_≡_}
 use mathlib.Core.Bool.{true}
 use mathlib.Core.List.{List, _∷_}
@@ -15,26 +15,26 @@ use Rattle.steps.specs.Settings.{isEntry}
 use Rattle.steps.specs.Side.{longest, largest, magnitudes}
 use Rattle.steps.proofs.LargestLaws.{largest-magnitude, longest-is, magnitude-at}
 use Rattle.steps.proofs.SymbolLaws.{entry-below}
-use Rattle.filter.specs.Calls.{Aged, Reachable}
+use Rattle.filter.specs.Calls.{LongestAt, SymbolBounds}
 
 -- a symbol of bit length r + 1 has the largest
-pub reached : {r age : ℕ} {l : List ℤ} → Reachable r age l → age < length l → r + 1 ≡ longest l
-reached {r} {age} {l} p h =
+pub reached : {r delay : ℕ} {l : List ℤ} → SymbolBounds r delay l → delay < length l → r + 1 ≡ longest l
+reached {r} {delay} {l} p h =
     omega (
       arith,
       longest-is l,
       bit-length-le (largest (magnitudes l)) (r + 1) (largest-magnitude (λ (n : ℕ). n < 2 ^ (r + 1)) (positive (r + 1)) l below),
-      bit-length-mono (magnitude-at l age),
-      p .aged h,
+      bit-length-mono (magnitude-at l delay),
+      p .longest-at h,
     )
   where
     below : Each (λ (x : ℤ). natAbs x < 2 ^ (r + 1)) l
     below = each-weaken (λ (x : ℤ). isEntry r x ≡ true) (λ (x : ℤ). natAbs x < 2 ^ (r + 1)) (entry-below r) l (p .symbols-are)
 
 -- one more symbol before them
-pub aged-next : (r age : ℕ) (v : ℤ) (l : List ℤ) → Aged r age l → Aged r (age + 1) (v ∷ l)
-aged-next r age v l p = rw (add-one age) (λ h. p (omega arith))
+pub longest-at-next : (r delay : ℕ) (v : ℤ) (l : List ℤ) → LongestAt r delay l → LongestAt r (delay + 1) (v ∷ l)
+longest-at-next r delay v l p = rw (add-one delay) (λ h. p (omega arith))
 
 -- the first of them
-pub aged-take : (r age q : ℕ) (l : List ℤ) → Aged r age l → Aged r age (take q l)
-aged-take r age q l p h = rw (getD-take q l age (pos 0) (omega (arith, length-take q l))) (p (omega (arith, length-take q l)))
+pub longest-at-take : (r delay q : ℕ) (l : List ℤ) → LongestAt r delay l → LongestAt r delay (take q l)
+longest-at-take r delay q l p h = rw (getD-take q l delay (pos 0) (omega (arith, length-take q l))) (p (omega (arith, length-take q l)))

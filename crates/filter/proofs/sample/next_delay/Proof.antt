@@ -7,9 +7,9 @@ use mir.Syntax.{w64}
 use mir.Facts.{toZ-ofZ, sfits-widen}
 use borrow.Author.Needs.{needs}
 use Rattle.numbers.specs.BitLength.{bitLength}
-use Rattle.filter.proofs.AgeLaws.{aged-next}
-use Rattle.filter.proofs.sample.older.Statement.{statement}
-use Rattle.filter.proofs.sample.older.Tie as tie
+use Rattle.filter.proofs.DelayLaws.{longest-at-next}
+use Rattle.filter.proofs.sample.next_delay.Statement.{statement}
+use Rattle.filter.proofs.sample.next_delay.Tie as tie
 
 cast-signed-bit-length : tie.Need-cast-signed-bit-length
 cast-signed-bit-length c = simp (toZ-ofZ (c .fits .v)) (sfits-widen tt (c .fits .v))
@@ -27,9 +27,9 @@ returns : tie.Need-returns
 returns c = (omega arith, λ l p h. subst (λ (n : ℕ). c .before .before .args .r < n) (measured (c .before)) (c .if1 .taken))
 
 returns-2 : tie.Need-returns-2
-returns-2 c = (omega arith, λ l p. aged-next _ _ _ l p)
+returns-2 c = (omega arith, λ l p. longest-at-next _ _ _ l p)
 
-pub older-spec : {M : Type 1} → statement M
-older-spec =
+pub next-delay-spec : {M : Type 1} → statement M
+next-delay-spec =
     tie.close
     (tie.spec cast-signed-bit-length signed-bit-length-requires add-result returns returns-2)
