@@ -11,7 +11,8 @@ use lib.IntN.{ℤ, pos}
 use borrow.Author.Tests.{leb-true, lt-leb}
 use Rattle.laws.specs.Lists.{and-left, and-right}
 use Rattle.laws.specs.Sums.{Each, each-at, each-of, each-append}
-use Rattle.steps.specs.Settings.{Settings, exponentLimit, isEntry}
+use Rattle.steps.specs.Limits.{exponentLimit}
+use Rattle.steps.specs.Settings.{Settings, isEntry}
 use Rattle.filter.specs.Sample.{Taps, v, settled, small, newForward, newBack, next}
 use Rattle.block.specs.Block.{Block, Memory, newb, newB, g, stored, old, start, entered, after, at, goes, left}
 use Rattle.filter.specs.Sound.{Fit}

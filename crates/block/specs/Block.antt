@@ -7,7 +7,8 @@ use lib.ListN.{getD, take}
 use lib.IntN.{ℤ, pos}
 use Rattle.numbers.specs.BitLength.{bitLength}
 use Rattle.numbers.specs.Cut.{raise, rescale}
-use Rattle.steps.specs.Settings.{Settings, scaleForward, exponentLimit}
+use Rattle.steps.specs.Limits.{exponentLimit}
+use Rattle.steps.specs.Settings.{Settings, scaleForward}
 use Rattle.steps.specs.Side.{largest, magnitudes, push}
 use Rattle.filter.specs.Sample.{Taps, Y, ξ, decision, Z, θ, next}
 

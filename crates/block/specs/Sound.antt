@@ -7,7 +7,8 @@ use lib.ListN.{length}
 use lib.IntN.{ℤ, natAbs}
 use Rattle.laws.specs.Sums.{Each}
 use Rattle.numbers.specs.Cut.{rescale}
-use Rattle.steps.specs.Settings.{Settings, Within, Admitted, isEntry, scaleForward, exponentLimit}
+use Rattle.steps.specs.Limits.{gainLimit, exponentLimit, lengthLimit}
+use Rattle.steps.specs.Settings.{Settings, Within, Admitted, isEntry, scaleForward}
 use Rattle.steps.specs.Sound.{Small}
 use Rattle.block.specs.Block.{Block, Memory}
 
@@ -25,7 +26,7 @@ pub record Sound (k : Settings) (o : Memory) : Type 0 where
   pub symbols-are : Each (λ (v : ℤ). isEntry (k .r) v ≡ true) (o .symbols)
   pub ψ-most : o .ψ ≤ exponentLimit
   pub b-most : o .b ≤ o .B
-  pub B-most : o .B + k .L ≤ 31
+  pub B-most : o .B + k .L ≤ lengthLimit
 
 -- a block whose lists are N long, whose samples have 16 bits, and whose gains and entries are within limits
 pub record Acceptable (k : Settings) (i : Block) : Type 0 where
@@ -34,7 +35,7 @@ pub record Acceptable (k : Settings) (i : Block) : Type 0 where
   pub entries-long : length (i .entries) ≡ k .N
   pub samples-are : Each (λ (m : ℤ). natAbs m ≤ 2 ^ 15) (i .samples)
   pub gains-least : Each (λ (g : ℕ). k .L ≤ g) (i .gains)
-  pub gains-most : Each (λ (g : ℕ). g ≤ 15) (i .gains)
+  pub gains-most : Each (λ (g : ℕ). g ≤ gainLimit) (i .gains)
   pub entries-are : Each (λ (e : ℤ). isEntry (k .r) e ≡ true) (i .entries)
 
 -- ---- what the loops over a block ask
@@ -42,7 +43,7 @@ pub record Acceptable (k : Settings) (i : Block) : Type 0 where
 -- samples with their gains
 pub record Receivable (m : List ℤ) (gains : List ℕ) : Type 0 where
   pub same-length : length m ≡ length gains
-  pub gains-most : Each (λ (g : ℕ). g ≤ 15) gains
+  pub gains-most : Each (λ (g : ℕ). g ≤ gainLimit) gains
 
 -- a number whose T(z·2^(i−j)) fits 16 bits
 pub record Storable (i j : ℕ) (z : ℤ) : Type 0 where

@@ -6,6 +6,7 @@ use lib.Dec.{leb, eqb}
 use lib.ListN.{length}
 use lib.IntN.{ℤ}
 use Rattle.laws.specs.Lists.{all}
+use Rattle.steps.specs.Limits.{gainLimit}
 use Rattle.steps.specs.Settings.{isEntry}
 use Rattle.block.specs.Block.{Block}
 use Rattle.state.specs.Answers.{examined}
@@ -33,7 +34,7 @@ lengthsFit N l =
 
 -- 4: every gain is from L to 15
 abbrev pub gainFits : ℕ → ℕ → Bool
-gainFits L g = leb L g && leb g 15
+gainFits L g = leb L g && leb g gainLimit
 
 -- the checks before the block is run: 1, 2, 9, then 3, 4, 5
 unfoldable pub checkNumber : Equaliser → Lent → ℕ

@@ -9,6 +9,7 @@ use lib.IntN.{ℤ, pos, natAbs, _*ℤ_}
 use Rattle.laws.specs.Sums.{Each, dot}
 use Rattle.numbers.specs.BitLength.{bitLength}
 use Rattle.numbers.specs.Cut.{cut, raise}
+use Rattle.steps.specs.Limits.{symbolLimit, exponentLimit, scaleLimit, dataExponentLimit, outputExponentLimit}
 use Rattle.steps.specs.Settings.{Settings, Within, isEntry, scaleForward, scaleBack}
 use Rattle.steps.specs.Side.{adapt, allSmall, largest, magnitudes}
 use Rattle.steps.specs.Output.{output, outputExponent}
@@ -40,14 +41,14 @@ abbrev pub NextDelay : ℕ → ℕ → ℤ → ℕ → Type 0
 NextDelay r delay v delay′ = (delay′ ≤ delay + 1) × ((symbols : List ℤ) → LongestAt r delay symbols → LongestAt r delay′ (v ∷ symbols))
 
 pub record SymbolBounds (r delay : ℕ) (symbols : List ℤ) : Type 0 where
-  pub r-most : r ≤ 3
+  pub r-most : r ≤ symbolLimit
   pub symbols-are : Each (λ (v : ℤ). isEntry r v ≡ true) symbols
   pub longest-at : LongestAt r delay symbols
 
 pub record FilterBounds (sb g ψ : ℕ) (forward back samples symbols : List ℤ) : Type 0 where
   pub forward-sum : Summable forward samples
   pub back-sum : Summable back symbols
-  pub ν-most : sb + longest symbols ≤ 9
+  pub ν-most : sb + longest symbols ≤ dataExponentLimit
   pub output-bounds : OutputBounds (dot forward samples) (dot back symbols) g (sb + longest symbols) ψ
 
 pub record Output-is (sb g ψ : ℕ) (forward back samples symbols : List ℤ) (h : Output) : Type 0 where
@@ -58,12 +59,12 @@ pub record Output-is (sb g ψ : ℕ) (forward back samples symbols : List ℤ) (
 -- ---- steps 4 and 5
 
 pub record DecisionBounds (r sb : ℕ) (y : ℤ) (ξ : ℕ) (entry : ℤ) : Type 0 where
-  pub r-most : r ≤ 3
+  pub r-most : r ≤ symbolLimit
   pub scale-least : 1 ≤ sb
-  pub scale-most : sb ≤ 5
+  pub scale-most : sb ≤ scaleLimit
   pub y-small : natAbs y < 2 ^ 29
   pub ξ-least : 1 ≤ ξ
-  pub ξ-most : ξ ≤ 24
+  pub ξ-most : ξ ≤ outputExponentLimit
   pub entry-is : isEntry r entry ≡ true
 
 abbrev pub chosen : ℤ → ℤ → ℤ
@@ -87,7 +88,7 @@ updated m z ψ θ scale exponent more w a = adapt (raise (factorOf m z ψ θ sca
 
 pub record UpdateBounds (m : ℕ) (z : ℤ) (ψ θ scale exponent more : ℕ) (w a : List ℤ) : Type 0 where
   pub z-small : natAbs z < 2 ^ 30
-  pub ψ-most : ψ ≤ 15
+  pub ψ-most : ψ ≤ exponentLimit
   pub room : scale + more ≤ 15
   pub places : exponent + θ ≤ 60 + ψ + scale
   pub places-most : 60 + ψ + scale < exponent + θ + 64
@@ -103,7 +104,7 @@ pub record Settled-is (ψ : ℕ) (forward back : List ℤ) (ψ′ : ℕ) (forwar
 -- ---- steps 6 and 7
 
 pub record ChangeBounds (m s sb g ψ : ℕ) (h : Output) (j : Decision) (forward back samples symbols : List ℤ) : Type 0 where
-  pub ν-most : h .nu ≤ 9
+  pub ν-most : h .nu ≤ dataExponentLimit
   pub ahead : UpdateBounds m (j .z) ψ (j .theta) s g 0 forward samples
   pub behind : UpdateBounds m (j .z) ψ (j .theta) sb (h .nu + 30) (15 - h .nu) back symbols
 

@@ -8,6 +8,7 @@ use lib.ListN.{length, getD}
 use lib.IntN.{ℤ, pos, natAbs, _+ℤ_, _-ℤ_, _*ℤ_}
 use Rattle.laws.specs.Sums.{dot, Each}
 use Rattle.numbers.specs.Cut.{cut, raise}
+use Rattle.steps.specs.Limits.{outputExponentLimit}
 use Rattle.steps.specs.Settings.{Settings, scaleForward, scaleBack}
 use Rattle.steps.specs.Side.{adapt, halved}
 use Rattle.filter.specs.Sample.{Taps, ν, held, F, H, Y, ξ, Z, θ, κ, v, J, forwardSide, backSide, newForward, newBack, next}
@@ -21,9 +22,13 @@ exactOutput g t = raise (raise (dot (t .forward) (t .samples)) g +ℤ raise (dot
 abbrev pub exactWeight : ℕ → ℕ → ℤ → ℤ → ℤ → ℕ → ℤ → ℤ
 exactWeight M ψ y v d x w = raise w (120 + ψ) +ℤ pos M *ℤ raise d x *ℤ (raise v 60 -ℤ y)
 
--- the stored weight w and the exact one are at most 1 + 1/1024 units of 2^(ψ−15) apart, with the new ψ
+-- the distance that is allowed, in 1024ths of a unit: 1 + 1/1024 units
+abbrev pub distance : ℕ
+distance = 1025
+
+-- the stored weight w and the exact one are at most so many units of 2^(ψ−15) apart, with the new ψ
 abbrev pub Near : ℕ → ℤ → ℤ → Type 0
-Near ψ w e = natAbs (raise w (120 + ψ) -ℤ e) * 1024 ≤ 1025 * 2 ^ (120 + ψ)
+Near ψ w e = natAbs (raise w (120 + ψ) -ℤ e) * 1024 ≤ distance * 2 ^ (120 + ψ)
 
 -- what holds at a sample: its numbers keep their bounds
 pub record Bounded (k : Settings) (g : ℕ) (t : Taps) (entry : ℤ) : Type 0 where
@@ -32,9 +37,9 @@ pub record Bounded (k : Settings) (g : ℕ) (t : Taps) (entry : ℤ) : Type 0 wh
   pub Y-small : natAbs (Y k g t entry) < 2 ^ 29
   pub Z-small : natAbs (Z k g t entry) < 2 ^ 30
   pub ξ-least : 1 ≤ ξ k g t entry
-  pub ξ-most : ξ k g t entry ≤ 24
+  pub ξ-most : ξ k g t entry ≤ outputExponentLimit
   pub θ-least : 1 ≤ θ k g t entry
-  pub θ-most : θ k g t entry ≤ 24
+  pub θ-most : θ k g t entry ≤ outputExponentLimit
   pub J-forward : natAbs (J k g t entry (forwardSide k g t entry)) ≤ 2 ^ 29
   pub J-back : natAbs (J k g t entry (backSide k g t entry)) ≤ 2 ^ 29
   pub new-forward : Each (λ (w : ℤ). natAbs w < 2 ^ 15) (newForward k g t entry)

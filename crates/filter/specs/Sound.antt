@@ -5,7 +5,8 @@ use Prim.Native.Nat.{ℕ, _+_, _*_, _-_, _^_, _≤_, _<_}
 use lib.ListN.{length}
 use lib.IntN.{ℤ, natAbs}
 use Rattle.laws.specs.Sums.{Each}
-use Rattle.steps.specs.Settings.{Settings, Within, Admitted, isEntry, scaleForward, exponentLimit}
+use Rattle.steps.specs.Limits.{exponentLimit, lengthLimit}
+use Rattle.steps.specs.Settings.{Settings, Within, Admitted, isEntry, scaleForward}
 use Rattle.steps.specs.Sound.{Small}
 use Rattle.filter.specs.Sample.{Taps}
 
@@ -23,4 +24,4 @@ pub record Fit (k : Settings) (g : ℕ) (t : Taps) : Type 0 where
   pub symbols-are : Each (λ (v : ℤ). isEntry (k .r) v ≡ true) (t .symbols)
   pub ψ-most : t .ψ ≤ exponentLimit
   pub g-least : scaleForward k ≤ g
-  pub g-most : g + k .L ≤ k .r + 31 + scaleForward k
+  pub g-most : g + k .L ≤ k .r + lengthLimit + scaleForward k

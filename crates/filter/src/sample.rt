@@ -139,7 +139,7 @@ pub fn settle(forward: &mut [i16], back: &mut [i16], seen: u16, psi: u32) -> u32
     requires { ⌜ (psi ≤ 15) × (bitLength seen ≡ max (longest (now forward)) (longest (now back))) ⌝ }
     ensures { λ r. ⌜ Settled-is psi (now (forward .entry)) (now (back .entry)) r (now (forward .exit)) (now (back .exit)) ⌝ }
 {
-    if seen < 16384 {
+    if seen < steps::limits::HALVING {
         return psi;
     }
     steps::side::halve(forward);

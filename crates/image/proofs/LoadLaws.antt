@@ -11,7 +11,8 @@ use lib.IntN.{pos}
 use borrow.Author.Tests.{le-leb, eq-eqb, eqb-true, eqb-false, leb-true}
 use Rattle.laws.specs.Sums.{Each, each-take, each-drop}
 use Rattle.state.specs.Sizes.{sizesFit}
-use Rattle.state.specs.State.{settings, taps, padded, places}
+use Rattle.steps.specs.Limits.{places}
+use Rattle.state.specs.State.{settings, taps, padded}
 use Rattle.state.specs.Answers.{examined}
 use Rattle.image.specs.Image.{Byte, bytes, words, header, image, imageLength}
 use Rattle.image.specs.Load.{number, wordsOf, tapsIn, weightBytes, pastBytes, stateIn, frameNumber, loadNumber, loadState}

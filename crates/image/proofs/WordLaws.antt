@@ -8,7 +8,8 @@ use lib.IntN.{ℤ, pos}
 use mir.Syntax.{w16}
 use mir.Val.{toZ}
 use Rattle.laws.specs.Lists.{overlay, Written, written-none, written-next}
-use Rattle.state.specs.State.{padded, places}
+use Rattle.steps.specs.Limits.{places}
+use Rattle.state.specs.State.{padded}
 use Rattle.image.specs.Load.{wordsOf}
 
 -- ---- the words of any bytes

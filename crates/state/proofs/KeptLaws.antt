@@ -10,13 +10,15 @@ use lib.IntN.{ℤ, pos, natAbs}
 use borrow.Author.Tests.{le-leb, lt-ltb}
 use Rattle.laws.specs.Lists.{all}
 use Rattle.laws.specs.Sums.{Each, each-append}
-use Rattle.steps.specs.Settings.{Settings, scaleForward, isEntry, halvingLimit}
+use Rattle.steps.specs.Limits.{halvingLimit}
+use Rattle.steps.specs.Settings.{Settings, scaleForward, isEntry}
 use Rattle.steps.specs.Side.{allSmall, isSmall}
 use Rattle.steps.specs.Sound.{Small}
 use Rattle.block.specs.Block.{Memory}
 use Rattle.block.specs.Sound.{Sound}
 use Rattle.state.specs.Sizes.{sizesFit, admits}
-use Rattle.state.specs.State.{memory, isZero, isStored, soundExponents, soundWeights, soundPast, isSound, padded, places, stateOf}
+use Rattle.steps.specs.Limits.{places}
+use Rattle.state.specs.State.{memory, isZero, isStored, soundExponents, soundWeights, soundPast, isSound, padded, stateOf}
 use Rattle.state.specs.Answers.{examined}
 use Rattle.state.proofs.ListTests.{tested-each, all-replicate}
 use Rattle.state.proofs.PaddedLaws.{padded-long}

@@ -9,7 +9,8 @@ use lib.Seq.{length-take-le}
 use lib.IntN.{ℤ, pos, negsuc}
 use borrow.Author.Tests.{eqb-true}
 use Rattle.laws.specs.Lists.{all, and-left, and-right}
-use Rattle.state.specs.State.{isZero, padded, places}
+use Rattle.steps.specs.Limits.{places}
+use Rattle.state.specs.State.{isZero, padded}
 
 is-zero : (z : ℤ) → isZero z ≡ true → pos 0 ≡ z
 is-zero (pos n) e = ap pos (sym (eqb-true n 0 e))

@@ -16,7 +16,8 @@ use Rattle.steps.specs.Sound.{Small}
 use Rattle.block.specs.Sound.{Sound}
 use Rattle.filter.proofs.SideBounds.{all-small}
 use Rattle.state.specs.Sizes.{sizesFit, admits}
-use Rattle.state.specs.State.{settings, memory, taps, samples, filler, symbols, isZero, isStored, soundExponents, soundWeights, soundPast, isSound, places, fresh}
+use Rattle.steps.specs.Limits.{places}
+use Rattle.state.specs.State.{settings, memory, taps, samples, filler, symbols, isZero, isStored, soundExponents, soundWeights, soundPast, isSound, fresh}
 use Rattle.state.specs.Answers.{examined}
 use Rattle.state.specs.declared.equaliser.Equaliser.{Equaliser}
 use Rattle.state.proofs.ListTests.{each-tested, each-parts, all-take, all-drop, all-replicate}

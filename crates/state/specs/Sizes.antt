@@ -2,12 +2,13 @@
 use mathlib.Core.Bool.{Bool, _&&_, cond}
 use Prim.Native.Nat.{ℕ, _+_, _*_, _^_}
 use lib.Dec.{leb}
-use Rattle.steps.specs.Settings.{Settings, tapLimit, blockLimit, stepBound}
+use Rattle.steps.specs.Limits.{tapLimit, blockLimit, symbolLimit, gainLimit}
+use Rattle.steps.specs.Settings.{Settings, stepBound}
 
 abbrev pub sizesFit : Settings → Bool
 sizesFit k =
     leb 1 (k .p) && leb (k .p) tapLimit && leb 1 (k .q) && leb (k .q) tapLimit && leb 1 (k .N) && leb (k .p) (k .N + 1) && leb (k .N) blockLimit
-    && leb (k .r) 3 && leb (k .L) 15
+    && leb (k .r) symbolLimit && leb (k .L) gainLimit
 
 -- M·D ≤ 2^30, both sides times 2^L
 abbrev pub admits : Settings → Bool

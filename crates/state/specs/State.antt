@@ -6,15 +6,12 @@ use lib.Dec.{leb, ltb, eqb}
 use lib.ListN.{length, take, drop, getD, replicate}
 use lib.IntN.{ℤ, pos, natAbs}
 use Rattle.laws.specs.Lists.{all}
-use Rattle.steps.specs.Settings.{Settings, scaleForward, isEntry, exponentLimit}
+use Rattle.steps.specs.Limits.{exponentLimit, lengthLimit, places}
+use Rattle.steps.specs.Settings.{Settings, scaleForward, isEntry}
 use Rattle.steps.specs.Side.{allSmall}
 use Rattle.block.specs.Block.{Memory}
 use Rattle.state.specs.Sizes.{sizesFit, admits}
 use Rattle.state.specs.declared.equaliser.Equaliser.{Equaliser}
-
--- places of either array, the spare ones with them
-abbrev pub places : ℕ
-places = 32
 
 -- ---- the parts of a state
 
@@ -55,7 +52,7 @@ abbrev pub isStored : ℕ → ℕ → ℕ → ℤ → Bool
 isStored s b B a = ltb (natAbs a * 2 ^ (B + s)) (2 ^ (15 + b))
 
 abbrev pub soundExponents : Equaliser → Bool
-soundExponents e = leb (e .psi) exponentLimit && leb (e .b) (e .big) && leb (e .big + e .l) 31
+soundExponents e = leb (e .psi) exponentLimit && leb (e .b) (e .big) && leb (e .big + e .l) lengthLimit
 
 abbrev pub soundWeights : Equaliser → Bool
 soundWeights e = allSmall (take (taps e) (e .weights)) && all isZero (drop (taps e) (e .weights))

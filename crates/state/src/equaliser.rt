@@ -3,6 +3,7 @@ ghost use mathlib.Core.Path.{_≡_};
 ghost use Rattle.state.specs.Sizes.{given};
 ghost use Rattle.state.specs.State.{fresh};
 ghost use Rattle.state.specs.Answers.{SetUp};
+use steps::limits;
 
 #[repr(C)]
 pub struct Equaliser {
@@ -15,8 +16,8 @@ pub struct Equaliser {
     pub b: u8,
     pub big: u8,
     pub m: u32,
-    pub weights: [i16; 32],
-    pub past: [i16; 32],
+    pub weights: [i16; limits::PLACES],
+    pub past: [i16; limits::PLACES],
 }
 
 // A number beside a state.
@@ -40,24 +41,24 @@ pub fn fresh(p: u8, q: u8, n: u8, r: u8, l: u8, m: u32) -> Equaliser
         b: 0,
         big: 0,
         m: m,
-        weights: [0i16; 32],
-        past: [0i16; 32],
+        weights: [0i16; limits::PLACES],
+        past: [0i16; limits::PLACES],
     }
 }
 
 impl Equaliser {
     // The limits.
-    pub const TAPS: u8 = 16;
+    pub const TAPS: u8 = limits::TAPS as u8;
 
-    pub const BLOCK: u8 = 128;
+    pub const BLOCK: u8 = limits::BLOCK as u8;
 
-    pub const SYMBOLS: u8 = 3;
+    pub const SYMBOLS: u8 = limits::SYMBOLS as u8;
 
-    pub const GAIN: u8 = 15;
+    pub const GAIN: u8 = limits::GAIN as u8;
 
-    pub const EXPONENT: u8 = 15;
+    pub const EXPONENT: u8 = limits::EXPONENT as u8;
 
-    pub const IMAGE: usize = 140;
+    pub const IMAGE: usize = 12 + 4 * limits::PLACES;
 
     // A fresh state, or the number of the refusal beside the smallest one.
     pub fn set_up(p: u8, q: u8, n: u8, r: u8, l: u8, m: u32) -> Answer

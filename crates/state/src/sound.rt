@@ -68,7 +68,7 @@ fn sound_exponents(e: Equaliser) -> bool
     if Equaliser::EXPONENT < e.psi || e.big < e.b {
         return false;
     }
-    (e.big as u32) + (e.l as u32) <= 31
+    (e.big as u32) + (e.l as u32) <= steps::limits::LENGTH
 }
 
 fn sound_weights(e: Equaliser) -> bool

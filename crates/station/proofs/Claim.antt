@@ -22,7 +22,8 @@ use Rattle.block.proofs.BlockSound.{left-sound}
 use Rattle.block.proofs.BlockHolds.{at-sample}
 use Rattle.block.proofs.BlockNear.{stored-near, met-near}
 use Rattle.state.specs.Sizes.{sizesFit, admits, settingsNumber, given}
-use Rattle.state.specs.State.{settings, memory, places, stateOf, fresh, refused}
+use Rattle.steps.specs.Limits.{places}
+use Rattle.state.specs.State.{settings, memory, stateOf, fresh, refused}
 use Rattle.state.specs.Answers.{examined, setUpState}
 use Rattle.image.specs.Image.{Byte, image, imageLength, saveNumber}
 use Rattle.image.specs.Load.{stateIn, loadNumber, loadState}

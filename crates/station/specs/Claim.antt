@@ -15,7 +15,8 @@ use Rattle.block.specs.Sound.{Sound}
 use Rattle.block.specs.Stored.{Off, StoredNear, MetNear}
 use Rattle.block.specs.Holds.{AtSample}
 use Rattle.state.specs.Sizes.{sizesFit, admits}
-use Rattle.state.specs.State.{settings, memory, isSound, stateOf, places}
+use Rattle.steps.specs.Limits.{places}
+use Rattle.state.specs.State.{settings, memory, isSound, stateOf}
 use Rattle.state.specs.Answers.{setUpState}
 use Rattle.image.specs.Image.{Byte, image, saveNumber}
 use Rattle.image.specs.Load.{loadNumber, loadState}

@@ -15,7 +15,7 @@ use borrow.Author.Tests.{lt-ltb, le-ltb, ltb-true, ltb-false}
 use Rattle.laws.specs.Sums.{Each, each-map, each-of, each-weaken}
 use Rattle.numbers.specs.BitLength.{bitLength}
 use Rattle.numbers.proofs.BitLengthLaws.{bit-length-zero, bit-length-mono, bit-length-le, bit-length-lt}
-use Rattle.steps.specs.Settings.{halvingLimit}
+use Rattle.steps.specs.Limits.{halvingLimit}
 use Rattle.steps.specs.Side.{isSmall, allSmall, magnitudes, largest, longest}
 
 pub largest-none : largest [] ≡ 0

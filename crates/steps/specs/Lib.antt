@@ -1,3 +1,4 @@
+pub mod Limits
 pub mod Settings
 pub mod Side
 pub mod Output

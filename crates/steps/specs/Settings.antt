@@ -1,30 +1,10 @@
--- Sizes and the step admission.
+-- The settings, the step admission and the symbols.
 use mathlib.Core.Bool.{Bool, _&&_, _||_}
 use Prim.Native.Nat.{ℕ, _+_, _*_, _-_, _%_, _^_, _≤_}
 use lib.Dec.{leb, eqb}
 use lib.IntN.{ℤ, natAbs}
 use Rattle.numbers.specs.ScaleCount.{scaleCount}
-
--- ---- the limits
-
-abbrev pub tapLimit : ℕ
-tapLimit = 16
-
-abbrev pub blockLimit : ℕ
-blockLimit = 128
-
--- of ψ
-abbrev pub exponentLimit : ℕ
-exponentLimit = 15
-
--- weights are in units of 2^−15, and are halved from 2^14 on
-abbrev pub weightPlaces : ℕ
-weightPlaces = 15
-
-abbrev pub halvingLimit : ℕ
-halvingLimit = 2 ^ 14
-
--- ---- the settings
+use Rattle.steps.specs.Limits.{tapLimit, blockLimit, symbolLimit, gainLimit}
 
 pub record Settings : Type 0 where
   pub p : ℕ
@@ -49,8 +29,8 @@ pub record Within (k : Settings) : Type 0 where
   pub N-least : 1 ≤ k .N
   pub N-window : k .p ≤ k .N + 1
   pub N-most : k .N ≤ blockLimit
-  pub r-most : k .r ≤ 3
-  pub L-most : k .L ≤ 15
+  pub r-most : k .r ≤ symbolLimit
+  pub L-most : k .L ≤ gainLimit
 
 -- D·2^L, which is whole
 abbrev pub stepBound : Settings → ℕ

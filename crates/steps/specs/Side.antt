@@ -9,7 +9,7 @@ use Rattle.laws.specs.Lists.{all}
 use Rattle.laws.specs.Sums.{dot}
 use Rattle.numbers.specs.BitLength.{bitLength}
 use Rattle.numbers.specs.Cut.{cut, raise}
-use Rattle.steps.specs.Settings.{halvingLimit}
+use Rattle.steps.specs.Limits.{halvingLimit}
 
 -- A weight W means W·2^(ψ−15), a mantissa a means a·2^(exponent − 45).
 pub record Side : Type 0 where

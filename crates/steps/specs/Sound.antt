@@ -5,7 +5,7 @@ use Prim.Native.Nat.{ℕ, _+_, _*_, _-_, _^_, _≤_, _<_}
 use lib.ListN.{length}
 use lib.IntN.{ℤ, natAbs}
 use Rattle.laws.specs.Sums.{Each}
-use Rattle.steps.specs.Settings.{halvingLimit}
+use Rattle.steps.specs.Limits.{symbolLimit, exponentLimit, halvingLimit, scaleLimit, dataExponentLimit, outputExponentLimit}
 use Rattle.steps.specs.Side.{largest, magnitudes}
 use Rattle.steps.specs.Error.{errorExponent}
 
@@ -17,7 +17,7 @@ Small w = natAbs w < halvingLimit
 pub record Summable (w a : List ℤ) : Type 0 where
   pub same-length : length w ≡ length a
   pub small : Each Small w
-  pub bound : length w * (2 ^ 14 * largest (magnitudes a)) < 2 ^ 31
+  pub bound : length w * (halvingLimit * largest (magnitudes a)) < 2 ^ 31
 
 -- new weights that fit 16 bits, where K is J·2^(15 − t)
 pub record Adaptable (J : ℤ) (t : ℕ) (w a : List ℤ) : Type 0 where
@@ -31,19 +31,19 @@ pub record Adaptable (J : ℤ) (t : ℕ) (w a : List ℤ) : Type 0 where
 pub record OutputBounds (f h : ℤ) (g ν ψ : ℕ) : Type 0 where
   pub f-small : natAbs f < 2 ^ 28
   pub h-small : natAbs h * 2 ^ (15 - ν) < 2 ^ 28
-  pub ψ-most : ψ ≤ 15
-  pub ν-most : ν ≤ 9
-  pub g-most : g ≤ 39
+  pub ψ-most : ψ ≤ exponentLimit
+  pub ν-most : ν ≤ dataExponentLimit
+  pub g-most : g ≤ dataExponentLimit + 30
 
 -- a symbol beside an output
 pub record ErrorBounds (r s : ℕ) (v y : ℤ) (ξ : ℕ) : Type 0 where
-  pub r-most : r ≤ 3
+  pub r-most : r ≤ symbolLimit
   pub scale-least : 1 ≤ s
-  pub scale-most : s ≤ 5
+  pub scale-most : s ≤ scaleLimit
   pub v-small : natAbs v < 2 ^ (r + 1)
   pub y-small : natAbs y < 2 ^ 29
   pub ξ-least : 1 ≤ ξ
-  pub ξ-most : ξ ≤ 24
+  pub ξ-most : ξ ≤ outputExponentLimit
 
 -- both with their exponents
 pub record DifferenceBounds (v y : ℤ) (ξ κ : ℕ) : Type 0 where

@@ -3,5 +3,6 @@ pub mod decision;
 pub mod error;
 pub mod exponent;
 pub mod factor;
+pub mod limits;
 pub mod output;
 pub mod side;

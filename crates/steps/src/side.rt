@@ -167,7 +167,7 @@ fn bits(xs: &[i16]) -> u16
 pub fn all_small(w: &[i16]) -> bool
     ensures { λ r. ⌜ r ≡ allSmall (now (w .entry)) ⌝ }
 {
-    bits(w) < 16384
+    bits(w) < super::limits::HALVING
 }
 
 // Step 7: half of each weight.
