@@ -142,8 +142,8 @@ pub fn settle(forward: &mut [i16], back: &mut [i16], seen: u16, psi: u32) -> u32
     if seen < steps::limits::HALVING {
         return psi;
     }
-    steps::side::halve(forward);
-    steps::side::halve(back);
+    steps::side::rescale_all(forward, 0, 1);
+    steps::side::rescale_all(back, 0, 1);
     psi + 1
 }
 

@@ -25,3 +25,17 @@ pub fn signed_bit_length(z: i64) -> u32
 {
     bit_length(magnitude(z))
 }
+
+// |a| of 16 bits.
+pub fn magnitude16(a: i16) -> u16
+    ensures { λ r. ⌜ r ≡ natAbs a ⌝ }
+{
+    magnitude(a as i64) as u16
+}
+
+// |x| of 32 bits.
+pub fn magnitude32(x: i32) -> u32
+    ensures { λ r. ⌜ r ≡ natAbs x ⌝ }
+{
+    magnitude(x as i64) as u32
+}

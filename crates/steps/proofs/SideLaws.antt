@@ -3,26 +3,25 @@ use mathlib.Core.Path.{_≡_, refl, sym, ap, ap₂, _∙_}
 use mathlib.Core.List.{List, [], _∷_, map}
 use Prim.Native.Nat.{ℕ, zero, suc, _+_, _*_, _^_, _≤_, _<_}
 use native.Mathlib.Omega.{arith}
-use native.Mathlib.Nat.{le-of-lt, le-of-suc-le-suc, not-suc-le-zero, lt-of-le-of-lt, mul-le-mul-left, mul-le-mul-right, min-le-right}
+use native.Mathlib.Nat.{le-of-lt, le-of-suc-le-suc, not-suc-le-zero, lt-of-le-of-lt, lt-of-lt-of-le, mul-le-mul-left, mul-le-mul-right, min-le-right}
 use native.Mathlib.Numerals.{add-one}
 use lib.Bits.{bitOr}
 use lib.ListN.{length, getD, take, set, length-take, List·getD-map}
 use lib.Seq.{take-all, length-take-le, getD-take}
-use lib.IntN.{ℤ, pos, negsuc, natAbs, _+ℤ_, _*ℤ_, *ℤ-comm}
-use lib.Signed.{quotZ}
+use lib.IntN.{ℤ, pos, natAbs, _+ℤ_, _*ℤ_, *ℤ-comm}
 use mir.Syntax.{w16, w32, w64}
 use mir.Val.{SFits}
 use mir.Facts.{sfits-widen}
 use Rattle.laws.specs.Integers.{*ℤ-assoc}
 use Rattle.laws.specs.Lists.{Written, written-none, written-next, written-all}
 use Rattle.laws.specs.Sums.{dot, dot-next, dot-bound, Each, each-at, each-take, each-weaken}
-use Rattle.laws.specs.Machine.{fits-abs, abs-fits}
+use Rattle.laws.specs.Powers.{rises}
 use Rattle.numbers.specs.BitLength.{bitLength}
-use Rattle.numbers.specs.Cut.{cut, raise}
-use Rattle.numbers.proofs.CutLaws.{cut-zero, cut-lt}
+use Rattle.numbers.specs.Cut.{cut, raise, rescale}
+use Rattle.numbers.proofs.CutLaws.{cut-zero, cut-lt, rescale-down}
 use Rattle.steps.specs.Side.{adapted, adapt, halved, push, largest, longest, magnitudes}
-use Rattle.steps.specs.Sound.{Small, Summable, Adaptable}
-use Rattle.steps.proofs.LargestLaws.{largest-none, magnitude-at, each-magnitude, bits-next, bits-end}
+use Rattle.steps.specs.Sound.{Small, Summable, Adaptable, Storable}
+use Rattle.steps.proofs.LargestLaws.{largest-none, magnitude-at, each-magnitude, longest-above, bits-next, bits-end}
 
 -- ---- a number of 16 bits in a wider register
 
@@ -118,16 +117,25 @@ adapt-room J t w a i s h = (each-at Small w i (pos 0) (s .small) h, lt-of-le-of-
 
 -- ---- half of each weight
 
-pub half : (z : ℤ) → quotZ z (pos 2) ≡ cut z 1
-unfolding cut
-half (pos n) = refl
-half (negsuc n) = refl
-
-pub half-fits : (z : ℤ) → SFits w16 z → SFits w16 (quotZ z (pos 2))
-half-fits z f = rw half (fits-abs (cut z 1) (cut-lt z 16 15 1 refl (omega (arith, abs-fits f))))
+pub halved-is : (w : List ℤ) → map (λ (x : ℤ). rescale x 0 1) w ≡ halved w
+halved-is [] = refl
+halved-is (x ∷ w) = ap₂ (λ (y : ℤ) (l : List ℤ). y ∷ l) (rescale-down x 0 1 1 refl) (halved-is w)
 
 pub halved-at : (w : List ℤ) (i : ℕ) → getD (halved w) i (pos 0) ≡ cut (getD w i (pos 0)) 1
 halved-at w i = ap (λ (d : ℤ). getD (halved w) i d) (sym (cut-zero 1)) ∙ List·getD-map (λ (x : ℤ). cut x 1) w i (pos 0)
+
+-- a half fits 16 bits where the number has no more than 16
+pub halvable : (w : List ℤ) → longest w ≤ 16 → Each (Storable 0 1) w
+halvable w h = each-weaken (λ (x : ℤ). natAbs x < 2 ^ longest w) (Storable 0 1) half w (longest-above w)
+  where
+    half : (x : ℤ) → natAbs x < 2 ^ longest w → Storable 0 1 x
+    half x l =
+        let below : natAbs x < 2 ^ 16 = lt-of-lt-of-le l (rises h) in
+        record {
+          shift = omega arith;
+          room = omega arith;
+          bound = rw (rescale-down x 0 1 1 refl) (cut-lt x 16 15 1 refl below);
+        }
 
 -- ---- a new element in front
 

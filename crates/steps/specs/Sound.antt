@@ -5,6 +5,7 @@ use Prim.Native.Nat.{ℕ, _+_, _*_, _-_, _^_, _≤_, _<_}
 use lib.ListN.{length}
 use lib.IntN.{ℤ, natAbs}
 use Rattle.laws.specs.Sums.{Each}
+use Rattle.numbers.specs.Cut.{rescale}
 use Rattle.steps.specs.Limits.{symbolLimit, exponentLimit, halvingLimit, scaleLimit, dataExponentLimit, outputExponentLimit}
 use Rattle.steps.specs.Side.{largest, magnitudes}
 use Rattle.steps.specs.Error.{errorExponent}
@@ -51,3 +52,9 @@ pub record DifferenceBounds (v y : ℤ) (ξ κ : ℕ) : Type 0 where
   pub ξ-most : ξ ≤ 30
   pub κ-most : κ ≤ 30
   pub room : natAbs v * 2 ^ (30 - errorExponent ξ κ) ≤ 2 ^ 29
+
+-- a number whose T(z·2^(i−j)) fits 16 bits
+pub record Storable (i j : ℕ) (z : ℤ) : Type 0 where
+  pub shift : i < 63
+  pub room : natAbs z * 2 ^ i < 2 ^ 63
+  pub bound : natAbs (rescale z i j) < 2 ^ 15

@@ -1,12 +1,13 @@
 // Both filters are one filter: loops over its weights and its data.
 ghost use mathlib.Core.Path.{_≡_};
+ghost use mathlib.Core.List.{map};
 ghost use Prim.Native.Nat.{_+_, _*_, _-_, _/_, _^_, _<_, _≤_};
-ghost use lib.IntN.{pos, _+ℤ_, _*ℤ_, natAbs};
-ghost use Rattle.laws.specs.Sums.{dot};
+ghost use lib.IntN.{ℤ, pos, _+ℤ_, _*ℤ_, natAbs};
+ghost use Rattle.laws.specs.Sums.{dot, Each};
 ghost use Rattle.numbers.specs.BitLength.{bitLength};
-ghost use Rattle.numbers.specs.Cut.{raise};
-ghost use Rattle.steps.specs.Side.{adapted, adapt, allSmall, halved, longest};
-ghost use Rattle.steps.specs.Sound.{Summable, Adaptable};
+ghost use Rattle.numbers.specs.Cut.{raise, rescale};
+ghost use Rattle.steps.specs.Side.{adapted, adapt, allSmall, longest};
+ghost use Rattle.steps.specs.Sound.{Summable, Adaptable, Storable};
 
 // One product more.
 fn mac(sum: i32, w: i16, a: i16) -> i32
@@ -56,24 +57,6 @@ pub fn sum(w: &[i16], a: &[i16]) -> i32
     }
 }
 
-// |a|, also of −2^15.
-fn size(a: i16) -> u16
-    ensures { λ r. ⌜ r ≡ natAbs a ⌝ }
-{
-    if a >= 0 {
-        a as u16
-    } else {
-        ((-1 - a) as u16) + 1
-    }
-}
-
-// |J|.
-fn factor_size(j: i32) -> u32
-    ensures { λ r. ⌜ r ≡ natAbs j ⌝ }
-{
-    numbers::bit_length::magnitude(j as i64) as u32
-}
-
 // Step 6: what a weight gains, without its sign, from |J| and from |a|.
 fn gain(factor: u32, size: u16, t: u32) -> i16
     requires { ⌜ (t ≤ 15) × (factor * size < 2 ^ (29 + t)) ⌝ }
@@ -87,7 +70,7 @@ fn adapted_by_size(j: i32, factor: u32, t: u32, w: i16, a: i16) -> i16
     requires { ⌜ (t ≤ 15) × (factor ≡ natAbs j) × (natAbs w < 2 ^ 14) × (natAbs j * natAbs a < 2 ^ (29 + t)) ⌝ }
     ensures { λ r. ⌜ r ≡ adapted (raise j (15 - t)) w a ⌝ }
 {
-    let more = gain(factor, size(a), t);
+    let more = gain(factor, numbers::bit_length::magnitude16(a), t);
     if (a < 0) != (j < 0) {
         w - more
     } else {
@@ -100,13 +83,13 @@ fn adapt_many(w: &mut [i16], a: &[i16], j: i32, t: u32) -> u16
     requires { ⌜ Adaptable j t (now w) (now a) ⌝ }
     ensures { λ r. ⌜ (now (w .exit) ≡ adapt (raise j (15 - t)) (now (w .entry)) (now (a .entry))) × (bitLength r ≡ longest (now (w .exit))) ⌝ }
 {
-    let factor = factor_size(j);
+    let factor = numbers::bit_length::magnitude32(j);
     let mut seen: u16 = 0;
     let mut i: usize = 0;
     while i < w.len() {
         let new = adapted_by_size(j, factor, t, w[i], a[i]);
         w[i] = new;
-        seen |= size(new);
+        seen |= numbers::bit_length::magnitude16(new);
         i += 1;
     }
     seen
@@ -131,7 +114,7 @@ fn adapt_few(w: &mut [i16], a: &[i16], j: i32, t: u32) -> u16
     while i < w.len() {
         let new = adapted(k, w[i], a[i]);
         w[i] = new;
-        seen |= size(new);
+        seen |= numbers::bit_length::magnitude16(new);
         i += 1;
     }
     seen
@@ -157,7 +140,7 @@ fn bits(xs: &[i16]) -> u16
     let mut seen: u16 = 0;
     let mut i: usize = 0;
     while i < xs.len() {
-        seen |= numbers::bit_length::magnitude(xs[i] as i64) as u16;
+        seen |= numbers::bit_length::magnitude16(xs[i]);
         i += 1;
     }
     seen
@@ -170,14 +153,23 @@ pub fn all_small(w: &[i16]) -> bool
     bits(w) < super::limits::HALVING
 }
 
-// Step 7: half of each weight.
-pub fn halve(w: &mut [i16])
-    ensures { λ _. ⌜ now (w .exit) ≡ halved (now (w .entry)) ⌝ }
+// T(z·2^(i−j)) of a number whose result fits 16 bits.
+fn restored(z: i64, i: u32, j: u32) -> i16
+    requires { ⌜ Storable i j z ⌝ }
+    ensures { λ r. ⌜ r ≡ rescale z i j ⌝ }
 {
-    let mut i: usize = 0;
-    while i < w.len() {
-        w[i] = w[i] / 2;
-        i += 1;
+    numbers::cut::rescale(z, i, j) as i16
+}
+
+// A list at another exponent: stored samples, or in step 7 half of each weight.
+pub fn rescale_all(xs: &mut [i16], i: u32, j: u32)
+    requires { ⌜ Each (Storable i j) (now xs) ⌝ }
+    ensures { λ _. ⌜ now (xs .exit) ≡ map (λ (a : ℤ). rescale a i j) (now (xs .entry)) ⌝ }
+{
+    let mut n: usize = 0;
+    while n < xs.len() {
+        xs[n] = restored(xs[n] as i64, i, j);
+        n += 1;
     }
 }
 

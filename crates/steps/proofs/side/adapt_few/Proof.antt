@@ -84,8 +84,8 @@ mul-new c = search needs
 slice-set-from-new : tie.Need-slice-set-from-new Inv-loop μ-loop
 slice-set-from-new c = search needs
 
-size-requires : tie.Need-size-requires Inv-loop μ-loop
-size-requires c κs = search needs
+magnitude16-requires : tie.Need-magnitude16-requires Inv-loop μ-loop
+magnitude16-requires c κs = search needs
 
 add-i : tie.Need-add-i Inv-loop μ-loop
 add-i c = search needs
@@ -98,11 +98,11 @@ loop-again c =
     let d = c .before in
     let l = d .before .before .before .before in
     let s = start l .args in
-    changing-next (l .loop .inv) (toZ w16 (ofZ w16 (d .adapted .result))) (c .size .result) (adapt-length _ (s .w .now) _) (omega arith)
+    changing-next (l .loop .inv) (toZ w16 (ofZ w16 (d .adapted .result))) (c .magnitude16 .result) (adapt-length _ (s .w .now) _) (omega arith)
     (kept w16 (d .adapted .result) (d .adapted .ok) ∙ d .adapted .ensures
     ∙ simp (factor l, weight (d .before .before), datum (d .before), toZ-ofZ (start l .fits .j))
     (sym (adapt-at (raise (s .j) (15 - s .t)) (s .w .now) (s .a .now) (l .loop .i) (omega arith) (omega arith))))
-    (c .size .ensures)
+    (c .magnitude16 .ensures)
 
 same-length : tie.Need-same-length Inv-loop μ-loop
 same-length c = c .before .loop .inv .written .long
@@ -130,7 +130,7 @@ adapt-few-spec =
     adapted-requires
     mul-new
     slice-set-from-new
-    size-requires
+    magnitude16-requires
     add-i
     loop-less
     loop-again

@@ -22,8 +22,8 @@ Inv-loop w₀ a j t factor seen₀ i₀ w seen i = Changing (adapt (raise (toZ w
 abbrev μ-loop : tie.MeasureT-loop
 μ-loop w₀ a j t factor seen₀ i₀ w seen i = length w₀ - i
 
-factor-size-requires : tie.Need-factor-size-requires Inv-loop μ-loop
-factor-size-requires c κs = search needs
+magnitude32-requires : tie.Need-magnitude32-requires Inv-loop μ-loop
+magnitude32-requires c κs = search needs
 
 loop-holds : tie.Need-loop-holds Inv-loop μ-loop
 loop-holds c = changing-none _ _
@@ -43,8 +43,8 @@ shared-slice-copy-out-adapted-by-size c = search needs
 abbrev start : tie.At-loop Inv-loop μ-loop → tie.Start Inv-loop μ-loop
 start c = c .before .before
 
-sized : (c : tie.At-loop Inv-loop μ-loop) → c .before .factor-size .result ≡ natAbs (start c .args .j)
-sized c = c .before .factor-size .ensures ∙ simp (toZ-ofZ (start c .fits .j))
+sized : (c : tie.At-loop Inv-loop μ-loop) → c .before .magnitude32 .result ≡ natAbs (start c .args .j)
+sized c = c .before .magnitude32 .ensures ∙ simp (toZ-ofZ (start c .fits .j))
 
 weight : (c : tie.After-adapted-by-size-arg Inv-loop μ-loop) →
     let l = c .before .before .loop in
@@ -71,8 +71,8 @@ mul-new c = search needs
 slice-set-from-new : tie.Need-slice-set-from-new Inv-loop μ-loop
 slice-set-from-new c = search needs
 
-size-requires : tie.Need-size-requires Inv-loop μ-loop
-size-requires c κs = search needs
+magnitude16-requires : tie.Need-magnitude16-requires Inv-loop μ-loop
+magnitude16-requires c κs = search needs
 
 add-i : tie.Need-add-i Inv-loop μ-loop
 add-i c = search needs
@@ -85,11 +85,11 @@ loop-again c =
     let d = c .before in
     let l = d .before .before .before .before in
     let s = start l .args in
-    changing-next (l .loop .inv) (toZ w16 (ofZ w16 (d .adapted-by-size .result))) (c .size .result) (adapt-length _ (s .w .now) _) (omega arith)
+    changing-next (l .loop .inv) (toZ w16 (ofZ w16 (d .adapted-by-size .result))) (c .magnitude16 .result) (adapt-length _ (s .w .now) _) (omega arith)
     (kept w16 (d .adapted-by-size .result) (d .adapted-by-size .ok) ∙ d .adapted-by-size .ensures
     ∙ simp (weight (d .before .before), datum (d .before), toZ-ofZ (start l .fits .j))
     (sym (adapt-at (raise (s .j) (15 - s .t)) (s .w .now) (s .a .now) (l .loop .i) (omega arith) (omega arith))))
-    (c .size .ensures)
+    (c .magnitude16 .ensures)
 
 same-length : tie.Need-same-length Inv-loop μ-loop
 same-length c = c .before .loop .inv .written .long
@@ -106,7 +106,7 @@ adapt-many-spec =
     (tie.spec
     Inv-loop
     μ-loop
-    factor-size-requires
+    magnitude32-requires
     loop-holds
     mul-adapted-by-size
     slice-copy-out-adapted-by-size
@@ -115,7 +115,7 @@ adapt-many-spec =
     adapted-by-size-requires
     mul-new
     slice-set-from-new
-    size-requires
+    magnitude16-requires
     add-i
     loop-less
     loop-again

@@ -12,11 +12,11 @@ use Rattle.steps.proofs.GainLaws.{gain-small, alike-gain, unlike-gain, 
 use Rattle.steps.proofs.side.adapted_by_size.Statement.{statement}
 use Rattle.steps.proofs.side.adapted_by_size.Tie as tie
 
-size-requires : tie.Need-size-requires
-size-requires c κs = search needs
+magnitude16-requires : tie.Need-magnitude16-requires
+magnitude16-requires c κs = search needs
 
-product : (c : tie.After-size) → c .before .args .factor * c .size .result ≡ natAbs (c .before .args .j) * natAbs (c .before .args .a)
-product c = ap₂ (λ (m n : ℕ). m * n) (c .before .pre .1) (c .size .ensures ∙ simp (toZ-ofZ (c .before .fits .a)))
+product : (c : tie.After-magnitude16) → c .before .args .factor * c .magnitude16 .result ≡ natAbs (c .before .args .j) * natAbs (c .before .args .a)
+product c = ap₂ (λ (m n : ℕ). m * n) (c .before .pre .1) (c .magnitude16 .ensures ∙ simp (toZ-ofZ (c .before .fits .a)))
 
 gain-requires : tie.Need-gain-requires
 gain-requires c κs = rw (product c) (c .before .pre .0, c .before .pre .3)
@@ -58,4 +58,4 @@ returns-2 c =
 
 pub adapted-by-size-spec : {M : Type 1} → statement M
 adapted-by-size-spec =
-    tie.close (tie.spec size-requires gain-requires sub-result add-result returns returns-2)
+    tie.close (tie.spec magnitude16-requires gain-requires sub-result add-result returns returns-2)

@@ -1,17 +1,15 @@
 -- The bits of the magnitudes passed are together as many as the largest of them has.
-use mathlib.Core.Path.{_≡_, sym, ap, _∙_, subst}
+use mathlib.Core.Path.{_≡_, sym, ap, _∙_}
 use Prim.Native.Nat.{ℕ, _-_}
 use native.Mathlib.Omega.{arith}
 use lib.Bits.{bitOr}
 use lib.ListN.{length, getD, take, List·getD-map}
 use lib.IntN.{pos, natAbs}
 use mir.Syntax.{w16}
-use mir.Val.{Fits, SFits}
-use mir.Facts.{toZ-ofZ, fits-natAbs}
-use borrow.Author.Needs.{needs, sfits-of}
+use borrow.Author.Needs.{needs}
+use Rattle.laws.specs.Machine.{kept}
 use Rattle.numbers.specs.BitLength.{bitLength}
 use Rattle.steps.specs.Side.{largest, magnitudes}
-use Rattle.steps.proofs.SideLaws.{fits-64}
 use Rattle.steps.proofs.LargestLaws.{largest-none, bits-next, bits-end}
 use Rattle.steps.proofs.side.bits.Statement.{statement}
 use Rattle.steps.proofs.side.bits.Tie as tie
@@ -25,27 +23,21 @@ abbrev μ-loop : tie.MeasureT-loop
 loop-holds : tie.Need-loop-holds Inv-loop μ-loop
 loop-holds c = ap bitLength (sym largest-none)
 
-mul-magnitude : tie.Need-mul-magnitude Inv-loop μ-loop
-mul-magnitude c = search needs
+mul-magnitude16 : tie.Need-mul-magnitude16 Inv-loop μ-loop
+mul-magnitude16 c = search needs
 
-shared-slice-copy-out-magnitude : tie.Need-shared-slice-copy-out-magnitude Inv-loop μ-loop
-shared-slice-copy-out-magnitude c = search needs
+shared-slice-copy-out-magnitude16 : tie.Need-shared-slice-copy-out-magnitude16 Inv-loop μ-loop
+shared-slice-copy-out-magnitude16 c = search needs
 
-element : (c : tie.After-magnitude-arg Inv-loop μ-loop) → SFits w16 (getD (c .before .before .before .args .xs .now) (c .before .before .loop .i) (pos 0))
-element c = sfits-of (c .magnitude-arg .given)
+magnitude16-requires : tie.Need-magnitude16-requires Inv-loop μ-loop
+magnitude16-requires c κs = search needs
 
-cast-magnitude : tie.Need-cast-magnitude Inv-loop μ-loop
-cast-magnitude c = simp (toZ-ofZ (element c)) (fits-64 (element c))
-
-magnitude-requires : tie.Need-magnitude-requires Inv-loop μ-loop
-magnitude-requires c κs = search needs
-
-size : (c : tie.After-magnitude Inv-loop μ-loop) →
-    c .magnitude .result ≡ natAbs (getD (c .before .before .before .before .args .xs .now) (c .before .before .before .loop .i) (pos 0))
-size c = c .magnitude .ensures ∙ simp (toZ-ofZ (element (c .before)), toZ-ofZ (fits-64 (element (c .before))))
-
-cast-seen : tie.Need-cast-seen Inv-loop μ-loop
-cast-seen c = subst (Fits w16) (sym (size c)) (fits-natAbs tt (element (c .before)))
+sized : (c : tie.After-magnitude16 Inv-loop μ-loop) →
+    c .magnitude16 .result ≡ getD (magnitudes (c .before .before .before .before .args .xs .now)) (c .before .before .before .loop .i) 0
+sized c =
+    c .magnitude16 .ensures
+    ∙ ap natAbs (kept w16 (getD (c .before .before .before .before .args .xs .now) (c .before .before .before .loop .i) (pos 0)) (c .before .magnitude16-arg .given))
+    ∙ sym (List·getD-map natAbs (c .before .before .before .before .args .xs .now) (c .before .before .before .loop .i) (pos 0))
 
 add-i : tie.Need-add-i Inv-loop μ-loop
 add-i c = search needs
@@ -57,7 +49,7 @@ loop-again : tie.Need-loop-again Inv-loop μ-loop
 loop-again c =
     let xs = c .before .before .before .before .args .xs .now in
     let l = c .before .before .before .loop in
-    ap (λ (n : ℕ). bitLength (bitOr (l .seen) n)) (size c ∙ sym (List·getD-map natAbs xs (l .i) (pos 0)))
+    ap (λ (n : ℕ). bitLength (bitOr (l .seen) n)) (sized c)
     ∙ bits-next (magnitudes xs) (l .i) (l .seen) (l .inv)
 
 returns : tie.Need-returns Inv-loop μ-loop
@@ -70,11 +62,9 @@ bits-spec =
     Inv-loop
     μ-loop
     loop-holds
-    mul-magnitude
-    shared-slice-copy-out-magnitude
-    cast-magnitude
-    magnitude-requires
-    cast-seen
+    mul-magnitude16
+    shared-slice-copy-out-magnitude16
+    magnitude16-requires
     add-i
     loop-less
     loop-again
