@@ -1,21 +1,24 @@
 -- Laws of the symbols' largest bit length, by the delay of one that has it.
-use mathlib.Core.Path.{_≡_}
-use mathlib.Core.Bool.{true}
+use mathlib.Core.Path.{_≡_, refl}
+use mathlib.Core.Bool.{Bool, true, false, cond}
 use mathlib.Core.List.{List, _∷_}
-use Prim.Native.Nat.{ℕ, _+_, _^_, _<_}
+use Prim.Native.Nat.{ℕ, _+_, _^_, _≤_, _<_}
 use native.Mathlib.Omega.{arith}
 use native.Mathlib.Numerals.{add-one}
+use lib.Dec.{ltb}
+use borrow.Author.Tests.{ltb-true}
 use lib.ListN.{length, getD, take, length-take}
 use lib.Seq.{getD-take}
 use lib.IntN.{ℤ, pos, natAbs}
 use Rattle.laws.specs.Powers.{positive}
 use Rattle.laws.specs.Sums.{Each, each-weaken}
+use Rattle.numbers.specs.BitLength.{bitLength}
 use Rattle.numbers.proofs.BitLengthLaws.{bit-length-le, bit-length-mono}
 use Rattle.steps.specs.Settings.{isEntry}
 use Rattle.steps.specs.Side.{longest, largest, magnitudes}
 use Rattle.steps.proofs.LargestLaws.{largest-magnitude, longest-is, magnitude-at}
 use Rattle.steps.proofs.SymbolLaws.{entry-below}
-use Rattle.filter.specs.Calls.{LongestAt, SymbolBounds}
+use Rattle.filter.specs.Calls.{LongestAt, nextDelay, SymbolBounds}
 
 -- a symbol of bit length r + 1 has the largest
 pub reached : {r delay : ℕ} {l : List ℤ} → SymbolBounds r delay l → delay < length l → r + 1 ≡ longest l
@@ -31,9 +34,23 @@ reached {r} {delay} {l} p h =
     below : Each (λ (x : ℤ). natAbs x < 2 ^ (r + 1)) l
     below = each-weaken (λ (x : ℤ). isEntry r x ≡ true) (λ (x : ℤ). natAbs x < 2 ^ (r + 1)) (entry-below r) l (p .symbols-are)
 
--- one more symbol before them
-pub longest-at-next : (r delay : ℕ) (v : ℤ) (l : List ℤ) → LongestAt r delay l → LongestAt r (delay + 1) (v ∷ l)
-longest-at-next r delay v l p = rw (add-one delay) (λ h. p (omega arith))
+-- ---- one more symbol before them
+
+pub next-delay-most : (r delay : ℕ) (v : ℤ) → nextDelay r delay v ≤ delay + 1
+unfolding nextDelay
+next-delay-most r delay v = go (ltb r (bitLength (natAbs v)))
+  where
+    go : (b : Bool) → cond b 0 (delay + 1) ≤ delay + 1
+    go true = omega arith
+    go false = omega arith
+
+pub next-longest-at : (r delay : ℕ) (v : ℤ) (l : List ℤ) → LongestAt r delay l → LongestAt r (nextDelay r delay v) (v ∷ l)
+unfolding nextDelay
+next-longest-at r delay v l p = go (ltb r (bitLength (natAbs v))) refl
+  where
+    go : (b : Bool) → ltb r (bitLength (natAbs v)) ≡ b → LongestAt r (cond b 0 (delay + 1)) (v ∷ l)
+    go true e = λ h. ltb-true r (bitLength (natAbs v)) e
+    go false e = rw (add-one delay) (λ h. p (omega arith))
 
 -- the first of them
 pub longest-at-take : (r delay q : ℕ) (l : List ℤ) → LongestAt r delay l → LongestAt r delay (take q l)

@@ -3,7 +3,7 @@ use mathlib.Core.Path.{_≡_}
 use mathlib.Core.Bool.{true, _&&_, cond}
 use mathlib.Core.List.{List, [], _∷_, _++_}
 use Prim.Native.Nat.{ℕ, _+_, _-_, _*_, _^_, _≤_, _<_, max}
-use lib.Dec.{eqb}
+use lib.Dec.{eqb, ltb}
 use lib.ListN.{length, getD, take}
 use lib.IntN.{ℤ, pos, natAbs, _*ℤ_}
 use Rattle.laws.specs.Sums.{Each, dot}
@@ -37,8 +37,8 @@ abbrev pub LongestAt : ℕ → ℕ → List ℤ → Type 0
 LongestAt r delay symbols = delay < length symbols → r < bitLength (natAbs (getD symbols delay (pos 0)))
 
 -- the delay after the symbol v
-abbrev pub NextDelay : ℕ → ℕ → ℤ → ℕ → Type 0
-NextDelay r delay v delay′ = (delay′ ≤ delay + 1) × ((symbols : List ℤ) → LongestAt r delay symbols → LongestAt r delay′ (v ∷ symbols))
+unfoldable pub nextDelay : ℕ → ℕ → ℤ → ℕ
+nextDelay r delay v = cond (ltb r (bitLength (natAbs v))) 0 (delay + 1)
 
 pub record SymbolBounds (r delay : ℕ) (symbols : List ℤ) : Type 0 where
   pub r-most : r ≤ symbolLimit

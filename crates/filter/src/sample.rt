@@ -1,11 +1,12 @@
 // One sample.
 ghost use mathlib.Core.Path.{_≡_};
-ghost use Prim.Native.Nat.{_^_, _<_, _≤_, max};
+ghost use Prim.Native.Nat.{_+_, _^_, _<_, _≤_};
+ghost use lib.Bits.{bitOr};
 ghost use lib.IntN.{natAbs};
 ghost use lib.ListN.{drop};
-ghost use Rattle.numbers.specs.BitLength.{bitLength};
-ghost use Rattle.steps.specs.Side.{longest};
-ghost use Rattle.filter.specs.Calls.{LongestAt, NextDelay, SymbolBounds, FilterBounds, Output-is, DecisionBounds, Decision-is, chosen, UpdateBounds, updated, Settled-is, ChangeBounds, Changed-is, resultOf, Ready, SampleResult-is, settingsOf, tapsOf};
+ghost use Rattle.steps.specs.Limits.{symbolLimit, exponentLimit, outputExponentLimit, lineLength};
+ghost use Rattle.steps.specs.Side.{longest, magnitudes, together};
+ghost use Rattle.filter.specs.Calls.{LongestAt, nextDelay, SymbolBounds, FilterBounds, Output-is, DecisionBounds, Decision-is, chosen, UpdateBounds, updated, Settled-is, ChangeBounds, Changed-is, resultOf, Ready, SampleResult-is, settingsOf, tapsOf};
 
 // The settings of a station.
 pub struct Settings {
@@ -44,8 +45,8 @@ pub struct SampleResult {
 
 // How many symbols have come since one of the largest bit length, after the symbol v.
 pub fn next_delay(r: u32, delay: usize, v: i16) -> usize
-    requires { ⌜ delay ≤ 256 ⌝ }
-    ensures { λ a. ⌜ NextDelay r delay v a ⌝ }
+    requires { ⌜ delay ≤ lineLength ⌝ }
+    ensures { λ a. ⌜ a ≡ nextDelay r delay v ⌝ }
 {
     if r < numbers::bit_length::signed_bit_length(v as i64) {
         0
@@ -128,7 +129,7 @@ pub fn update(
     more: u32,
 ) -> u16
     requires { ⌜ UpdateBounds m z psi theta scale exponent more (now w) (now a) ⌝ }
-    ensures { λ r. ⌜ (now (w .exit) ≡ updated m z psi theta scale exponent more (now (w .entry)) (now (a .entry))) × (bitLength r ≡ longest (now (w .exit))) ⌝ }
+    ensures { λ r. ⌜ (now (w .exit) ≡ updated m z psi theta scale exponent more (now (w .entry)) (now (a .entry))) × (r ≡ together (magnitudes (now (w .exit)))) ⌝ }
 {
     let j = steps::factor::factor(m, z, 60 + psi + scale - (exponent + theta));
     steps::side::adapt(w, a, j as i32, 15 - (scale + more))
@@ -136,7 +137,7 @@ pub fn update(
 
 // Step 7: the new ψ, where seen has the bits of all new magnitudes together.
 pub fn settle(forward: &mut [i16], back: &mut [i16], seen: u16, psi: u32) -> u32
-    requires { ⌜ (psi ≤ 15) × (bitLength seen ≡ max (longest (now forward)) (longest (now back))) ⌝ }
+    requires { ⌜ (psi ≤ exponentLimit) × (seen ≡ bitOr (together (magnitudes (now forward))) (together (magnitudes (now back)))) ⌝ }
     ensures { λ r. ⌜ Settled-is psi (now (forward .entry)) (now (back .entry)) r (now (forward .exit)) (now (back .exit)) ⌝ }
 {
     if seen < steps::limits::HALVING {
@@ -174,7 +175,7 @@ pub fn change(
 
 // What is handed out, in its final widths.
 fn hand_out(h: Output, j: Decision, psi: u32) -> SampleResult
-    requires { ⌜ (h .xi ≤ 24) × (j .theta ≤ 24) × (natAbs (j .decision) < 2 ^ 4) ⌝ }
+    requires { ⌜ (h .xi ≤ outputExponentLimit) × (j .theta ≤ outputExponentLimit) × (natAbs (j .decision) < 2 ^ (symbolLimit + 1)) ⌝ }
     ensures { λ r. ⌜ r ≡ resultOf h j psi ⌝ }
 {
     SampleResult {

@@ -1,9 +1,11 @@
 -- Whole numbers in machine registers: ranges as bounds on magnitudes, tests as orders, a one that is shifted.
-use mathlib.Core.Path.{_≡_, refl, sym, ap, _∙_, subst}
+use mathlib.Core.Path.{_≡_, refl, sym, ap, ap₂, _∙_, subst}
 use mathlib.Core.Bool.{true, false, not}
-use Prim.Native.Nat.{ℕ, zero, suc, _+_, _*_, _-_, _%_, _^_, _≤_, _<_}
+use Prim.Native.Nat.{ℕ, zero, suc, _+_, _*_, _-_, _/_, _%_, _^_, _≤_, _<_, max}
 use native.Mathlib.Omega.{arith}
-use native.Mathlib.Nat.{one-mul, mod-eq-of-lt, lt-of-le-of-lt, lt-trans}
+use native.Mathlib.Nat.{one-mul, mod-eq-of-lt, mod-lt, lt-of-le-of-lt, lt-trans}
+use lib.Arith.{bin-ind, digits-div, digits-mod}
+use lib.Bits.{bitOr, or-step}
 use lib.Dec.{T, ltb, ltb→lt, lt→ltb, nleb→lt, lit<}
 use borrow.Author.Tests.{le-ltb}
 use lib.Pow.{pow-lt, pow-pos}
@@ -109,3 +111,25 @@ pub upper : (w : Width) (n m : ℕ) → m < 2 ^ hbits w → m + suc n ≡ 2 ^ bi
 upper w n m h e =
     ap (λ (z : ℤ). negsuc 0 -ℤ z) (toZ-pos w h) ∙ minus-one m ∙ sym (toZ-neg w m h)
     ∙ ap (toZ w) (omega arith)
+
+-- ---- the bits of two numbers together
+
+digit : (a b : ℕ) → max (a % 2) (b % 2) < 2
+digit a b = omega (arith, mod-lt a (lit< {m = 0} {n = 2} tt), mod-lt b (lit< {m = 0} {n = 2} tt))
+
+or-half : (a b : ℕ) → bitOr a b / 2 ≡ bitOr (a / 2) (b / 2)
+or-half a b = ap (λ (n : ℕ). n / 2) (or-step a b) ∙ digits-div (bitOr (a / 2) (b / 2)) (digit a b)
+
+or-last : (a b : ℕ) → bitOr a b % 2 ≡ max (a % 2) (b % 2)
+or-last a b = ap (λ (n : ℕ). n % 2) (or-step a b) ∙ digits-mod (bitOr (a / 2) (b / 2)) (digit a b)
+
+pub or-assoc : (a b c : ℕ) → bitOr (bitOr a b) c ≡ bitOr a (bitOr b c)
+or-assoc a = bin-ind (λ (n : ℕ). (b c : ℕ) → bitOr (bitOr n b) c ≡ bitOr n (bitOr b c)) (λ b c. refl) next a
+  where
+    next : (n : ℕ) → ((b c : ℕ) → bitOr (bitOr (n / 2) b) c ≡ bitOr (n / 2) (bitOr b c)) → (b c : ℕ) → bitOr (bitOr n b) c ≡ bitOr n (bitOr b c)
+    next n rest b c =
+        or-step (bitOr n b) c
+        ∙ ap₂ (λ (x y : ℕ). x * 2 + y)
+        (ap (λ (x : ℕ). bitOr x (c / 2)) (or-half n b) ∙ rest (b / 2) (c / 2) ∙ ap (bitOr (n / 2)) (sym (or-half b c)))
+        (omega (arith, or-last n b, or-last b c))
+        ∙ sym (or-step n (bitOr b c))

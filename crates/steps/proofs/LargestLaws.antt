@@ -3,24 +3,21 @@ use mathlib.Core.Path.{_≡_, refl, sym, ap, ap₂, _∙_, subst}
 use mathlib.Core.Bool.{Bool, true, false, _&&_}
 use mathlib.Core.List.{List, [], _∷_, map}
 use Prim.Native.Nat.{ℕ, zero, suc, _+_, _^_, _≤_, _<_, max}
-use native.Mathlib.Omega.{arith, max-cases, by-contra}
-use native.Mathlib.Nat.{max-eq-left, max-eq-right}
+use native.Mathlib.Omega.{arith, max-cases}
+use native.Mathlib.Nat.{le-trans, max-eq-left, max-eq-right}
 use native.Mathlib.Numerals.{add-one}
 use lib.Dec.{ltb}
 use lib.IntN.{ℤ, pos, natAbs}
-use lib.Bits.{bitOr, and-le-l, and-le-r, or-lt, or-add-and}
-use lib.ListN.{length, getD, take, length-map, List·getD-map}
+use lib.Bits.{bitOr, and-le-l, and-le-r, or-lt, or-add-and, or-zero-r}
+use lib.ListN.{length, getD, take, List·getD-map}
 use lib.Seq.{take-all}
 use borrow.Author.Tests.{lt-ltb, le-ltb, ltb-true, ltb-false}
+use Rattle.laws.specs.Machine.{or-assoc}
 use Rattle.laws.specs.Sums.{Each, each-map, each-of, each-weaken}
 use Rattle.numbers.specs.BitLength.{bitLength}
 use Rattle.numbers.proofs.BitLengthLaws.{bit-length-zero, bit-length-mono, bit-length-le, bit-length-lt}
 use Rattle.steps.specs.Limits.{halvingLimit}
-use Rattle.steps.specs.Side.{isSmall, allSmall, magnitudes, largest, longest}
-
-pub largest-none : largest [] ≡ 0
-unfolding largest
-largest-none = refl
+use Rattle.steps.specs.Side.{isSmall, allSmall, magnitudes, largest, together, longest}
 
 -- ---- every element and the largest
 
@@ -47,33 +44,6 @@ magnitude-at l i = rw (sym (List·getD-map natAbs l i (pos 0))) (largest-at (mag
 pub each-magnitude : (l : List ℤ) → Each (λ (x : ℤ). natAbs x ≤ largest (magnitudes l)) l
 each-magnitude l = each-of (λ (x : ℤ). natAbs x ≤ largest (magnitudes l)) (pos 0) l (λ i h. magnitude-at l i)
 
--- ---- in a loop from the front
-
-next : (ns : List ℕ) (i : ℕ) → largest (take (suc i) ns) ≡ max (largest (take i ns)) (getD ns i 0)
-unfolding largest
-next [] zero = refl
-next [] (suc i) = refl
-next (n ∷ ns) zero = omega arith
-next (n ∷ ns) (suc i) = omega (arith, next ns i)
-
-largest-end : (ns : List ℕ) (i : ℕ) → length ns ≤ i → largest (take i ns) ≡ largest ns
-largest-end ns i h = ap largest (take-all i ns h)
-
--- ---- below a limit
-
-max-below : (k m n : ℕ) (a b : Bool) → ltb m k ≡ a → ltb n k ≡ b → (a && b) ≡ ltb (max m n) k
-max-below k m n true true e f = sym (lt-ltb (max m n) k (omega (arith, ltb-true m k e, ltb-true n k f)))
-max-below k m n true false e f = sym (le-ltb (max m n) k (omega (arith, ltb-false n k f)))
-max-below k m n false b e f = sym (le-ltb (max m n) k (omega (arith, ltb-false m k e)))
-
--- no weight has reached the halving limit where the largest magnitude has not
-all-small-is : (w : List ℤ) → allSmall w ≡ ltb (largest (magnitudes w)) halvingLimit
-unfolding largest
-all-small-is [] = refl
-all-small-is (x ∷ w) =
-    ap (λ (b : Bool). isSmall x && b) (all-small-is w)
-    ∙ max-below halvingLimit (natAbs x) (largest (magnitudes w)) (isSmall x) (ltb (largest (magnitudes w)) halvingLimit) refl refl
-
 -- ---- the bit length
 
 max-bit-length : (m n : ℕ) → max (bitLength m) (bitLength n) ≡ bitLength (max m n)
@@ -98,46 +68,68 @@ longest-above l =
 
 -- ---- the bits of several numbers together
 
+pub or-left : (m n : ℕ) → m ≤ bitOr m n
+or-left m n = omega (arith, or-add-and m n, and-le-r m n)
+
+pub or-right : (m n : ℕ) → n ≤ bitOr m n
+or-right m n = omega (arith, or-add-and m n, and-le-l m n)
+
 pub or-bit-length : (m n : ℕ) → bitLength (bitOr m n) ≡ max (bitLength m) (bitLength n)
 or-bit-length m n =
     omega (
       arith,
       bit-length-le (bitOr m n) most (or-lt most m n (bit-length-lt m most (omega arith)) (bit-length-lt n most (omega arith))),
-      bit-length-mono {m = m} {n = bitOr m n} (omega (arith, or-add-and m n, and-le-r m n)),
-      bit-length-mono {m = n} {n = bitOr m n} (omega (arith, or-add-and m n, and-le-l m n)),
+      bit-length-mono (or-left m n),
+      bit-length-mono (or-right m n),
     )
   where
     most : ℕ
     most = max (bitLength m) (bitLength n)
 
--- one element more
-pub bits-next : (ns : List ℕ) (i m : ℕ) → bitLength m ≡ bitLength (largest (take i ns)) → bitLength (bitOr m (getD ns i 0)) ≡ bitLength (largest (take (i + 1) ns))
-bits-next ns i m e =
-    or-bit-length m (getD ns i 0) ∙ ap (λ (k : ℕ). max k (bitLength (getD ns i 0))) e
-    ∙ max-bit-length (largest (take i ns)) (getD ns i 0)
-    ∙ ap bitLength (sym (ap (λ (j : ℕ). largest (take j ns)) (add-one i) ∙ next ns i))
+pub together-length : (ns : List ℕ) → bitLength (together ns) ≡ largest (map bitLength ns)
+unfolding together largest
+together-length [] = bit-length-zero
+together-length (n ∷ ns) = or-bit-length n (together ns) ∙ ap (max (bitLength n)) (together-length ns)
 
-pub bits-end : (l : List ℤ) (i m : ℕ) → length l ≤ i → bitLength m ≡ bitLength (largest (take i (magnitudes l))) → bitLength m ≡ longest l
-bits-end l i m h e = e ∙ ap bitLength (largest-end (magnitudes l) i (rw length-map h)) ∙ sym (longest-is l)
+-- as many as the largest has
+pub together-longest : (l : List ℤ) → bitLength (together (magnitudes l)) ≡ longest l
+unfolding longest
+together-longest l = together-length (magnitudes l)
 
--- two numbers of one bit length are on the same side of a power of two
-same-side : (k m n : ℕ) (b : Bool) → bitLength m ≡ bitLength n → ltb n (2 ^ k) ≡ b → ltb m (2 ^ k) ≡ b
-same-side k m n true e t = lt-ltb m (2 ^ k) (bit-length-lt m k (omega (arith, e, bit-length-le n k (ltb-true n (2 ^ k) t))))
-same-side k m n false e t =
-    le-ltb m (2 ^ k) (by-contra (2 ^ k) m (λ h. omega (arith, ltb-false n (2 ^ k) t, bit-length-lt n k (omega (arith, e, bit-length-le m k h)))))
+-- ---- in a loop from the front
+
+pub together-none : together [] ≡ 0
+unfolding together
+together-none = refl
+
+together-take : (ns : List ℕ) (i : ℕ) → bitOr (together (take i ns)) (getD ns i 0) ≡ together (take (suc i) ns)
+unfolding together
+together-take [] zero = refl
+together-take [] (suc i) = refl
+together-take (n ∷ ns) zero = sym (or-zero-r n)
+together-take (n ∷ ns) (suc i) = or-assoc n (together (take i ns)) (getD ns i 0) ∙ ap (bitOr n) (together-take ns i)
+
+-- one number more
+pub together-next : (ns : List ℕ) (i m n : ℕ) → m ≡ together (take i ns) → n ≡ getD ns i 0 → bitOr m n ≡ together (take (i + 1) ns)
+together-next ns i m n e f = ap₂ bitOr e f ∙ together-take ns i ∙ ap (λ (j : ℕ). together (take j ns)) (sym (add-one i))
+
+-- all of them
+pub together-all : (ns : List ℕ) (i m : ℕ) → length ns ≤ i → m ≡ together (take i ns) → m ≡ together ns
+together-all ns i m h e = e ∙ ap together (take-all i ns h)
+
+-- ---- below a power of two
+
+or-below : (k m n : ℕ) (a b : Bool) → ltb m (2 ^ k) ≡ a → ltb n (2 ^ k) ≡ b → ltb (bitOr m n) (2 ^ k) ≡ (a && b)
+or-below k m n true true e f = lt-ltb (bitOr m n) (2 ^ k) (or-lt k m n (ltb-true m (2 ^ k) e) (ltb-true n (2 ^ k) f))
+or-below k m n true false e f = le-ltb (bitOr m n) (2 ^ k) (le-trans (ltb-false n (2 ^ k) f) (or-right m n))
+or-below k m n false b e f = le-ltb (bitOr m n) (2 ^ k) (le-trans (ltb-false m (2 ^ k) e) (or-left m n))
 
 -- no weight has reached the halving limit where the bits together have not, on one side
-pub bits-small : (w : List ℤ) (m : ℕ) → bitLength m ≡ longest w → ltb m halvingLimit ≡ allSmall w
-bits-small w m e = same-side 14 m (largest (magnitudes w)) (ltb (largest (magnitudes w)) halvingLimit) (e ∙ longest-is w) refl ∙ sym (all-small-is w)
+pub together-small : (w : List ℤ) → ltb (together (magnitudes w)) halvingLimit ≡ allSmall w
+unfolding together
+together-small [] = refl
+together-small (x ∷ w) = or-below 14 (natAbs x) (together (magnitudes w)) (isSmall x) (allSmall w) refl (together-small w)
 
 -- and on both
-pub bits-both-small : (w u : List ℤ) (m : ℕ) → bitLength m ≡ max (longest w) (longest u) → ltb m halvingLimit ≡ (allSmall w && allSmall u)
-bits-both-small w u m e =
-    same-side 14 m (max x y) (ltb (max x y) halvingLimit) (e ∙ ap₂ max (longest-is w) (longest-is u) ∙ max-bit-length x y) refl
-    ∙ sym (ap₂ (λ (b c : Bool). b && c) (all-small-is w) (all-small-is u) ∙ max-below halvingLimit x y (ltb x halvingLimit) (ltb y halvingLimit) refl refl)
-  where
-    x : ℕ
-    x = largest (magnitudes w)
-
-    y : ℕ
-    y = largest (magnitudes u)
+pub both-small : (w u : List ℤ) → ltb (bitOr (together (magnitudes w)) (together (magnitudes u))) halvingLimit ≡ (allSmall w && allSmall u)
+both-small w u = or-below 14 (together (magnitudes w)) (together (magnitudes u)) (allSmall w) (allSmall u) (together-small w) (together-small u)

@@ -6,7 +6,7 @@ use native.Mathlib.Omega.{arith}
 use native.Mathlib.Nat.{le-of-lt, le-of-suc-le-suc, not-suc-le-zero, lt-of-le-of-lt, lt-of-lt-of-le, mul-le-mul-left, mul-le-mul-right, min-le-right}
 use native.Mathlib.Numerals.{add-one}
 use lib.Bits.{bitOr}
-use lib.ListN.{length, getD, take, set, length-take, List·getD-map}
+use lib.ListN.{length, getD, take, set, length-take, length-map, List·getD-map}
 use lib.Seq.{take-all, length-take-le, getD-take}
 use lib.IntN.{ℤ, pos, natAbs, _+ℤ_, _*ℤ_, *ℤ-comm}
 use mir.Syntax.{w16, w32, w64}
@@ -16,12 +16,12 @@ use Rattle.laws.specs.Integers.{*ℤ-assoc}
 use Rattle.laws.specs.Lists.{Written, written-none, written-next, written-all}
 use Rattle.laws.specs.Sums.{dot, dot-next, dot-bound, Each, each-at, each-take, each-weaken}
 use Rattle.laws.specs.Powers.{rises}
-use Rattle.numbers.specs.BitLength.{bitLength}
 use Rattle.numbers.specs.Cut.{cut, raise, rescale}
+use Rattle.numbers.proofs.BitLengthLaws.{bit-length-le}
 use Rattle.numbers.proofs.CutLaws.{cut-zero, cut-lt, rescale-down}
-use Rattle.steps.specs.Side.{adapted, adapt, halved, push, largest, longest, magnitudes}
+use Rattle.steps.specs.Side.{adapted, adapt, halved, push, largest, longest, magnitudes, together}
 use Rattle.steps.specs.Sound.{Small, Summable, Adaptable, Storable}
-use Rattle.steps.proofs.LargestLaws.{largest-none, magnitude-at, each-magnitude, longest-above, bits-next, bits-end}
+use Rattle.steps.proofs.LargestLaws.{magnitude-at, each-magnitude, longest-above, together-longest, together-none, together-next, together-all}
 
 -- ---- a number of 16 bits in a wider register
 
@@ -78,27 +78,25 @@ adapt-at k (w ∷ ws) [] i h g = absurd (not-suc-le-zero g)
 adapt-at k (w ∷ ws) (a ∷ b) zero h g = refl
 adapt-at k (w ∷ ws) (a ∷ b) (suc i) h g = adapt-at k ws b i (le-of-suc-le-suc h) (le-of-suc-le-suc g)
 
--- the first i weights are the new ones, the others are still the old ones, and the bits seen of the new ones are as many as the largest has
+-- the first i weights are the new ones, the others are still the old ones, and the bits seen are those of the new ones together
 pub record Changing (new old : List ℤ) (i : ℕ) (now : List ℤ) (seen : ℕ) : Type 0 where
   pub written : Written new old i now
-  pub bits : bitLength seen ≡ bitLength (largest (take i (magnitudes new)))
+  pub bits : seen ≡ together (take i (magnitudes new))
 
 pub changing-none : (new old : List ℤ) → Changing new old 0 old 0
-changing-none new old = record { written = written-none new old; bits = ap bitLength (sym largest-none) }
+changing-none new old = record { written = written-none new old; bits = sym together-none }
 
 module _ {new old now : List ℤ} {i seen : ℕ} (c : Changing new old i now seen) where
   pub changing-next : (x : ℤ) (n : ℕ) → length new ≡ length old → i < length old → x ≡ getD new i (pos 0) → n ≡ natAbs x → Changing new old (i + 1) (set now i x) (bitOr seen n)
   changing-next x n l h e s = record {
     written = written-next (c .written) (pos 0) x (omega arith) h e;
-    bits =
-        ap (λ (m : ℕ). bitLength (bitOr seen m)) (s ∙ ap natAbs e ∙ sym (List·getD-map natAbs new i (pos 0)))
-        ∙ bits-next (magnitudes new) i seen (c .bits);
+    bits = together-next (magnitudes new) i seen n (c .bits) (s ∙ ap natAbs e ∙ sym (List·getD-map natAbs new i (pos 0)));
   }
 
-  pub changing-all : length new ≡ length old → length old ≤ i → (now ≡ new) × (bitLength seen ≡ longest now)
+  pub changing-all : length new ≡ length old → length old ≤ i → (now ≡ new) × (seen ≡ together (magnitudes now))
   changing-all l h =
       let e = written-all (c .written) l h in
-      (e, bits-end new i seen (omega arith) (c .bits) ∙ ap longest (sym e))
+      (e, together-all (magnitudes new) i seen (rw length-map (omega arith)) (c .bits) ∙ ap (λ (w : List ℤ). together (magnitudes w)) (sym e))
 
 -- data raised by e places
 pub adapt-raise : (e : ℕ) (k : ℤ) (w a : List ℤ) → adapt k w (map (λ (x : ℤ). raise x e) a) ≡ adapt (raise k e) w a
@@ -124,13 +122,14 @@ halved-is (x ∷ w) = ap₂ (λ (y : ℤ) (l : List ℤ). y ∷ l) (rescale-down
 pub halved-at : (w : List ℤ) (i : ℕ) → getD (halved w) i (pos 0) ≡ cut (getD w i (pos 0)) 1
 halved-at w i = ap (λ (d : ℤ). getD (halved w) i d) (sym (cut-zero 1)) ∙ List·getD-map (λ (x : ℤ). cut x 1) w i (pos 0)
 
--- a half fits 16 bits where the number has no more than 16
-pub halvable : (w : List ℤ) → longest w ≤ 16 → Each (Storable 0 1) w
+-- a half fits 16 bits where the bits of all numbers together do without a sign
+pub halvable : (w : List ℤ) → together (magnitudes w) < 2 ^ 16 → Each (Storable 0 1) w
 halvable w h = each-weaken (λ (x : ℤ). natAbs x < 2 ^ longest w) (Storable 0 1) half w (longest-above w)
   where
     half : (x : ℤ) → natAbs x < 2 ^ longest w → Storable 0 1 x
     half x l =
-        let below : natAbs x < 2 ^ 16 = lt-of-lt-of-le l (rises h) in
+        let most : longest w ≤ 16 = rw (← together-longest) (bit-length-le (together (magnitudes w)) 16 h) in
+        let below : natAbs x < 2 ^ 16 = lt-of-lt-of-le l (rises most) in
         record {
           shift = omega arith;
           room = omega arith;

@@ -3,6 +3,7 @@ use mathlib.Core.Bool.{Bool}
 use mathlib.Core.List.{List, [], _∷_, map}
 use Prim.Native.Nat.{ℕ, _+_, _-_, max}
 use lib.IntN.{ℤ, pos, natAbs, _+ℤ_, _*ℤ_}
+use lib.Bits.{bitOr}
 use lib.Dec.{ltb}
 use lib.ListN.{length, take}
 use Rattle.laws.specs.Lists.{all}
@@ -66,6 +67,11 @@ magnitudes l = map natAbs l
 unfoldable pub largest : List ℕ → ℕ
 largest [] = 0
 largest (n ∷ ns) = max n (largest ns)
+
+-- the bits of several numbers together
+unfoldable pub together : List ℕ → ℕ
+together [] = 0
+together (n ∷ ns) = bitOr n (together ns)
 
 -- step 1: c, the largest bit length
 unfoldable pub longest : List ℤ → ℕ

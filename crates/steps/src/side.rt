@@ -4,10 +4,12 @@ ghost use mathlib.Core.List.{map};
 ghost use Prim.Native.Nat.{_+_, _*_, _-_, _/_, _^_, _<_, _≤_};
 ghost use lib.IntN.{ℤ, pos, _+ℤ_, _*ℤ_, natAbs};
 ghost use Rattle.laws.specs.Sums.{dot, Each};
-ghost use Rattle.numbers.specs.BitLength.{bitLength};
 ghost use Rattle.numbers.specs.Cut.{raise, rescale};
-ghost use Rattle.steps.specs.Side.{adapted, adapt, allSmall, longest};
-ghost use Rattle.steps.specs.Sound.{Summable, Adaptable, Storable};
+ghost use Rattle.steps.specs.Side.{adapted, adapt, allSmall, magnitudes, together, longest};
+ghost use Rattle.steps.specs.Sound.{Small, Summable, Adaptable, Storable};
+
+// Up to so many taps are few.
+const FEW: usize = 4;
 
 // One product more.
 fn mac(sum: i32, w: i16, a: i16) -> i32
@@ -17,8 +19,8 @@ fn mac(sum: i32, w: i16, a: i16) -> i32
     sum + (w as i32) * (a as i32)
 }
 
-// Step 2 for many taps.
-fn sum_many(w: &[i16], a: &[i16]) -> i32
+// The sum of weights times data.
+fn total(w: &[i16], a: &[i16]) -> i32
     requires { ⌜ Summable (now w) (now a) ⌝ }
     ensures { λ r. ⌜ r ≡ dot (now (w .entry)) (now (a .entry)) ⌝ }
 {
@@ -31,29 +33,23 @@ fn sum_many(w: &[i16], a: &[i16]) -> i32
     total
 }
 
-// Step 2 for few taps: the same loop, which a compiler then knows to be short.
-fn sum_few(w: &[i16], a: &[i16]) -> i32
+// The same for few taps, which a compiler then knows to be a short loop.
+fn total_few(w: &[i16], a: &[i16]) -> i32
     requires { ⌜ Summable (now w) (now a) ⌝ }
     ensures { λ r. ⌜ r ≡ dot (now (w .entry)) (now (a .entry)) ⌝ }
 {
-    let mut total: i32 = 0;
-    let mut i: usize = 0;
-    while i < w.len() {
-        total = mac(total, w[i], a[i]);
-        i += 1;
-    }
-    total
+    total(w, a)
 }
 
-// Step 2: the sum of weights times data. Up to 4 taps are few.
+// Step 2: the sum of weights times data.
 pub fn sum(w: &[i16], a: &[i16]) -> i32
     requires { ⌜ Summable (now w) (now a) ⌝ }
     ensures { λ r. ⌜ r ≡ dot (now (w .entry)) (now (a .entry)) ⌝ }
 {
-    if w.len() <= 4 {
-        sum_few(w, a)
+    if w.len() <= FEW {
+        total_few(w, a)
     } else {
-        sum_many(w, a)
+        total(w, a)
     }
 }
 
@@ -67,7 +63,7 @@ fn gain(factor: u32, size: u16, t: u32) -> i16
 
 // Step 6: one weight and what it gains, by magnitudes.
 fn adapted_by_size(j: i32, factor: u32, t: u32, w: i16, a: i16) -> i16
-    requires { ⌜ (t ≤ 15) × (factor ≡ natAbs j) × (natAbs w < 2 ^ 14) × (natAbs j * natAbs a < 2 ^ (29 + t)) ⌝ }
+    requires { ⌜ (t ≤ 15) × (factor ≡ natAbs j) × (Small w) × (natAbs j * natAbs a < 2 ^ (29 + t)) ⌝ }
     ensures { λ r. ⌜ r ≡ adapted (raise j (15 - t)) w a ⌝ }
 {
     let more = gain(factor, numbers::bit_length::magnitude16(a), t);
@@ -78,41 +74,38 @@ fn adapted_by_size(j: i32, factor: u32, t: u32, w: i16, a: i16) -> i16
     }
 }
 
-// Step 6 for many taps: products of magnitudes of 32 bits, which a compiler takes several at a time.
-fn adapt_many(w: &mut [i16], a: &[i16], j: i32, t: u32) -> u16
-    requires { ⌜ Adaptable j t (now w) (now a) ⌝ }
-    ensures { λ r. ⌜ (now (w .exit) ≡ adapt (raise j (15 - t)) (now (w .entry)) (now (a .entry))) × (bitLength r ≡ longest (now (w .exit))) ⌝ }
+// Step 6: one weight and what it gains, where k is J·2^(15 − t).
+fn adapted(k: i64, w: i16, a: i16) -> i16
+    requires { ⌜ (Small w) × (natAbs k * natAbs a < 2 ^ 44) ⌝ }
+    ensures { λ r. ⌜ r ≡ adapted k w a ⌝ }
 {
+    ((w as i64) + numbers::cut::cut_near(k * (a as i64), 30)) as i16
+}
+
+// Step 6: one weight and what it gains, where k is J·2^(15 − t) and factor is |J|: by a signed product where taps are few,
+// and where they are many by magnitudes, of which a compiler takes several at a time.
+fn adapted_by(few: bool, j: i32, k: i64, factor: u32, t: u32, w: i16, a: i16) -> i16
+    requires { ⌜ (t ≤ 15) × (k ≡ raise j (15 - t)) × (factor ≡ natAbs j) × (Small w) × (natAbs j * natAbs a < 2 ^ (29 + t)) ⌝ }
+    ensures { λ r. ⌜ r ≡ adapted (raise j (15 - t)) w a ⌝ }
+{
+    if few {
+        adapted(k, w, a)
+    } else {
+        adapted_by_size(j, factor, t, w, a)
+    }
+}
+
+// The new weights, and the bits of their magnitudes together.
+fn adapt_all(few: bool, w: &mut [i16], a: &[i16], j: i32, t: u32) -> u16
+    requires { ⌜ Adaptable j t (now w) (now a) ⌝ }
+    ensures { λ r. ⌜ (now (w .exit) ≡ adapt (raise j (15 - t)) (now (w .entry)) (now (a .entry))) × (r ≡ together (magnitudes (now (w .exit)))) ⌝ }
+{
+    let k = numbers::cut::raise(j as i64, 15 - t);
     let factor = numbers::bit_length::magnitude32(j);
     let mut seen: u16 = 0;
     let mut i: usize = 0;
     while i < w.len() {
-        let new = adapted_by_size(j, factor, t, w[i], a[i]);
-        w[i] = new;
-        seen |= numbers::bit_length::magnitude16(new);
-        i += 1;
-    }
-    seen
-}
-
-// Step 6: one weight and what it gains, where k is J·2^(15 − t).
-fn adapted(k: i64, w: i16, a: i16) -> i16
-    requires { ⌜ (natAbs w < 2 ^ 14) × (natAbs k * natAbs a < 2 ^ 44) ⌝ }
-    ensures { λ r. ⌜ r ≡ adapted k w a ⌝ }
-{
-    ((w as i64) + numbers::cut::cut(k * (a as i64), 30)) as i16
-}
-
-// Step 6 for few taps: a signed product and a cut by a constant.
-fn adapt_few(w: &mut [i16], a: &[i16], j: i32, t: u32) -> u16
-    requires { ⌜ Adaptable j t (now w) (now a) ⌝ }
-    ensures { λ r. ⌜ (now (w .exit) ≡ adapt (raise j (15 - t)) (now (w .entry)) (now (a .entry))) × (bitLength r ≡ longest (now (w .exit))) ⌝ }
-{
-    let k = numbers::cut::raise(j as i64, 15 - t);
-    let mut seen: u16 = 0;
-    let mut i: usize = 0;
-    while i < w.len() {
-        let new = adapted(k, w[i], a[i]);
+        let new = adapted_by(few, j, k, factor, t, w[i], a[i]);
         w[i] = new;
         seen |= numbers::bit_length::magnitude16(new);
         i += 1;
@@ -121,21 +114,20 @@ fn adapt_few(w: &mut [i16], a: &[i16], j: i32, t: u32) -> u16
 }
 
 // Step 6: the new weights of a side, whose data are raised by 15 − t places, and the bits of their magnitudes together.
-// Up to 4 taps are few.
 pub fn adapt(w: &mut [i16], a: &[i16], j: i32, t: u32) -> u16
     requires { ⌜ Adaptable j t (now w) (now a) ⌝ }
-    ensures { λ r. ⌜ (now (w .exit) ≡ adapt (raise j (15 - t)) (now (w .entry)) (now (a .entry))) × (bitLength r ≡ longest (now (w .exit))) ⌝ }
+    ensures { λ r. ⌜ (now (w .exit) ≡ adapt (raise j (15 - t)) (now (w .entry)) (now (a .entry))) × (r ≡ together (magnitudes (now (w .exit)))) ⌝ }
 {
-    if w.len() <= 4 {
-        adapt_few(w, a, j, t)
+    if w.len() <= FEW {
+        adapt_all(true, w, a, j, t)
     } else {
-        adapt_many(w, a, j, t)
+        adapt_all(false, w, a, j, t)
     }
 }
 
 // The bits of every magnitude of a list together: as many as the largest has.
 fn bits(xs: &[i16]) -> u16
-    ensures { λ r. ⌜ bitLength r ≡ longest (now (xs .entry)) ⌝ }
+    ensures { λ r. ⌜ r ≡ together (magnitudes (now (xs .entry))) ⌝ }
 {
     let mut seen: u16 = 0;
     let mut i: usize = 0;

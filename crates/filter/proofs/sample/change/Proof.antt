@@ -1,12 +1,11 @@
 -- Each side learns, and both settle by the bits of both.
 use mathlib.Core.Path.{_≡_, ap₂, _∙_}
-use Prim.Native.Nat.{max}
 use native.Mathlib.Omega.{arith}
+use lib.Bits.{bitOr}
 use mir.Syntax.{w32}
 use mir.Val.{toZ, ofZ}
 use borrow.Author.Needs.{needs}
 use Rattle.laws.specs.Machine.{kept}
-use Rattle.steps.proofs.LargestLaws.{or-bit-length}
 use Rattle.filter.specs.Calls.{updatedForward, updatedBack}
 use Rattle.filter.proofs.SampleLaws.{settled-of}
 use Rattle.filter.proofs.sample.change.Statement.{statement}
@@ -43,7 +42,7 @@ start c = c .before .before .before
 settle-requires : tie.Need-settle-requires
 settle-requires c κs =
     let d = c .before .before .before in
-    (start (first d) .pre .ahead .ψ-most, or-bit-length (first d .update .result) (d .update2 .result) ∙ ap₂ max (first d .update .ensures .1) (d .update2 .ensures .1))
+    (start (first d) .pre .ahead .ψ-most, ap₂ bitOr (first d .update .ensures .1) (d .update2 .ensures .1))
 
 error-kept : (c : tie.After-update) → toZ w32 (ofZ w32 (start c .args .j .z)) ≡ start c .args .j .z
 error-kept c = kept w32 (start c .args .j .z) (omega (arith, c .before .before .struct-told .given))

@@ -1,13 +1,12 @@
--- The new symbol is at place 0, and the others are one place further.
-use mathlib.Core.Path.{_≡_, _∙_, subst}
-use Prim.Native.Nat.{ℕ, _<_}
-use native.Mathlib.Omega.{arith}
+-- By the bit length of the new symbol.
+use mathlib.Core.Path.{_≡_, _∙_}
 use lib.IntN.{natAbs}
 use mir.Syntax.{w64}
 use mir.Facts.{toZ-ofZ, sfits-widen}
 use borrow.Author.Needs.{needs}
+use borrow.Author.Tests.{lt-ltb, le-ltb}
 use Rattle.numbers.specs.BitLength.{bitLength}
-use Rattle.filter.proofs.DelayLaws.{longest-at-next}
+use Rattle.filter.specs.Calls.{nextDelay}
 use Rattle.filter.proofs.sample.next_delay.Statement.{statement}
 use Rattle.filter.proofs.sample.next_delay.Tie as tie
 
@@ -24,10 +23,12 @@ add-result : tie.Need-add-result
 add-result c = search needs
 
 returns : tie.Need-returns
-returns c = (omega arith, λ l p h. subst (λ (n : ℕ). c .before .before .args .r < n) (measured (c .before)) (c .if1 .taken))
+unfolding nextDelay
+returns c = simp (← measured (c .before), lt-ltb _ _ (c .if1 .taken))
 
 returns-2 : tie.Need-returns-2
-returns-2 c = (omega arith, λ l p. longest-at-next _ _ _ l p)
+unfolding nextDelay
+returns-2 c = simp (← measured (c .before), le-ltb _ _ (c .if1 .left))
 
 pub next-delay-spec : {M : Type 1} → statement M
 next-delay-spec =

@@ -1,6 +1,10 @@
 -- No weight has reached the limit where their bits together have not.
+use mathlib.Core.Path.{ap, _∙_}
+use Prim.Native.Nat.{ℕ}
+use lib.Dec.{ltb}
 use borrow.Author.Needs.{needs}
-use Rattle.steps.proofs.LargestLaws.{bits-small}
+use Rattle.steps.specs.Limits.{halvingLimit}
+use Rattle.steps.proofs.LargestLaws.{together-small}
 use Rattle.steps.proofs.side.all_small.Statement.{statement}
 use Rattle.steps.proofs.side.all_small.Tie as tie
 
@@ -8,7 +12,7 @@ bits-requires : tie.Need-bits-requires
 bits-requires c κs = search needs
 
 returns : tie.Need-returns
-returns c = bits-small (c .before .args .w .now) (c .bits .result) (c .bits .ensures)
+returns c = ap (λ (n : ℕ). ltb n halvingLimit) (c .bits .ensures) ∙ together-small (c .before .args .w .now)
 
 pub all-small-spec : {M : Type 1} → statement M
 all-small-spec = tie.close (tie.spec bits-requires returns)

@@ -1,27 +1,25 @@
--- The bits of the magnitudes passed are together as many as the largest of them has.
+-- The bits seen are those of the magnitudes passed together.
 use mathlib.Core.Path.{_≡_, sym, ap, _∙_}
-use Prim.Native.Nat.{ℕ, _-_}
+use Prim.Native.Nat.{_-_}
 use native.Mathlib.Omega.{arith}
-use lib.Bits.{bitOr}
-use lib.ListN.{length, getD, take, List·getD-map}
+use lib.ListN.{length, getD, take, length-map, List·getD-map}
 use lib.IntN.{pos, natAbs}
 use mir.Syntax.{w16}
 use borrow.Author.Needs.{needs}
 use Rattle.laws.specs.Machine.{kept}
-use Rattle.numbers.specs.BitLength.{bitLength}
-use Rattle.steps.specs.Side.{largest, magnitudes}
-use Rattle.steps.proofs.LargestLaws.{largest-none, bits-next, bits-end}
+use Rattle.steps.specs.Side.{magnitudes, together}
+use Rattle.steps.proofs.LargestLaws.{together-none, together-next, together-all}
 use Rattle.steps.proofs.side.bits.Statement.{statement}
 use Rattle.steps.proofs.side.bits.Tie as tie
 
 abbrev Inv-loop : tie.InvT-loop
-Inv-loop xs seen₀ i₀ seen i = bitLength seen ≡ bitLength (largest (take i (magnitudes xs)))
+Inv-loop xs seen₀ i₀ seen i = seen ≡ together (take i (magnitudes xs))
 
 abbrev μ-loop : tie.MeasureT-loop
 μ-loop xs seen₀ i₀ seen i = length xs - i
 
 loop-holds : tie.Need-loop-holds Inv-loop μ-loop
-loop-holds c = ap bitLength (sym largest-none)
+loop-holds c = sym together-none
 
 mul-magnitude16 : tie.Need-mul-magnitude16 Inv-loop μ-loop
 mul-magnitude16 c = search needs
@@ -47,13 +45,11 @@ loop-less c = omega arith
 
 loop-again : tie.Need-loop-again Inv-loop μ-loop
 loop-again c =
-    let xs = c .before .before .before .before .args .xs .now in
     let l = c .before .before .before .loop in
-    ap (λ (n : ℕ). bitLength (bitOr (l .seen) n)) (sized c)
-    ∙ bits-next (magnitudes xs) (l .i) (l .seen) (l .inv)
+    together-next (magnitudes (c .before .before .before .before .args .xs .now)) (l .i) (l .seen) (c .magnitude16 .result) (l .inv) (sized c)
 
 returns : tie.Need-returns Inv-loop μ-loop
-returns c = bits-end (c .before .before .args .xs .now) (c .before .loop .i) (c .before .loop .seen) (c .loop-test .left) (c .before .loop .inv)
+returns c = together-all (magnitudes (c .before .before .args .xs .now)) (c .before .loop .i) (c .before .loop .seen) (rw length-map (c .loop-test .left)) (c .before .loop .inv)
 
 pub bits-spec : {M : Type 1} → statement M
 bits-spec =

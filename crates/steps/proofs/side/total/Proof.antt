@@ -10,8 +10,8 @@ use borrow.Author.Needs.{needs}
 use Rattle.laws.specs.Sums.{dot}
 use Rattle.laws.specs.Machine.{kept}
 use Rattle.steps.proofs.SideLaws.{sum-none, sum-next, sum-bound, sum-all}
-use Rattle.steps.proofs.side.sum_many.Statement.{statement}
-use Rattle.steps.proofs.side.sum_many.Tie as tie
+use Rattle.steps.proofs.side.total.Statement.{statement}
+use Rattle.steps.proofs.side.total.Tie as tie
 
 abbrev Inv-loop : tie.InvT-loop
 Inv-loop w a total₀ i₀ total i = toZ w32 total ≡ dot (take i w) (take i a)
@@ -64,8 +64,8 @@ returns c =
     c .before .loop .inv
     ∙ sum-all (c .before .before .args .w .now) (c .before .before .args .a .now) (c .before .loop .i) (c .before .before .pre) (c .loop-test .left)
 
-pub sum-many-spec : {M : Type 1} → statement M
-sum-many-spec =
+pub total-spec : {M : Type 1} → statement M
+total-spec =
     tie.close
     (tie.spec
     Inv-loop
