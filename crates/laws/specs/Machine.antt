@@ -3,17 +3,17 @@ use mathlib.Core.Path.{_≡_, refl, sym, ap, ap₂, _∙_, subst}
 use mathlib.Core.Bool.{true, false, not}
 use Prim.Native.Nat.{ℕ, zero, suc, _+_, _*_, _-_, _/_, _%_, _^_, _≤_, _<_, max}
 use native.Mathlib.Omega.{arith}
-use native.Mathlib.Nat.{one-mul, mod-eq-of-lt, mod-lt, lt-of-le-of-lt, lt-trans}
+use native.Mathlib.Nat.{one-mul, mod-eq-of-lt, mod-lt, lt-of-le-of-lt}
 use lib.Arith.{bin-ind, digits-div, digits-mod}
 use lib.Bits.{bitOr, or-step}
-use lib.Dec.{T, ltb, ltb→lt, lt→ltb, nleb→lt, lit<}
+use lib.Dec.{T, leb, ltb, ltb→lt, lt→ltb, nleb→lt, lit<}
 use borrow.Author.Tests.{le-ltb}
-use lib.Pow.{pow-lt, pow-pos}
+use lib.Pow.{pow-lt, pow-pos, pow-mono}
 use lib.IntN.{ℤ, pos, negsuc, natAbs, _+ℤ_, _-ℤ_, subℕ}
 use lib.Signed.{mag, shrZ, mag-shr, leZ, ltZ, _≤ℤ_, _<ℤ_, leZ-yes, ltZ-yes, ltZ-no, natAbs-le}
 use mir.Syntax.{Width, w8, w16, w32, w64, w128}
 use mir.Val.{SFits, bits, hbits, toZ, ofZ}
-use mir.Facts.{toZ-pos, toZ-neg, toZ-ofZ}
+use mir.Facts.{toZ-pos, toZ-neg, toZ-ofZ, sfits-widen}
 use Rattle.laws.specs.Parts.{choose}
 
 -- ---- ranges
@@ -32,9 +32,16 @@ fits-abs z h = record { sfits = lt-of-le-of-lt (mag-le z) h }
 pub abs-fits : {w : Width} {z : ℤ} → SFits w z → natAbs z ≤ 2 ^ hbits w
 abs-fits {z = z} h = natAbs-le z (h .sfits)
 
+-- a wider one too
+pub kept-wider : {w : Width} (w′ : Width) {z : ℤ} → T (leb (hbits w) (hbits w′)) → SFits w z → toZ w′ (ofZ w′ (toZ w (ofZ w z))) ≡ z
+kept-wider w′ t f = ap (λ (x : ℤ). toZ w′ (ofZ w′ x)) (toZ-ofZ f) ∙ toZ-ofZ (sfits-widen t f)
+
 -- a shift that rounds down stays within the range
 pub fits-shr : {w : Width} (z : ℤ) (m : ℕ) → SFits w z → SFits w (shrZ z m)
 fits-shr z m h = record { sfits = lt-of-le-of-lt (mag-shr z m) (h .sfits) }
+
+pub shr-kept : (w : Width) (z : ℤ) (m : ℕ) → mag z < 2 ^ hbits w → toZ w (ofZ w (shrZ (toZ w (ofZ w z)) m)) ≡ shrZ z m
+shr-kept w z m h = ap (λ (x : ℤ). toZ w (ofZ w (shrZ x m))) (kept w z h) ∙ toZ-ofZ (fits-shr z m (record { sfits = h }))
 
 opposite : (m n h : ℕ) → m < h → n < h → mag (subℕ n (suc m)) < h
 opposite m n h f g =
@@ -61,15 +68,22 @@ complement (negsuc n) h = (simp (le-ltb (suc n) 1 (omega arith)) (ap pos (omega 
 pub one-shifted : (w : Width) (k : ℕ) → k < bits w → 1 * 2 ^ k % 2 ^ bits w ≡ 2 ^ k
 one-shifted w k h = ap (λ (n : ℕ). n % 2 ^ bits w) (one-mul (2 ^ k)) ∙ mod-eq-of-lt (pow-lt h)
 
-below-width : (w : Width) → hbits w < bits w
-below-width w8 = lit< tt
-below-width w16 = lit< tt
-below-width w32 = lit< tt
-below-width w64 = lit< tt
-below-width w128 = lit< tt
+half-width : (w : Width) → bits w ≡ suc (hbits w)
+half-width w8 = refl
+half-width w16 = refl
+half-width w32 = refl
+half-width w64 = refl
+half-width w128 = refl
 
 pub signed-one-shifted : (w : Width) (k : ℕ) → k < hbits w → toZ w (1 * 2 ^ k % 2 ^ bits w) ≡ pos (2 ^ k)
-signed-one-shifted w k h = ap (toZ w) (one-shifted w k (lt-trans h (below-width w))) ∙ toZ-pos w (pow-lt h)
+signed-one-shifted w k h = ap (toZ w) (one-shifted w k (omega (arith, half-width w))) ∙ toZ-pos w (pow-lt h)
+
+-- one less than it
+pub ones-fit : (w : Width) (k : ℕ) → k < bits w → (1 ≤ 1 * 2 ^ k % 2 ^ bits w) × (1 * 2 ^ k % 2 ^ bits w - 1 < 2 ^ hbits w)
+ones-fit w k h = omega (arith, one-shifted w k h, pow-pos k, pow-mono {i = k} {j = hbits w} (omega (arith, half-width w)))
+
+pub ones-are : (w : Width) (k : ℕ) → k < bits w → toZ w (1 * 2 ^ k % 2 ^ bits w - 1) ≡ pos (2 ^ k - 1)
+ones-are w k h = toZ-pos w (ones-fit w k h .1) ∙ ap (λ (n : ℕ). pos (n - 1)) (one-shifted w k h)
 
 -- ---- tests
 

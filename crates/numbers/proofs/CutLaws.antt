@@ -1,6 +1,7 @@
 -- Laws of the cut T(z / 2^k), for every z and k.
 use mathlib.Core.Path.{_≡_, refl, sym, ap, _∙_, subst}
-use Prim.Native.Nat.{ℕ, zero, suc, _+_, _*_, _-_, _/_, _^_, _≤_, _<_, min}
+use Prim.Native.Nat.{ℕ, zero, suc, _+_, _*_, _-_, _/_, _%_, _^_, _≤_, _<_, min}
+use mathlib.Core.Bool.{true, false}
 use native.Mathlib.Omega.{arith}
 use native.Mathlib.Nat.{zero-div, div-one, div-le-self, div-mul-le-self, div-add-mod', mod-lt, mul-div-mul-right, div-eq-of-lt, div-eq-sub-div, div-lt-iff-lt-mul, mul-div-cancel, min-eq-left, min-eq-right, lt-of-lt-of-le}
 use lib.Pow.{pow-pos, shr-shr}
@@ -8,9 +9,13 @@ use lib.Dec.{ltb→lt}
 use borrow.Author.Tests.{lt-ltb, le-ltb}
 use native.Mathlib.Decide.{decLe}
 use native.Mathlib.Numerals.{add-one}
-use lib.Signed.{shrZ, _≤ℤ_, _<ℤ_}
+use lib.Signed.{shrZ, leZ, _≤ℤ_, _<ℤ_}
 use lib.IntN.{ℤ, pos, negsuc, negℤ, natAbs, subℕ, _+ℤ_, _-ℤ_, _*ℤ_, zero-*ℤ, negℤ-negℤ, negℤ-+ℤ}
+use mir.Syntax.{Width}
+use mir.Val.{SFits, bits, hbits, toZ, ofZ}
+use mir.Facts.{toZ-ofZ}
 use Rattle.laws.specs.Integers.{*ℤ-assoc, neg-*ℤ, abs-mul, abs-neg}
+use Rattle.laws.specs.Machine.{fits-abs, fits-opposite, signed-one-shifted, le-tested, le-refuted}
 use Rattle.laws.specs.Linear.{by-abs-lt, diff, nat}
 use Rattle.laws.specs.Powers.{split, rises}
 use Rattle.numbers.specs.Cut.{cut, raise, rescale}
@@ -86,6 +91,15 @@ cut-error z k = by-sign (λ z. natAbs (z -ℤ raise (cut z k) k) < 2 ^ k) whole 
 pub raise-abs : (z : ℤ) (k : ℕ) → natAbs (raise z k) ≡ natAbs z * 2 ^ k
 raise-abs z k = abs-mul z (pos (2 ^ k))
 
+-- in a register, as a product with a shifted one
+pub raise-kept : (w : Width) (z : ℤ) (k : ℕ) → SFits w z → k < hbits w → natAbs z * 2 ^ k < 2 ^ hbits w →
+    let x = toZ w (ofZ w z) *ℤ toZ w (1 * 2 ^ k % 2 ^ bits w) in
+    SFits w x × (toZ w (ofZ w x) ≡ raise z k)
+raise-kept w z k f h l = rw (toZ-ofZ f, signed-one-shifted w k h) (fits, toZ-ofZ fits)
+  where
+    fits : SFits w (raise z k)
+    fits = fits-abs (raise z k) (rw raise-abs l)
+
 pub raise-raise : (z : ℤ) (i j k : ℕ) → k ≡ i + j → raise (raise z i) j ≡ raise z k
 raise-raise z i j k e = *ℤ-assoc z (pos (2 ^ i)) (pos (2 ^ j)) ∙ ap (λ (n : ℕ). z *ℤ pos n) (sym (split k i j e))
 
@@ -124,13 +138,13 @@ rescale-up z i j k e = by-sign (λ z. rescale z i j ≡ raise z k) whole (λ z h
 
 -- ---- by shifts that round down
 
-pub shift-whole : (z : ℤ) (k : ℕ) → pos 0 ≤ℤ z → shrZ z (2 ^ k) ≡ cut z k
+shift-whole : (z : ℤ) (k : ℕ) → pos 0 ≤ℤ z → shrZ z (2 ^ k) ≡ cut z k
 unfolding cut
 shift-whole (pos n) k h = refl
 shift-whole (negsuc n) k h = absurd (h .le)
 
 -- a negative number is first raised by one less than a unit
-pub shift-negative : (z : ℤ) (k : ℕ) → z <ℤ pos 0 → shrZ (z +ℤ pos (2 ^ k - 1)) (2 ^ k) ≡ cut z k
+shift-negative : (z : ℤ) (k : ℕ) → z <ℤ pos 0 → shrZ (z +ℤ pos (2 ^ k - 1)) (2 ^ k) ≡ cut z k
 unfolding cut
 shift-negative (pos n) k h = absurd (omega (arith, ltb→lt n 0 (h .lt)))
 shift-negative (negsuc n) k h = go (2 ^ k) (pow-pos k) (decLe (2 ^ k) (suc n))
@@ -143,3 +157,18 @@ shift-negative (negsuc n) k h = go (2 ^ k) (pow-pos k) (decLe (2 ^ k) (suc n))
     go u p (no f) =
         simp (le-ltb (u - 1) (suc n) (omega arith)) (
         ap pos (div-eq-of-lt {n = u - 1 - suc n} {m = u} (omega arith)) ∙ ap (λ (m : ℕ). negℤ (pos m)) (sym (div-eq-of-lt {n = suc n} {m = u} (omega arith))))
+
+-- in a register, after the test of the sign
+pub lift-whole : (w : Width) (z : ℤ) (k : ℕ) → SFits w z → leZ (pos 0) (toZ w (ofZ w z)) ≡ true → shrZ (toZ w (ofZ w z)) (2 ^ k) ≡ cut z k
+lift-whole w z k f t = rw (toZ-ofZ f) (shift-whole z k (le-tested (rw (toZ-ofZ f) at t)))
+
+pub lift-negative : (w : Width) (z low : ℤ) (k : ℕ) → SFits w z → SFits w low → low ≡ pos (2 ^ k - 1) → leZ (pos 0) (toZ w (ofZ w z)) ≡ false →
+    let x = toZ w (ofZ w z) +ℤ toZ w (ofZ w low) in
+    SFits w x × (shrZ (toZ w (ofZ w x)) (2 ^ k) ≡ cut z k)
+lift-negative w z low k f g e t = rw (toZ-ofZ f, toZ-ofZ g, e) (fits, ap (λ (x : ℤ). shrZ x (2 ^ k)) (toZ-ofZ fits) ∙ shift-negative z k below)
+  where
+    below : z <ℤ pos 0
+    below = le-refuted (rw (toZ-ofZ f) at t)
+
+    fits : SFits w (z +ℤ pos (2 ^ k - 1))
+    fits = fits-opposite z (2 ^ k - 1) below f (rw e at g .sfits)

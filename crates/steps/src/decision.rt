@@ -2,14 +2,15 @@
 ghost use mathlib.Core.Path.{_≡_};
 ghost use Prim.Native.Nat.{_-_, _^_, _<_, _≤_};
 ghost use lib.IntN.{pos, natAbs, _+ℤ_, _*ℤ_};
+ghost use Rattle.steps.specs.Limits.{symbolLimit};
 ghost use Rattle.steps.specs.Decision.{floor, clip, topSymbol, decide};
 
 // The greatest symbol.
 fn top_symbol(r: u32) -> i32
-    requires { ⌜ r ≤ 3 ⌝ }
+    requires { ⌜ r ≤ symbolLimit ⌝ }
     ensures { λ t. ⌜ t ≡ topSymbol r ⌝ }
 {
-    ((1u32 << (r + 1)) - 1) as i32
+    numbers::cut::ones32(r + 1)
 }
 
 // The odd number nearest to y·2^(ξ−30).
@@ -36,7 +37,7 @@ fn clip(top: i32, d: i32) -> i16
 }
 
 pub fn decide(y: i32, xi: u32, r: u32) -> i16
-    requires { ⌜ (1 ≤ xi) × (xi ≤ 31) × (r ≤ 3) × (natAbs y < 2 ^ 29) ⌝ }
+    requires { ⌜ (1 ≤ xi) × (xi ≤ 31) × (r ≤ symbolLimit) × (natAbs y < 2 ^ 29) ⌝ }
     ensures { λ d. ⌜ d ≡ decide r y xi ⌝ }
 {
     clip(top_symbol(r), nearest(y, xi))

@@ -8,5 +8,5 @@ pub fn factor(m: u32, z: i32, places: u32) -> i64
     requires { ⌜ (natAbs z < 2 ^ 30) × (places < 64) ⌝ }
     ensures { λ r. ⌜ r ≡ cut (pos m *ℤ z) places ⌝ }
 {
-    numbers::cut::cut_near((m as i64) * (z as i64), places)
+    numbers::cut::cut((m as i64) * (z as i64), places)
 }

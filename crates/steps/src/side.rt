@@ -79,7 +79,7 @@ fn adapted(k: i64, w: i16, a: i16) -> i16
     requires { ⌜ (Small w) × (natAbs k * natAbs a < 2 ^ 44) ⌝ }
     ensures { λ r. ⌜ r ≡ adapted k w a ⌝ }
 {
-    ((w as i64) + numbers::cut::cut_near(k * (a as i64), 30)) as i16
+    ((w as i64) + numbers::cut::cut(k * (a as i64), 30)) as i16
 }
 
 // Step 6: one weight and what it gains, where k is J·2^(15 − t) and factor is |J|: by a signed product where taps are few,

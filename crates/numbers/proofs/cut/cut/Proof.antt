@@ -1,24 +1,24 @@
--- A k below 64 is a shift's; at 64 and more the magnitude is below 2^k.
-use mathlib.Core.Path.{sym, _∙_}
-use native.Mathlib.Omega.{arith}
+-- The shift of what was lifted for it.
+use mathlib.Core.Path.{_∙_}
+use Prim.Native.Nat.{_^_}
+use mir.Syntax.{w64}
 use mir.Facts.{toZ-ofZ}
-use borrow.Author.Needs.{needs, sfits-of}
-use Rattle.laws.specs.Machine.{abs-fits}
-use Rattle.laws.specs.Powers.{rises}
-use Rattle.numbers.proofs.CutLaws.{cut-all}
+use borrow.Author.Needs.{needs}
+use Rattle.laws.specs.Machine.{shr-kept}
 use Rattle.numbers.proofs.cut.cut.Statement.{statement}
 use Rattle.numbers.proofs.cut.cut.Tie as tie
 
-cut-near-requires : tie.Need-cut-near-requires
-cut-near-requires c κs = search needs
+lifted-requires : tie.Need-lifted-requires
+lifted-requires c κs = search needs
+
+cast-result : tie.Need-cast-result
+cast-result c = search needs
+
+shr-result : tie.Need-shr-result
+shr-result c = search needs
 
 returns : tie.Need-returns
-returns c = toZ-ofZ (sfits-of (c .cut-near .ok)) ∙ c .cut-near .ensures ∙ simp (toZ-ofZ (c .before .before .fits .z))
-
-returns-2 : tie.Need-returns-2
-returns-2 c =
-    sym (cut-all (c .before .args .z) (c .before .args .k)
-    (omega (arith, abs-fits (c .before .fits .z), rises {a = 64} {b = c .before .args .k} (c .if1 .left))))
+returns c = shr-kept w64 (c .lifted .result) (2 ^ c .before .args .k) (c .lifted .ok) ∙ c .lifted .ensures ∙ simp (toZ-ofZ (c .before .fits .z))
 
 pub cut-spec : {M : Type 1} → statement M
-cut-spec = tie.close (tie.spec cut-near-requires returns returns-2)
+cut-spec = tie.close (tie.spec lifted-requires cast-result shr-result returns)

@@ -2,10 +2,9 @@
 use mathlib.Core.Path.{_∙_}
 use Prim.Native.Nat.{_^_}
 use mir.Syntax.{w32}
-use mir.Val.{SFits}
 use mir.Facts.{toZ-ofZ}
-use borrow.Author.Needs.{needs, sfits-of}
-use Rattle.laws.specs.Machine.{fits-shr}
+use borrow.Author.Needs.{needs}
+use Rattle.laws.specs.Machine.{shr-kept}
 use Rattle.numbers.proofs.cut.cut32.Statement.{statement}
 use Rattle.numbers.proofs.cut.cut32.Tie as tie
 
@@ -18,13 +17,8 @@ cast-result c = search needs
 shr-result : tie.Need-shr-result
 shr-result c = search needs
 
-fits : (c : tie.After-lifted32) → SFits w32 (c .lifted32 .result)
-fits c = sfits-of (c .lifted32 .ok)
-
 returns : tie.Need-returns
-returns c =
-    simp (toZ-ofZ (fits c), toZ-ofZ (fits-shr (c .lifted32 .result) (2 ^ c .before .args .k) (fits c)))
-    (c .lifted32 .ensures ∙ simp (toZ-ofZ (c .before .fits .z)))
+returns c = shr-kept w32 (c .lifted32 .result) (2 ^ c .before .args .k) (c .lifted32 .ok) ∙ c .lifted32 .ensures ∙ simp (toZ-ofZ (c .before .fits .z))
 
 pub cut32-spec : {M : Type 1} → statement M
 cut32-spec = tie.close (tie.spec lifted32-requires cast-result shr-result returns)

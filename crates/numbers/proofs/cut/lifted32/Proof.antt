@@ -1,49 +1,21 @@
 -- A whole number needs nothing, and a negative one fits after it is raised.
-use mathlib.Core.Path.{_≡_, _∙_}
-use Prim.Native.Nat.{_-_, _^_}
-use native.Mathlib.Omega.{arith}
-use lib.IntN.{pos, _+ℤ_}
-use lib.Signed.{_≤ℤ_, _<ℤ_}
 use mir.Syntax.{w32}
-use mir.Val.{SFits, toZ, ofZ}
-use mir.Facts.{toZ-ofZ}
-use borrow.Author.Needs.{needs}
-use Rattle.laws.specs.Machine.{kept, fits-opposite, le-tested, le-refuted}
-use Rattle.laws.specs.Powers.{positive, rises}
-use Rattle.numbers.proofs.CutLaws.{shift-whole, shift-negative}
+use borrow.Author.Needs.{needs, sfits-of}
+use Rattle.numbers.proofs.CutLaws.{lift-whole, lift-negative}
 use Rattle.numbers.proofs.cut.lifted32.Statement.{statement}
 use Rattle.numbers.proofs.cut.lifted32.Tie as tie
 
 ones32-requires : tie.Need-ones32-requires
 ones32-requires c κs = search needs
 
-low : (c : tie.After-ones32) → toZ w32 (ofZ w32 (c .ones32 .result)) ≡ pos (2 ^ c .before .args .k - 1)
-low c = kept w32 (c .ones32 .result) (c .ones32 .ok) ∙ c .ones32 .ensures
-
-whole : (c : tie.Then1) → pos 0 ≤ℤ c .before .before .args .z
-whole c = le-tested (rw (toZ-ofZ (c .before .before .fits .z)) at (c .if1 .taken))
-
-negative : (c : tie.Else1) → c .before .before .args .z <ℤ pos 0
-negative c = le-refuted (rw (toZ-ofZ (c .before .before .fits .z)) at (c .if1 .left))
-
-sum-fits : (c : tie.Else1) → SFits w32 (c .before .before .args .z +ℤ pos (2 ^ c .before .before .args .k - 1))
-sum-fits c =
-    let s = c .before .before in
-    fits-opposite (s .args .z) (2 ^ s .args .k - 1) (negative c) (s .fits .z)
-    (omega (arith, rises {a = s .args .k} {b = 31} (search needs), positive (s .args .k)))
-
 add-result : tie.Need-add-result
-add-result c = simp (toZ-ofZ (c .before .before .fits .z), low (c .before)) (sum-fits c)
+add-result c = lift-negative w32 _ _ _ (c .before .before .fits .z) (sfits-of (c .before .ones32 .ok)) (c .before .ones32 .ensures) (c .if1 .left) .0
 
 returns : tie.Need-returns
-returns c =
-    let s = c .before .before in
-    simp (toZ-ofZ (s .fits .z)) (shift-whole (s .args .z) (s .args .k) (whole c))
+returns c = lift-whole w32 _ _ (c .before .before .fits .z) (c .if1 .taken)
 
 returns-2 : tie.Need-returns-2
-returns-2 c =
-    let s = c .before .before in
-    simp (toZ-ofZ (s .fits .z), low (c .before), toZ-ofZ (sum-fits c)) (shift-negative (s .args .z) (s .args .k) (negative c))
+returns-2 c = lift-negative w32 _ _ _ (c .before .before .fits .z) (sfits-of (c .before .ones32 .ok)) (c .before .ones32 .ensures) (c .if1 .left) .1
 
 pub lifted32-spec : {M : Type 1} → statement M
 lifted32-spec = tie.close (tie.spec ones32-requires add-result returns returns-2)

@@ -12,11 +12,11 @@ use Rattle.laws.specs.Machine.{kept, fits-abs}
 use Rattle.steps.proofs.factor.factor.Statement.{statement}
 use Rattle.steps.proofs.factor.factor.Tie as tie
 
-cast-cut-near : tie.Need-cast-cut-near
-cast-cut-near c = search needs
+cast-cut : tie.Need-cast-cut
+cast-cut c = search needs
 
-cast-cut-near-2 : tie.Need-cast-cut-near-2
-cast-cut-near-2 c = simp (toZ-ofZ (c .fits .z)) (sfits-widen tt (c .fits .z))
+cast-cut-2 : tie.Need-cast-cut-2
+cast-cut-2 c = simp (toZ-ofZ (c .fits .z)) (sfits-widen tt (c .fits .z))
 
 step : (c : tie.Start) → toZ w64 (c .args .m) ≡ pos (c .args .m)
 step c = toZ-pos w64 (omega (arith, c .fits .m .fits))
@@ -26,17 +26,17 @@ product c =
     fits-abs (pos (c .args .m) *ℤ c .args .z)
     (omega (arith, abs-mul (pos (c .args .m)) (c .args .z), mul-le-mul (le-of-lt (c .fits .m .fits)) (le-of-lt (c .pre .0))))
 
-mul-cut-near : tie.Need-mul-cut-near
-mul-cut-near c = simp (step c, toZ-ofZ (c .fits .z), toZ-ofZ {w = w64} (sfits-widen tt (c .fits .z))) (product c)
+mul-cut : tie.Need-mul-cut
+mul-cut c = simp (step c, toZ-ofZ (c .fits .z), toZ-ofZ {w = w64} (sfits-widen tt (c .fits .z))) (product c)
 
-cut-near-requires : tie.Need-cut-near-requires
-cut-near-requires c κs = search needs
+cut-requires : tie.Need-cut-requires
+cut-requires c κs = search needs
 
 returns : tie.Need-returns
 returns c =
     let s = c .before in
-    kept w64 (c .cut-near .result) (c .cut-near .ok) ∙ c .cut-near .ensures
+    kept w64 (c .cut .result) (c .cut .ok) ∙ c .cut .ensures
     ∙ simp (step s, toZ-ofZ (s .fits .z), toZ-ofZ {w = w64} (sfits-widen tt (s .fits .z)), toZ-ofZ (product s))
 
 pub factor-spec : {M : Type 1} → statement M
-factor-spec = tie.close (tie.spec cast-cut-near cast-cut-near-2 mul-cut-near cut-near-requires returns)
+factor-spec = tie.close (tie.spec cast-cut cast-cut-2 mul-cut cut-requires returns)

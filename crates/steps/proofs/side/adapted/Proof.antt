@@ -18,8 +18,8 @@ use Rattle.steps.proofs.side.adapted.Tie as tie
 cast-result : tie.Need-cast-result
 cast-result c = simp (toZ-ofZ (c .fits .w)) (fits-64 (c .fits .w))
 
-cast-cut-near : tie.Need-cast-cut-near
-cast-cut-near c = simp (toZ-ofZ (c .fits .a)) (fits-64 (c .fits .a))
+cast-cut : tie.Need-cast-cut
+cast-cut c = simp (toZ-ofZ (c .fits .a)) (fits-64 (c .fits .a))
 
 bound : (c : tie.Start) → natAbs (c .args .k *ℤ c .args .a) < 2 ^ 44
 bound c = rw abs-mul (c .pre .1)
@@ -27,23 +27,23 @@ bound c = rw abs-mul (c .pre .1)
 product : (c : tie.Start) → SFits w64 (c .args .k *ℤ c .args .a)
 product c = fits-abs (c .args .k *ℤ c .args .a) (omega (arith, bound c))
 
-mul-cut-near : tie.Need-mul-cut-near
-mul-cut-near c = simp (toZ-ofZ (c .fits .k), toZ-ofZ (c .fits .a), toZ-ofZ (fits-64 (c .fits .a))) (product c)
+mul-cut : tie.Need-mul-cut
+mul-cut c = simp (toZ-ofZ (c .fits .k), toZ-ofZ (c .fits .a), toZ-ofZ (fits-64 (c .fits .a))) (product c)
 
-cut-near-requires : tie.Need-cut-near-requires
-cut-near-requires c κs = search needs
+cut-requires : tie.Need-cut-requires
+cut-requires c κs = search needs
 
-gave : (c : tie.After-cut-near) → toZ w64 (ofZ w64 (c .cut-near .result)) ≡ cut (c .before .args .k *ℤ c .before .args .a) 30
+gave : (c : tie.After-cut) → toZ w64 (ofZ w64 (c .cut .result)) ≡ cut (c .before .args .k *ℤ c .before .args .a) 30
 gave c =
-    kept w64 (c .cut-near .result) (c .cut-near .ok) ∙ c .cut-near .ensures
+    kept w64 (c .cut .result) (c .cut .ok) ∙ c .cut .ensures
     ∙ simp (toZ-ofZ (c .before .fits .k), toZ-ofZ (c .before .fits .a), toZ-ofZ (fits-64 (c .before .fits .a)), toZ-ofZ (product (c .before)))
 
-new : (c : tie.After-cut-near) → natAbs (c .before .args .w +ℤ cut (c .before .args .k *ℤ c .before .args .a) 30) < 2 ^ 15
+new : (c : tie.After-cut) → natAbs (c .before .args .w +ℤ cut (c .before .args .k *ℤ c .before .args .a) 30) < 2 ^ 15
 new c =
     let a = c .before .args in
     omega (arith, abs-add (a .w) (cut (a .k *ℤ a .a) 30), cut-lt (a .k *ℤ a .a) 44 14 30 refl (bound (c .before)), c .before .pre .0)
 
-fits : (c : tie.After-cut-near) → SFits w16 (c .before .args .w +ℤ cut (c .before .args .k *ℤ c .before .args .a) 30)
+fits : (c : tie.After-cut) → SFits w16 (c .before .args .w +ℤ cut (c .before .args .k *ℤ c .before .args .a) 30)
 fits c = fits-abs (c .before .args .w +ℤ cut (c .before .args .k *ℤ c .before .args .a) 30) (new c)
 
 add-result : tie.Need-add-result
@@ -57,4 +57,4 @@ returns c = simp (toZ-ofZ (c .before .fits .w), toZ-ofZ (fits-64 (c .before .fit
 
 pub adapted-spec : {M : Type 1} → statement M
 adapted-spec =
-    tie.close (tie.spec cast-result cast-cut-near mul-cut-near cut-near-requires add-result cast-result-2 returns)
+    tie.close (tie.spec cast-result cast-cut mul-cut cut-requires add-result cast-result-2 returns)
