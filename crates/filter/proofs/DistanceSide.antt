@@ -10,6 +10,7 @@ use Rattle.laws.specs.Powers.{split, split4, rises}
 use Rattle.laws.specs.Sums.{each-at}
 use Rattle.numbers.specs.Cut.{raise}
 use Rattle.numbers.proofs.ScaleCountLaws.{scale-below}
+use Rattle.steps.specs.Limits.{symbolLimit, outputExponentLimit, lengthLimit}
 use Rattle.steps.specs.Settings.{Settings, Within, Admitted, scaleForward, scaleBack}
 use Rattle.steps.specs.Side.{Side, newWeights, factor, factorPlaces}
 use Rattle.filter.specs.Exact.{exactWeight}
@@ -19,7 +20,7 @@ use Rattle.filter.proofs.SideBounds.{SideFit}
 use Rattle.filter.proofs.DistanceWeight.{Close, weight-distance}
 
 -- each new weight, where Z is less than one of its units off v − y and M·2^(x+θ) ≤ 2^(62+ψ+s)
-pub side-distance : {r n : ℕ} (f : Side) → SideFit r n f → (M ψ θ : ℕ) (Z v y : ℤ) → r ≤ 3 → θ ≤ 24 →
+pub side-distance : {r n : ℕ} (f : Side) → SideFit r n f → (M ψ θ : ℕ) (Z v y : ℤ) → r ≤ symbolLimit → θ ≤ outputExponentLimit →
     natAbs (raise Z (θ + 30) -ℤ (raise v 60 -ℤ y)) < 2 ^ (θ + 30) → M * (2 ^ f .exponent * 2 ^ θ) ≤ 2 ^ 62 * (2 ^ ψ * 2 ^ f .scale) → (i : ℕ) → i < length (f .weights) →
     Close ψ (getD (newWeights (factor M Z ψ θ f) f) i (pos 0)) (exactWeight M ψ y v (getD (f .mantissas) i (pos 0)) (f .exponent) (getD (f .weights) i (pos 0)))
 side-distance f h M ψ θ Z v y l m off e i j =
@@ -35,7 +36,7 @@ unit-core Θ l Ψ a m p q h e = omega (arith, mul-le-mul-left (2 ^ 57) h, mul-le
 
 -- θ is S′ + bits of v, ψ + ν or ψ + g − 30: so M·2^(x+θ) ≤ 2^(62+ψ+s) at each side
 pub step-small : (k : Settings) → Within k → Admitted k → {n : ℕ} (f : Side) → SideFit (k .r) n f → (ψ g ν κ ξ θ : ℕ) → θ ≡ max κ ξ → ξ + 30 ≡ ψ + max g (ν + 30) →
-    κ ≤ scaleBack k + (k .r + 1) → ν ≤ scaleBack k + (k .r + 1) → g + k .L ≤ k .r + 31 + scaleForward k →
+    κ ≤ scaleBack k + (k .r + 1) → ν ≤ scaleBack k + (k .r + 1) → g + k .L ≤ k .r + lengthLimit + scaleForward k →
     k .M * (2 ^ f .exponent * 2 ^ θ) ≤ 2 ^ 62 * (2 ^ ψ * 2 ^ f .scale)
 step-small k w a f h ψ g ν κ ξ θ e d l m b = omega (arith, admission k (f .exponent) (f .scale) ψ θ (2 ^ 27) a (h .exponent-most) (go (decLe θ (ψ + (scaleBack k + (k .r + 1))))))
   where

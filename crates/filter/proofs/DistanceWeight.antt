@@ -14,7 +14,7 @@ use Rattle.numbers.specs.Cut.{cut, raise}
 use Rattle.numbers.proofs.CutLaws.{cut-error}
 use Rattle.steps.specs.Side.{adapted}
 use Rattle.filter.specs.Sample.{settled, settledExponent}
-use Rattle.filter.specs.Exact.{Near}
+use Rattle.filter.specs.Exact.{Near, distance}
 use Rattle.steps.proofs.SideLaws.{halved-at}
 
 -- ---- over plain letters
@@ -140,7 +140,7 @@ halving-core w c e u h = omega (
 -- a halving counts in units twice as large
 halving : (w e : ℤ) (ψ : ℕ) → Close ψ w e → Near (suc ψ) (cut w 1) e
 halving w e ψ h =
-    subst (λ (u : ℕ). natAbs (cut w 1 *ℤ pos u -ℤ e) * 1024 ≤ 1025 * u) (sym (split (120 + suc ψ) 1 (120 + ψ) (omega arith)))
+    subst (λ (u : ℕ). natAbs (cut w 1 *ℤ pos u -ℤ e) * 1024 ≤ distance * u) (sym (split (120 + suc ψ) 1 (120 + ψ) (omega arith)))
     (omega (arith, halving-core w (cut w 1) e (2 ^ (120 + ψ)) (cut-error w 1), split (120 + ψ) 30 (90 + ψ) (omega arith)))
 
 pub settled-near : (small : Bool) (l : List ℤ) (n ψ : ℕ) (e : ℤ) → Close ψ (getD l n (pos 0)) e →

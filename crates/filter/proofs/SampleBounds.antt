@@ -8,6 +8,7 @@ use Rattle.laws.specs.Lists.{and-left, and-right}
 use Rattle.laws.specs.Powers.{split, positive}
 use Rattle.laws.specs.Sums.{Each}
 use Rattle.numbers.specs.Cut.{raise}
+use Rattle.steps.specs.Limits.{outputExponentLimit}
 use Rattle.steps.specs.Settings.{Settings, scaleForward, scaleBack, isEntry}
 use Rattle.steps.specs.Side.{Side, allSmall}
 use Rattle.filter.specs.Sample.{Taps, ν, F, H, Y, ξ, v, κ, Z, θ, J, forwardSide, backSide, newForward, newBack, small, next}
@@ -59,7 +60,7 @@ module _ (k : Settings) (g : ℕ) (t : Taps) (entry : ℤ) (h : Fit k g t) where
   module _ (e : isEntry (k .r) entry ≡ true) where
     -- ---- step 5
 
-    θ-within : θ k g t entry ≤ 24
+    θ-within : θ k g t entry ≤ outputExponentLimit
     θ-within = omega (arith, Sides.θ-most k g t entry h e, h .ψ-most)
 
     pub Z-small : natAbs (Z k g t entry) < 2 ^ 30

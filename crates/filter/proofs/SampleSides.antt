@@ -15,6 +15,7 @@ use Rattle.numbers.specs.ScaleCount.{scaleCount}
 use Rattle.numbers.proofs.CutLaws.{raise-abs, raise-raise}
 use Rattle.numbers.proofs.BitLengthLaws.{bit-length-le}
 use Rattle.numbers.proofs.ScaleCountLaws.{scale-enough, scale-least}
+use Rattle.steps.specs.Limits.{tapLimit, scaleLimit, dataExponentLimit}
 use Rattle.steps.specs.Settings.{Settings, scaleForward, scaleBack, isSymbol, isEntry}
 use Rattle.steps.specs.Side.{Side, adapt, largest, magnitudes}
 use Rattle.filter.specs.Sample.{Taps, ν, held, forwardSide, backSide, H, Y, ξ, decision, v, κ, θ, J, newBack}
@@ -26,25 +27,25 @@ use Rattle.filter.proofs.SampleForms.{ξ-form, θ-form}
 use Rattle.filter.proofs.SideBounds.{SideFit}
 use Rattle.steps.proofs.SymbolLaws.{entry-below, symbol-below, decide-symbol, chosen-symbol}
 
--- the scale count of 1 to 16 taps
+-- the scale count of no more taps than there may be
 scale-positive : (n : ℕ) → 1 ≤ n → 1 ≤ scaleCount n
 scale-positive n h = exponent-le 1 (scaleCount n) (omega (arith, scale-enough n))
 
-pub scale-most : (n : ℕ) → n ≤ 16 → scaleCount n ≤ 5
-scale-most n h = scale-least n 5 (omega arith)
+pub scale-most : (n : ℕ) → n ≤ tapLimit → scaleCount n ≤ scaleLimit
+scale-most n h = scale-least n scaleLimit (omega arith)
 
 -- the past symbols as they are make a side too: a symbol v means v·2^(45−45)
 abbrev pub symbolSide : Settings → ℕ → Taps → ℤ → Side
 symbolSide k g t entry = record { weights = t .back; mantissas = t .symbols; scale = scaleBack k + (15 - ν k g t entry); exponent = 45 }
 
 module _ (k : Settings) (g : ℕ) (t : Taps) (entry : ℤ) (h : Fit k g t) where
-  pub scaleForward-most : scaleForward k ≤ 5
+  pub scaleForward-most : scaleForward k ≤ scaleLimit
   scaleForward-most = scale-most (k .p) (h .within .p-most)
 
   pub scaleBack-least : 1 ≤ scaleBack k
   scaleBack-least = scale-positive (k .q) (h .within .q-least)
 
-  pub scaleBack-most : scaleBack k ≤ 5
+  pub scaleBack-most : scaleBack k ≤ scaleLimit
   scaleBack-most = scale-most (k .q) (h .within .q-most)
 
   pub longest-most : longest (t .symbols) ≤ k .r + 1
@@ -56,7 +57,7 @@ module _ (k : Settings) (g : ℕ) (t : Taps) (entry : ℤ) (h : Fit k g t) where
   unfolding ν
   ν-is = refl
 
-  pub ν-most : ν k g t entry ≤ 9
+  pub ν-most : ν k g t entry ≤ dataExponentLimit
   ν-most = omega (arith, ν-is, scaleBack-most, longest-most, h .within .r-most)
 
   -- ---- the past symbols
@@ -131,11 +132,11 @@ module _ (k : Settings) (g : ℕ) (t : Taps) (entry : ℤ) (h : Fit k g t) where
   pub ξ-least : 1 ≤ ξ k g t entry
   ξ-least = omega (arith, ξ-form k g t entry, le-max-right g (ν k g t entry + 30), ν-is, scaleBack-least)
 
-  pub ξ-most : ξ k g t entry ≤ t .ψ + 9
+  pub ξ-most : ξ k g t entry ≤ t .ψ + dataExponentLimit
   ξ-most = omega (
     arith,
     ξ-form k g t entry,
-    max-le {a = g} {b = ν k g t entry + 30} {k = 39} (omega (arith, h .g-most, h .within .r-most, scaleForward-most)) (omega (arith, ν-most)),
+    max-le {a = g} {b = ν k g t entry + 30} {k = dataExponentLimit + 30} (omega (arith, h .g-most, h .within .r-most, scaleForward-most)) (omega (arith, ν-most)),
   )
 
   pub θ-above : t .ψ ≤ θ k g t entry
@@ -155,12 +156,12 @@ module _ (k : Settings) (g : ℕ) (t : Taps) (entry : ℤ) (h : Fit k g t) where
     pub v-below : natAbs (v k g t entry) < 2 ^ (k .r + 1)
     v-below = symbol-below (k .r) (v k g t entry) v-symbol
 
-    pub κ-most : κ k g t entry ≤ 9
+    pub κ-most : κ k g t entry ≤ dataExponentLimit
     unfolding κ
     κ-most = omega (arith, scaleBack-most, bit-length-le (natAbs (v k g t entry)) (k .r + 1) v-below, h .within .r-most)
 
     pub θ-least : 1 ≤ θ k g t entry
     θ-least = omega (arith, θ-form k g t entry, le-max-right (κ k g t entry) (ξ k g t entry), ξ-least)
 
-    pub θ-most : θ k g t entry ≤ t .ψ + 9
-    θ-most = omega (arith, θ-form k g t entry, max-le {a = κ k g t entry} {b = ξ k g t entry} {k = t .ψ + 9} (omega (arith, κ-most)) ξ-most)
+    pub θ-most : θ k g t entry ≤ t .ψ + dataExponentLimit
+    θ-most = omega (arith, θ-form k g t entry, max-le {a = κ k g t entry} {b = ξ k g t entry} {k = t .ψ + dataExponentLimit} (omega (arith, κ-most)) ξ-most)

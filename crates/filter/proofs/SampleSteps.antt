@@ -4,19 +4,18 @@ use mathlib.Core.Bool.{Bool, true, false}
 use Prim.Native.Nat.{ℕ}
 use lib.IntN.{ℤ}
 use Rattle.steps.specs.Settings.{Settings}
-use Rattle.steps.specs.Output.{output}
-use Rattle.steps.specs.Error.{error}
+use Rattle.steps.proofs.OutputLaws.{output-is, error-is}
 use Rattle.filter.specs.Sample.{Taps, settled, settledExponent, F, H, Y, Z, J, newForward, newBack, small, next}
 use Rattle.filter.specs.Exact.{Unclipped, Settled, kept, halved-once}
 
 module _ (k : Settings) (g : ℕ) (t : Taps) (entry : ℤ) where
   pub unclipped : Unclipped k g t entry
-  unfolding F H Y Z J newForward newBack output error
+  unfolding F H Y Z J newForward newBack
   unclipped = record {
     F-is = refl;
     H-is = refl;
-    Y-is = refl;
-    Z-is = refl;
+    Y-is = output-is _ _ _ _;
+    Z-is = error-is _ _ _ _;
     J-forward-is = refl;
     J-back-is = refl;
     new-forward-is = refl;

@@ -1,23 +1,24 @@
 -- Bounds of one side, over its lists: both filters are one filter.
 use mathlib.Core.Path.{_≡_, refl, sym, ap, _∙_}
 use mathlib.Core.Bool.{Bool, true, false}
-use mathlib.Core.List.{List, [], _∷_}
+use mathlib.Core.List.{List}
 use Prim.Native.Nat.{ℕ, _+_, _*_, _-_, _^_, _≤_, _<_}
 use native.Mathlib.Omega.{arith}
 use native.Mathlib.Nat.{mul-le-mul-left, mul-le-mul-right}
 use borrow.Author.Tests.{ltb-true}
 use lib.ListN.{length}
-use lib.IntN.{ℤ, pos, natAbs, _*ℤ_}
-use Rattle.laws.specs.Integers.{abs-mul, abs-add}
+use lib.IntN.{ℤ, pos, natAbs}
 use Rattle.laws.specs.Lists.{all-at}
 use Rattle.laws.specs.Powers.{split, split3, rises, cancel-le, lower}
 use Rattle.laws.specs.Sums.{Each, each-map, each-of, each-weaken, dot-bound}
 use Rattle.numbers.specs.Cut.{cut, raise}
 use Rattle.numbers.proofs.CutLaws.{cut-lt, raise-abs}
-use Rattle.steps.specs.Side.{Side, sum, adapt, adapted, newWeights, isSmall, allSmall, halved, largest, magnitudes}
+use Rattle.steps.specs.Limits.{symbolLimit, halvingLimit, dataExponentLimit, lengthLimit}
+use Rattle.steps.specs.Side.{Side, sum, newWeights, isSmall, allSmall, halved, largest, magnitudes}
 use Rattle.filter.specs.Sample.{settled}
 use Rattle.steps.specs.Sound.{Small, Summable, Adaptable}
 use Rattle.steps.proofs.LargestLaws.{largest-magnitude, each-magnitude}
+use Rattle.steps.proofs.SideLaws.{adapt-each}
 
 -- the facts of a side of n taps
 pub record SideFit (r n : ℕ) (f : Side) : Type 0 where
@@ -27,22 +28,9 @@ pub record SideFit (r n : ℕ) (f : Side) : Type 0 where
   pub mantissas-small : Each (λ (a : ℤ). natAbs a * 2 ^ f .scale < 2 ^ 15) (f .mantissas)
   pub scale-enough : 2 * n ≤ 2 ^ f .scale
   pub exponent-least : f .scale ≤ f .exponent
-  pub exponent-most : f .exponent ≤ r + 31 + f .scale
+  pub exponent-most : f .exponent ≤ r + lengthLimit + f .scale
 
 -- ---- new weights
-
-adapt-each : (K : ℤ) (m : ℕ) → natAbs K * m < 2 ^ 44 → (w a : List ℤ) → Each Small w → Each (λ (x : ℤ). natAbs x ≤ m) a →
-    Each (λ (x : ℤ). natAbs x < 2 ^ 15) (adapt K w a)
-unfolding adapt
-adapt-each K m b [] a h g = tt
-adapt-each K m b (w ∷ ws) [] h g = each-weaken Small (λ (x : ℤ). natAbs x < 2 ^ 15) (λ x l. omega arith) (w ∷ ws) h
-adapt-each K m b (w ∷ ws) (x ∷ a) h g = (gained, adapt-each K m b ws a (h .1) (g .1))
-  where
-    gain : natAbs (cut (K *ℤ x) 30) < 2 ^ 14
-    gain = cut-lt (K *ℤ x) 44 14 30 refl (omega (arith, abs-mul K x, mul-le-mul-left (natAbs K) (g .0)))
-
-    gained : natAbs (adapted K w x) < 2 ^ 15
-    gained = omega (arith, abs-add w (cut (K *ℤ x) 30), gain, h .0)
 
 -- one halving makes them small again
 halved-small : (w : List ℤ) → Each (λ (x : ℤ). natAbs x < 2 ^ 15) w → Each Small (halved w)
@@ -62,30 +50,30 @@ module _ {r n : ℕ} (f : Side) (h : SideFit r n f) where
   mantissas-largest : largest (magnitudes (f .mantissas)) * 2 ^ f .scale < 2 ^ 15
   mantissas-largest = largest-magnitude (λ (m : ℕ). m * 2 ^ f .scale < 2 ^ 15) (omega arith) (f .mantissas) (h .mantissas-small)
 
-  -- |sum|·2^s ≤ n·16383·(2^15 − 1)
-  sum-most : natAbs (sum f) * 2 ^ f .scale ≤ n * (16383 * 32767)
+  -- |sum|·2^s ≤ n·(2^14 − 1)·(2^15 − 1)
+  sum-most : natAbs (sum f) * 2 ^ f .scale ≤ n * ((halvingLimit - 1) * (2 ^ 15 - 1))
   sum-most = go (largest (magnitudes (f .mantissas))) mantissas-largest
-      (dot-bound 16383 (largest (magnitudes (f .mantissas))) (f .weights) (f .mantissas)
-      (each-weaken Small (λ (x : ℤ). natAbs x ≤ 16383) (λ x l. omega arith) (f .weights) (h .weights-small))
+      (dot-bound (halvingLimit - 1) (largest (magnitudes (f .mantissas))) (f .weights) (f .mantissas)
+      (each-weaken Small (λ (x : ℤ). natAbs x ≤ halvingLimit - 1) (λ x l. omega arith) (f .weights) (h .weights-small))
       (each-magnitude (f .mantissas)))
     where
-      go : (m : ℕ) → m * 2 ^ f .scale < 2 ^ 15 → natAbs (sum f) ≤ length (f .weights) * (16383 * m) → natAbs (sum f) * 2 ^ f .scale ≤ n * (16383 * 32767)
+      go : (m : ℕ) → m * 2 ^ f .scale < 2 ^ 15 → natAbs (sum f) ≤ length (f .weights) * ((halvingLimit - 1) * m) → natAbs (sum f) * 2 ^ f .scale ≤ n * ((halvingLimit - 1) * (2 ^ 15 - 1))
       go m b l = omega (arith, mul-le-mul-right (2 ^ f .scale) l, ap (λ (k : ℕ). k * (m * 2 ^ f .scale)) (h .weights-long), mul-le-mul-left n b)
 
   sum-scaled : natAbs (sum f) * 2 ^ f .scale ≤ n * 2 ^ 29
   sum-scaled = omega (arith, sum-most)
 
   -- the same at a scale as high as the exponent may be
-  pub sum-raised : (x : ℕ) → x ≤ r + 31 + f .scale → natAbs (sum f) * 2 ^ x ≤ n * (2 ^ r * 2 ^ 60)
+  pub sum-raised : (x : ℕ) → x ≤ r + lengthLimit + f .scale → natAbs (sum f) * 2 ^ x ≤ n * (2 ^ r * 2 ^ 60)
   sum-raised x l = omega (
     arith,
     mul-le-mul-left (natAbs (sum f)) (rises l),
-    ap (λ (m : ℕ). natAbs (sum f) * m) (split3 (r + 31 + f .scale) r 31 (f .scale) (omega arith)),
+    ap (λ (m : ℕ). natAbs (sum f) * m) (split3 (r + lengthLimit + f .scale) r lengthLimit (f .scale) (omega arith)),
     mul-le-mul-right (2 ^ r * 2 ^ 31) sum-scaled,
   )
 
   pub sum-small : natAbs (sum f) < 2 ^ 28
-  sum-small = omega (arith, cancel-le {m = 2 * natAbs (sum f)} {n = 16383 * 32767} (f .scale) (omega (arith, sum-most, h .scale-enough)))
+  sum-small = omega (arith, cancel-le {m = 2 * natAbs (sum f)} {n = (halvingLimit - 1) * (2 ^ 15 - 1)} (f .scale) (omega (arith, sum-most, h .scale-enough)))
 
   pub summable : Summable (f .weights) (f .mantissas)
   summable = record {
@@ -119,7 +107,7 @@ module _ {r n : ℕ} (f : Side) (h : SideFit r n f) where
       go m b = omega (arith, ap (λ (l : ℕ). l * m) (raise-abs J (f .scale)), mul-le-mul-right (m * 2 ^ f .scale) j)
 
   -- the places of M·Z never run below 17
-  pub places-least : (ψ θ : ℕ) → r ≤ 3 → θ ≤ ψ + 9 → f .exponent + θ + 17 ≤ 60 + ψ + f .scale
+  pub places-least : (ψ θ : ℕ) → r ≤ symbolLimit → θ ≤ ψ + dataExponentLimit → f .exponent + θ + 17 ≤ 60 + ψ + f .scale
   places-least ψ θ l e = omega (arith, h .exponent-most)
 
   -- nor above 60

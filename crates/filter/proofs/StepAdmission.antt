@@ -7,6 +7,7 @@ use lib.IntN.{ℤ, pos, natAbs, _*ℤ_}
 use Rattle.laws.specs.Integers.{abs-mul}
 use Rattle.laws.specs.Powers.{split, split3, below, cancel-le}
 use Rattle.numbers.proofs.CutLaws.{cut-scaled}
+use Rattle.steps.specs.Limits.{lengthLimit}
 use Rattle.steps.specs.Settings.{Settings, Admitted}
 use Rattle.steps.specs.Side.{Side, factor, factorPlaces}
 use Rattle.steps.proofs.Admission.{admission}
@@ -30,7 +31,7 @@ error-weighed z Θ v y Ξ Ψ f h l p q a e o fl hl vl one =
 
 -- ---- J of a side
 
-pub factor-small : (k : Settings) (f : Side) (Z : ℤ) (ψ θ : ℕ) → Admitted k → f .exponent ≤ k .r + 31 + f .scale → f .exponent + θ ≤ 60 + ψ + f .scale →
+pub factor-small : (k : Settings) (f : Side) (Z : ℤ) (ψ θ : ℕ) → Admitted k → f .exponent ≤ k .r + lengthLimit + f .scale → f .exponent + θ ≤ 60 + ψ + f .scale →
     natAbs Z * 2 ^ θ * (2 ^ 30 * 2 ^ k .L) ≤ 2 ^ ψ * (2 ^ k .r * 2 ^ 58) * (8 * 2 ^ k .L + 4 * k .p + 4 * k .q * 2 ^ k .L) →
     natAbs (factor (k .M) Z ψ θ f) ≤ 2 ^ 29
 factor-small k f Z ψ θ d x h e = cancel-le (60 + ψ + f .scale) (core (natAbs (factor (k .M) Z ψ θ f)) (2 ^ factorPlaces ψ θ f)

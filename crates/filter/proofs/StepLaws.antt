@@ -8,6 +8,7 @@ use lib.IntN.{ℤ, natAbs}
 use Rattle.laws.specs.Sums.{dot}
 use Rattle.numbers.specs.Cut.{raise}
 use Rattle.numbers.proofs.CutLaws.{raise-abs}
+use Rattle.steps.specs.Limits.{symbolLimit, outputExponentLimit}
 use Rattle.steps.specs.Settings.{Settings, scaleForward, scaleBack}
 use Rattle.steps.specs.Side.{Side}
 use Rattle.filter.specs.Sample.{Taps, ν, F, H, Y, ξ, decision, v, κ, Z, θ, J, forwardSide, backSide, newForward, newBack, small, next}
@@ -124,7 +125,7 @@ module _ (k : Settings) (s sb g : ℕ) (t : Taps) (entry : ℤ) (r : Ready k s s
     behind = rw (q .z-as, q .theta-as, p .nu-as, r .back-scale) behind;
   }
 
-  pub handable : (h : Output) (j : Decision) → Output-as h → Decision-as j → (h .xi ≤ 24) × (j .theta ≤ 24) × (natAbs (j .decision) < 2 ^ 4)
+  pub handable : (h : Output) (j : Decision) → Output-as h → Decision-as j → (h .xi ≤ outputExponentLimit) × (j .theta ≤ outputExponentLimit) × (natAbs (j .decision) < 2 ^ (symbolLimit + 1))
   unfolding decision
   handable h j p q = (
     rw (p .xi-as) (omega (arith, S.ξ-most k g t entry (r .fit), r .fit .ψ-most)),

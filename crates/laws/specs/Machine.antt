@@ -15,6 +15,7 @@ use mir.Syntax.{Width, w8, w16, w32, w64, w128}
 use mir.Val.{SFits, bits, hbits, toZ, ofZ}
 use mir.Facts.{toZ-pos, toZ-neg, toZ-ofZ, sfits-widen}
 use Rattle.laws.specs.Parts.{choose}
+use Rattle.laws.specs.Integers.{abs-add, abs-sub}
 
 -- ---- ranges
 
@@ -28,6 +29,12 @@ kept w z h = toZ-ofZ (record { sfits = h })
 
 pub fits-abs : {w : Width} (z : ℤ) → natAbs z < 2 ^ hbits w → SFits w z
 fits-abs z h = record { sfits = lt-of-le-of-lt (mag-le z) h }
+
+pub fits-sum : {w : Width} (a b : ℤ) → natAbs a + natAbs b < 2 ^ hbits w → SFits w (a +ℤ b)
+fits-sum a b h = fits-abs (a +ℤ b) (lt-of-le-of-lt (abs-add a b) h)
+
+pub fits-difference : {w : Width} (a b : ℤ) → natAbs a + natAbs b < 2 ^ hbits w → SFits w (a -ℤ b)
+fits-difference a b h = fits-abs (a -ℤ b) (lt-of-le-of-lt (abs-sub a b) h)
 
 pub abs-fits : {w : Width} {z : ℤ} → SFits w z → natAbs z ≤ 2 ^ hbits w
 abs-fits {z = z} h = natAbs-le z (h .sfits)

@@ -53,6 +53,10 @@ dot [] a = pos 0
 dot (w ∷ ws) [] = pos 0
 dot (w ∷ ws) (a ∷ as′) = w *ℤ a +ℤ dot ws as′
 
+pub dot-none : (a : List ℤ) → dot [] a ≡ pos 0
+unfolding dot
+dot-none a = refl
+
 pub dot-neg-left : (w a : List ℤ) → dot (map negℤ w) a ≡ negℤ (dot w a)
 unfolding dot
 dot-neg-left [] a = refl

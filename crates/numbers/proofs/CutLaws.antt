@@ -1,16 +1,16 @@
 -- Laws of the cut T(z / 2^k), for every z and k.
 use mathlib.Core.Path.{_≡_, refl, sym, ap, _∙_, subst}
 use Prim.Native.Nat.{ℕ, zero, suc, _+_, _*_, _-_, _/_, _%_, _^_, _≤_, _<_, min}
-use mathlib.Core.Bool.{true, false}
+use mathlib.Core.Bool.{Bool, true, false, not, Bool·beq}
 use native.Mathlib.Omega.{arith}
 use native.Mathlib.Nat.{zero-div, div-one, div-le-self, div-mul-le-self, div-add-mod', mod-lt, mul-div-mul-right, div-eq-of-lt, div-eq-sub-div, div-lt-iff-lt-mul, mul-div-cancel, min-eq-left, min-eq-right, lt-of-lt-of-le}
 use lib.Pow.{pow-pos, shr-shr}
-use lib.Dec.{ltb→lt}
+use lib.Dec.{T, ltb, ltb→lt}
 use borrow.Author.Tests.{lt-ltb, le-ltb}
 use native.Mathlib.Decide.{decLe}
 use native.Mathlib.Numerals.{add-one}
-use lib.Signed.{shrZ, leZ, _≤ℤ_, _<ℤ_}
-use lib.IntN.{ℤ, pos, negsuc, negℤ, natAbs, subℕ, _+ℤ_, _-ℤ_, _*ℤ_, zero-*ℤ, negℤ-negℤ, negℤ-+ℤ}
+use lib.Signed.{shrZ, leZ, ltZ, _≤ℤ_, _<ℤ_}
+use lib.IntN.{ℤ, pos, negsuc, negℤ, natAbs, subℕ, _+ℤ_, _-ℤ_, _*ℤ_, *ℤ-comm, zero-*ℤ, negℤ-negℤ, negℤ-+ℤ}
 use mir.Syntax.{Width}
 use mir.Val.{SFits, bits, hbits, toZ, ofZ}
 use mir.Facts.{toZ-ofZ}
@@ -135,6 +135,37 @@ rescale-up z i j k e = by-sign (λ z. rescale z i j ≡ raise z k) whole (λ z h
   where
     whole : (n : ℕ) → pos (n * 2 ^ i / 2 ^ j) ≡ pos (n * 2 ^ k)
     whole n = ap pos (ap (λ (m : ℕ). m / 2 ^ j) (omega (arith, ap (λ (m : ℕ). n * m) (split i j k e))) ∙ mul-div-cancel (n * 2 ^ k) (pow-pos j))
+
+-- ---- the cut of a product
+
+pub raise-mul : (z a : ℤ) (e : ℕ) → raise z e *ℤ a ≡ raise (z *ℤ a) e
+raise-mul z a e =
+    *ℤ-assoc z (pos (2 ^ e)) a ∙ ap (λ (y : ℤ). z *ℤ y) (*ℤ-comm (pos (2 ^ e)) a) ∙ sym (*ℤ-assoc z a (pos (2 ^ e)))
+
+-- a factor raised, cut by as many places more
+pub cut-raised : (z a : ℤ) (e k m : ℕ) → k ≡ e + m → cut (raise z e *ℤ a) k ≡ cut (z *ℤ a) m
+cut-raised z a e k m h = ap (λ (y : ℤ). cut y k) (raise-mul z a e) ∙ rescale-down (z *ℤ a) e k m h
+
+-- one of the two is negative
+abbrev pub unlike : ℤ → ℤ → Bool
+unlike z a = not (Bool·beq (ltZ a (pos 0)) (ltZ z (pos 0)))
+
+whole : (n : ℕ) → ltb n 0 ≡ false
+whole n = le-ltb n 0 (omega arith)
+
+pub cut-alike : (z a : ℤ) (k : ℕ) → unlike z a ≡ false → pos (natAbs z * natAbs a / 2 ^ k) ≡ cut (z *ℤ a) k
+unfolding cut
+cut-alike (pos m) (pos n) k e = refl
+cut-alike (pos m) (negsuc n) k e = absurd (subst T (rw (whole m) at e) tt)
+cut-alike (negsuc m) (pos n) k e = absurd (subst T (rw (whole n) at e) tt)
+cut-alike (negsuc m) (negsuc n) k e = refl
+
+pub cut-unlike : (z a : ℤ) (k : ℕ) → unlike z a ≡ true → negℤ (pos (natAbs z * natAbs a / 2 ^ k)) ≡ cut (z *ℤ a) k
+unfolding cut
+cut-unlike (pos m) (pos n) k e = absurd (subst T (sym (rw (whole m) at (rw (whole n) at e))) tt)
+cut-unlike (pos m) (negsuc n) k e = sym (cut-neg (pos (m * suc n)) k)
+cut-unlike (negsuc m) (pos n) k e = sym (cut-neg (pos (suc m * n)) k)
+cut-unlike (negsuc m) (negsuc n) k e = absurd (subst T (sym e) tt)
 
 -- ---- by shifts that round down
 

@@ -4,6 +4,7 @@ use Prim.Native.Nat.{ℕ, _+_, _*_, _^_, _≤_}
 use native.Mathlib.Omega.{arith}
 use native.Mathlib.Nat.{mul-le-mul, mul-le-mul-left, le-of-mul-le-mul-right}
 use Rattle.laws.specs.Powers.{split, split3, split4, rises, positive}
+use Rattle.steps.specs.Limits.{lengthLimit}
 use Rattle.steps.specs.Settings.{Settings, Admitted, stepBound}
 
 -- D·2^L with the powers split
@@ -24,11 +25,11 @@ admission-core z Θ M X S Ψ l p q a e x d one =
     le-of-mul-le-mul-right {k = 2 ^ 30 * l} (omega (arith, mul-le-mul (mul-le-mul-left M e) x, mul-le-mul-left (2 ^ 89 * (Ψ * S)) d)) (omega arith)
 
 -- the step times a magnitude z at the exponent θ that is no more than an error can be: M·z·2^(x−s+θ) ≤ 2^(89+ψ)
-pub admission : (k : Settings) (x s ψ θ z : ℕ) → Admitted k → x ≤ k .r + 31 + s →
+pub admission : (k : Settings) (x s ψ θ z : ℕ) → Admitted k → x ≤ k .r + lengthLimit + s →
     z * 2 ^ θ * (2 ^ 30 * 2 ^ k .L) ≤ 2 ^ ψ * (2 ^ k .r * 2 ^ 58) * (8 * 2 ^ k .L + 4 * k .p + 4 * k .q * 2 ^ k .L) →
     k .M * z * (2 ^ x * 2 ^ θ) ≤ 2 ^ 89 * (2 ^ ψ * 2 ^ s)
 admission k x s ψ θ z d l e =
     admission-core z (2 ^ θ) (k .M) (2 ^ x) (2 ^ s) (2 ^ ψ) (2 ^ k .L) (k .p) (k .q) (2 ^ k .r) e
-    (omega (arith, rises l, split3 (k .r + 31 + s) (k .r) 31 s (omega arith)))
+    (omega (arith, rises l, split3 (k .r + lengthLimit + s) (k .r) lengthLimit s (omega arith)))
     (omega (arith, d, ap (λ (n : ℕ). k .M * n) (step-bound k), split (30 + k .L) 30 (k .L) refl))
     (positive (k .L))

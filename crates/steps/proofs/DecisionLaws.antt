@@ -8,10 +8,11 @@ use Rattle.laws.specs.Parts.{abs-parts}
 use Rattle.laws.specs.Integers.{abs-add, abs-mul}
 use Rattle.laws.specs.Linear.{by-abs, of-le, atom, neg}
 use Rattle.laws.specs.Powers.{rises}
+use Rattle.steps.specs.Limits.{symbolLimit}
 use Rattle.steps.specs.Decision.{floor}
 
-pub symbol-most : (r : ℕ) → r ≤ 3 → 2 ^ (r + 1) ≤ 16
-symbol-most r h = omega (arith, rises {a = r + 1} {b = 4} (omega arith))
+pub symbol-most : (r : ℕ) → r ≤ symbolLimit → 2 ^ (r + 1) ≤ 2 ^ (symbolLimit + 1)
+symbol-most r h = rises {a = r + 1} {b = symbolLimit + 1} (omega arith)
 
 -- a floor may reach the bound that a number is below
 pub floor-most : (y : ℤ) (k b : ℕ) → natAbs y < b → natAbs (floor y k) ≤ b

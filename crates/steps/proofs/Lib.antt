@@ -1,6 +1,6 @@
 pub mod LargestLaws
-pub mod SideLaws
 pub mod GainLaws
+pub mod SideLaws
 pub mod DecisionLaws
 pub mod OutputLaws
 pub mod ErrorLaws

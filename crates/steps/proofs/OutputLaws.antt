@@ -1,10 +1,12 @@
 -- The output and the error in one form each, whichever exponent is the larger: a cut by no places changes nothing.
-use mathlib.Core.Path.{_≡_, sym, ap, ap₂, _∙_}
+use mathlib.Core.Path.{_≡_, refl, sym, ap, ap₂, _∙_}
+use mathlib.Core.Bool.{cond}
 use Prim.Native.Nat.{ℕ, _+_, _-_, _≤_, _<_, max}
 use native.Mathlib.Omega.{arith}
 use native.Mathlib.Nat.{max-eq-left, max-eq-right, sub-add-eq-max, le-of-lt}
 use native.Mathlib.Decide.{decLt}
 use borrow.Author.Tests.{lt-ltb, le-ltb}
+use lib.Dec.{ltb}
 use lib.IntN.{ℤ, _+ℤ_, _-ℤ_, +ℤ-comm}
 use Rattle.numbers.specs.Cut.{cut, raise}
 use Rattle.numbers.proofs.CutLaws.{cut-none, rescale-up}
@@ -59,3 +61,13 @@ error-form v Y ξ κ = go (decLt ξ κ)
     go : Dec (ξ < κ) → error v Y ξ κ ≡ raise v (30 - errorExponent ξ κ) -ℤ cut Y (errorExponent ξ κ - ξ)
     go (yes h) = simp (lt-ltb ξ κ h)
     go (no h) = simp (le-ltb ξ κ (omega arith)) (ap (λ (x : ℤ). raise v (30 - ξ) -ℤ x) (sym (cut-nothing Y ξ ξ (omega arith))))
+
+-- ---- as they are defined
+
+pub output-is : (F H : ℤ) (g ν : ℕ) → output F H g ν ≡ cond (ltb (ν + 30) g) (F +ℤ cut H (g - (ν + 30))) (H +ℤ cut F (ν + 30 - g))
+unfolding output
+output-is F H g ν = refl
+
+pub error-is : (v Y : ℤ) (ξ κ : ℕ) → error v Y ξ κ ≡ cond (ltb ξ κ) (raise v (30 - κ) -ℤ cut Y (κ - ξ)) (raise v (30 - ξ) -ℤ Y)
+unfolding error
+error-is v Y ξ κ = refl

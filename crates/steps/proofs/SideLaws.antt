@@ -8,7 +8,7 @@ use native.Mathlib.Numerals.{add-one}
 use lib.Bits.{bitOr}
 use lib.ListN.{length, getD, take, set, length-take, length-map, List·getD-map}
 use lib.Seq.{take-all, length-take-le, getD-take}
-use lib.IntN.{ℤ, pos, natAbs, _+ℤ_, _*ℤ_, *ℤ-comm}
+use lib.IntN.{ℤ, pos, natAbs, _+ℤ_, _*ℤ_}
 use mir.Syntax.{w16, w32, w64}
 use mir.Val.{SFits}
 use mir.Facts.{sfits-widen}
@@ -18,9 +18,11 @@ use Rattle.laws.specs.Sums.{dot, dot-next, dot-bound, Each, each-at, each-take,
 use Rattle.laws.specs.Powers.{rises}
 use Rattle.numbers.specs.Cut.{cut, raise, rescale}
 use Rattle.numbers.proofs.BitLengthLaws.{bit-length-le}
-use Rattle.numbers.proofs.CutLaws.{cut-zero, cut-lt, rescale-down}
+use Rattle.numbers.proofs.CutLaws.{cut-zero, cut-lt, raise-mul, rescale-down}
+use Rattle.steps.specs.Limits.{halvingLimit}
 use Rattle.steps.specs.Side.{adapted, adapt, halved, push, largest, longest, magnitudes, together}
 use Rattle.steps.specs.Sound.{Small, Summable, Adaptable, Storable}
+use Rattle.steps.proofs.GainLaws.{adapted-fits}
 use Rattle.steps.proofs.LargestLaws.{magnitude-at, each-magnitude, longest-above, together-longest, together-none, together-next, together-all}
 
 -- ---- a number of 16 bits in a wider register
@@ -32,10 +34,6 @@ pub fits-64 : {z : ℤ} → SFits w16 z → SFits w64 z
 fits-64 f = sfits-widen tt f
 
 -- ---- the sum of the first products
-
-pub sum-none : (w a : List ℤ) → dot (take 0 w) (take 0 a) ≡ pos 0
-unfolding dot
-sum-none w a = refl
 
 pub sum-all : (w a : List ℤ) (i : ℕ) → Summable w a → length w ≤ i → dot (take i w) (take i a) ≡ dot w a
 sum-all w a i s h = ap₂ dot (take-all i w h) (take-all i a (omega (arith, s .same-length)))
@@ -53,12 +51,12 @@ sum-bound w a j s =
     omega (
       arith,
       s .bound,
-      dot-bound (2 ^ 14) (largest (magnitudes a)) (take j w) (take j a) (each-take _ j w small) (each-take _ j a (each-magnitude a)),
-      mul-le-mul-right (2 ^ 14 * largest (magnitudes a)) shorter,
+      dot-bound halvingLimit (largest (magnitudes a)) (take j w) (take j a) (each-take _ j w small) (each-take _ j a (each-magnitude a)),
+      mul-le-mul-right (halvingLimit * largest (magnitudes a)) shorter,
     )
   where
-    small : Each (λ (x : ℤ). natAbs x ≤ 2 ^ 14) w
-    small = each-weaken Small (λ (x : ℤ). natAbs x ≤ 2 ^ 14) (λ x l. le-of-lt l) w (s .small)
+    small : Each (λ (x : ℤ). natAbs x ≤ halvingLimit) w
+    small = each-weaken Small (λ (x : ℤ). natAbs x ≤ halvingLimit) (λ x l. le-of-lt l) w (s .small)
 
     shorter : length (take j w) ≤ length w
     shorter = rw length-take (min-le-right j (length w))
@@ -98,6 +96,15 @@ module _ {new old now : List ℤ} {i seen : ℕ} (c : Changing new old i now see
       let e = written-all (c .written) l h in
       (e, together-all (magnitudes new) i seen (rw length-map (omega arith)) (c .bits) ∙ ap (λ (w : List ℤ). together (magnitudes w)) (sym e))
 
+-- new weights fit 16 bits where the data are at most m
+pub adapt-each : (K : ℤ) (m : ℕ) → natAbs K * m < 2 ^ 44 → (w a : List ℤ) → Each Small w → Each (λ (x : ℤ). natAbs x ≤ m) a →
+    Each (λ (x : ℤ). natAbs x < 2 ^ 15) (adapt K w a)
+unfolding adapt
+adapt-each K m b [] a h g = tt
+adapt-each K m b (w ∷ ws) [] h g = each-weaken Small (λ (x : ℤ). natAbs x < 2 ^ 15) (λ x l. omega arith) (w ∷ ws) h
+adapt-each K m b (w ∷ ws) (x ∷ a) h g =
+    (adapted-fits K w x (h .0) (lt-of-le-of-lt (mul-le-mul-left (natAbs K) (g .0)) b), adapt-each K m b ws a (h .1) (g .1))
+
 -- data raised by e places
 pub adapt-raise : (e : ℕ) (k : ℤ) (w a : List ℤ) → adapt k w (map (λ (x : ℤ). raise x e) a) ≡ adapt (raise k e) w a
 unfolding adapt
@@ -106,11 +113,11 @@ adapt-raise e k (w ∷ ws) [] = refl
 adapt-raise e k (w ∷ ws) (a ∷ b) = ap₂ (λ (y : ℤ) (z : List ℤ). y ∷ z) (ap (λ (y : ℤ). w +ℤ cut y 30) turned) (adapt-raise e k ws b)
   where
     turned : k *ℤ raise a e ≡ raise k e *ℤ a
-    turned = ap (λ (y : ℤ). k *ℤ y) (*ℤ-comm a (pos (2 ^ e))) ∙ sym (*ℤ-assoc k (pos (2 ^ e)) a)
+    turned = sym (*ℤ-assoc k a (pos (2 ^ e))) ∙ sym (raise-mul k a e)
 
 -- what one weight asks
 pub adapt-room : (J : ℤ) (t : ℕ) (w a : List ℤ) (i : ℕ) → Adaptable J t w a → i < length w →
-    (natAbs (getD w i (pos 0)) < 2 ^ 14) × (natAbs J * natAbs (getD a i (pos 0)) < 2 ^ (29 + t))
+    (Small (getD w i (pos 0))) × (natAbs J * natAbs (getD a i (pos 0)) < 2 ^ (29 + t))
 adapt-room J t w a i s h = (each-at Small w i (pos 0) (s .small) h, lt-of-le-of-lt (mul-le-mul-left (natAbs J) (magnitude-at a i)) (s .bound))
 
 -- ---- half of each weight

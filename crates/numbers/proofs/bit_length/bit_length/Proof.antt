@@ -6,7 +6,7 @@ use Rattle.numbers.proofs.bit_length.bit_length.Statement.{statement}
 use Rattle.numbers.proofs.bit_length.bit_length.Tie as tie
 
 sub-result : tie.Need-sub-result
-sub-result c = leading-le 64 (c .args .n)
+sub-result c = leading-le 64 _
 
 returns : tie.Need-returns
 returns c = omega (arith, bit-length-leading (c .args .n) 64 (c .fits .n .fits))

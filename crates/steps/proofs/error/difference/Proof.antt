@@ -1,15 +1,13 @@
 -- Both parts are at most 2^29 in magnitude, so their difference fits 32 bits.
-use mathlib.Core.Path.{_≡_, ap, ap₂, _∙_}
-use Prim.Native.Nat.{_^_, _<_}
+use mathlib.Core.Path.{_≡_, ap₂, _∙_}
 use native.Mathlib.Omega.{arith}
-use lib.IntN.{ℤ, pos, natAbs, _-ℤ_}
+use lib.IntN.{ℤ, _-ℤ_}
 use mir.Syntax.{w32}
 use mir.Val.{SFits}
 use mir.Facts.{toZ-ofZ, sfits-widen}
-use Rattle.laws.specs.Integers.{abs-sub, abs-mul}
-use Rattle.laws.specs.Machine.{kept, fits-abs}
+use Rattle.laws.specs.Machine.{kept, fits-difference}
 use Rattle.numbers.specs.Cut.{cut, raise}
-use Rattle.numbers.proofs.CutLaws.{cut-le}
+use Rattle.numbers.proofs.CutLaws.{cut-le, raise-abs}
 use Rattle.steps.proofs.error.difference.Statement.{statement}
 use Rattle.steps.proofs.error.difference.Tie as tie
 
@@ -28,21 +26,11 @@ raised c = c .raise32 .ensures ∙ simp (toZ-ofZ (c .before .fits .v), toZ-ofZ {
 gave : (c : tie.After-cut32) → c .cut32 .result ≡ cut (c .before .before .args .y) (c .before .before .args .down)
 gave c = c .cut32 .ensures ∙ simp (toZ-ofZ (c .before .before .fits .y))
 
-small : (c : tie.After-cut32) → natAbs (c .before .raise32 .result -ℤ c .cut32 .result) < 2 ^ 31
-small c =
-    let a = c .before .before .args in
-    omega (
-      arith,
-      abs-sub (c .before .raise32 .result) (c .cut32 .result),
-      ap natAbs (raised (c .before)) ∙ abs-mul (a .v) (pos (2 ^ a .up)),
-      ap natAbs (gave c),
-      cut-le (a .y) (a .down),
-      c .before .before .pre .0,
-      c .before .before .pre .3,
-    )
-
 fits : (c : tie.After-cut32) → SFits w32 (c .before .raise32 .result -ℤ c .cut32 .result)
-fits c = fits-abs (c .before .raise32 .result -ℤ c .cut32 .result) (small c)
+fits c =
+    let s = c .before .before in
+    fits-difference (c .before .raise32 .result) (c .cut32 .result)
+    (rw (raised (c .before), gave c) (omega (arith, raise-abs (s .args .v) (s .args .up), cut-le (s .args .y) (s .args .down), s .pre .0, s .pre .3)))
 
 sub-result : tie.Need-sub-result
 sub-result c = simp (kept w32 (c .before .raise32 .result) (c .before .raise32 .ok), kept w32 (c .cut32 .result) (c .cut32 .ok)) (fits c)

@@ -1,14 +1,12 @@
 -- Neither part grows beyond 2^28, so both together fit 32 bits.
-use mathlib.Core.Path.{_≡_, ap, ap₂, _∙_}
-use Prim.Native.Nat.{_^_, _<_}
+use mathlib.Core.Path.{_≡_, ap₂, _∙_}
 use native.Mathlib.Omega.{arith}
-use lib.IntN.{ℤ, natAbs, _+ℤ_}
+use lib.IntN.{ℤ, _+ℤ_}
 use mir.Syntax.{w32}
 use mir.Val.{SFits}
 use mir.Facts.{toZ-ofZ}
 use borrow.Author.Needs.{needs}
-use Rattle.laws.specs.Integers.{abs-add}
-use Rattle.laws.specs.Machine.{kept, fits-abs}
+use Rattle.laws.specs.Machine.{kept, fits-sum}
 use Rattle.numbers.specs.Cut.{cut, raise}
 use Rattle.numbers.proofs.CutLaws.{cut-le, cut-most, raise-abs}
 use Rattle.steps.proofs.output.added.Statement.{statement}
@@ -36,21 +34,11 @@ gave c =
 raised : (c : tie.After-raise32) → c .raise32 .result ≡ raise (c .before .before .before .args .h) (c .before .before .before .args .up)
 raised c = c .raise32 .ensures ∙ simp (toZ-ofZ (c .before .before .before .fits .h))
 
-small : (c : tie.After-raise32) → natAbs (c .before .cut32 .result +ℤ c .raise32 .result) < 2 ^ 31
-small c =
-    let s = c .before .before .before in
-    omega (
-      arith,
-      abs-add (c .before .cut32 .result) (c .raise32 .result),
-      ap natAbs (gave (c .before)),
-      cut-le (s .args .f) (s .args .down),
-      ap natAbs (raised c) ∙ raise-abs (s .args .h) (s .args .up),
-      s .pre .0,
-      s .pre .2,
-    )
-
 fits : (c : tie.After-raise32) → SFits w32 (c .before .cut32 .result +ℤ c .raise32 .result)
-fits c = fits-abs (c .before .cut32 .result +ℤ c .raise32 .result) (small c)
+fits c =
+    let s = c .before .before .before in
+    fits-sum (c .before .cut32 .result) (c .raise32 .result)
+    (rw (gave (c .before), raised c) (omega (arith, cut-le (s .args .f) (s .args .down), raise-abs (s .args .h) (s .args .up), s .pre .0, s .pre .2)))
 
 add-result : tie.Need-add-result
 add-result c = simp (kept w32 (c .before .cut32 .result) (c .before .cut32 .ok), kept w32 (c .raise32 .result) (c .raise32 .ok)) (fits c)

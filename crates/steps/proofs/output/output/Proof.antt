@@ -9,6 +9,7 @@ use mir.Facts.{toZ-ofZ}
 use borrow.Author.Needs.{needs}
 use Rattle.laws.specs.Machine.{kept}
 use Rattle.laws.specs.Powers.{rises}
+use Rattle.steps.specs.Limits.{dataExponentLimit}
 use Rattle.steps.proofs.OutputLaws.{output-raised, output-exponent-form}
 use Rattle.steps.proofs.output.output.Statement.{statement}
 use Rattle.steps.proofs.output.output.Tie as tie
@@ -19,7 +20,7 @@ add-larger c = search needs
 larger-requires : tie.Need-larger-requires
 larger-requires c κs = search needs
 
-between : (c : tie.After-larger) → (c .before .args .g ≤ c .larger .result) × (c .before .args .nu + 30 ≤ c .larger .result) × (c .larger .result ≤ 39)
+between : (c : tie.After-larger) → (c .before .args .g ≤ c .larger .result) × (c .before .args .nu + 30 ≤ c .larger .result) × (c .larger .result ≤ dataExponentLimit + 30)
 between c =
     let a = c .before .args in
     omega (
@@ -27,7 +28,7 @@ between c =
       c .larger .ensures,
       le-max-left (a .g) (a .nu + 30),
       le-max-right (a .g) (a .nu + 30),
-      max-le {a = a .g} {b = a .nu + 30} {k = 39} (c .before .pre .g-most) (omega (arith, c .before .pre .ν-most)),
+      max-le {a = a .g} {b = a .nu + 30} {k = dataExponentLimit + 30} (c .before .pre .g-most) (omega (arith, c .before .pre .ν-most)),
     )
 
 sub-added : tie.Need-sub-added

@@ -7,8 +7,8 @@ use mir.Syntax.{w16}
 use mir.Val.{SFits, toZ, ofZ}
 use mir.Facts.{toZ-ofZ}
 use borrow.Author.Needs.{needs}
-use Rattle.laws.specs.Machine.{kept, fits-abs}
-use Rattle.steps.proofs.GainLaws.{gain-small, alike-gain, unlike-gain, sum-fits, difference-fits}
+use Rattle.laws.specs.Machine.{kept, fits-sum, fits-difference}
+use Rattle.steps.proofs.GainLaws.{gain-small, alike-gain, unlike-gain}
 use Rattle.steps.proofs.side.adapted_by_size.Statement.{statement}
 use Rattle.steps.proofs.side.adapted_by_size.Tie as tie
 
@@ -33,10 +33,10 @@ gained c =
     ∙ ap (λ (n : ℕ). pos (n / 2 ^ (15 + c .before .before .args .t))) (product (c .before))
 
 difference : (c : tie.Start) → SFits w16 (c .args .w -ℤ pos (gain c))
-difference c = fits-abs (c .args .w -ℤ pos (gain c)) (difference-fits (c .args .w) (pos (gain c)) (c .pre .2) (small c))
+difference c = fits-difference (c .args .w) (pos (gain c)) (omega (arith, c .pre .2, small c))
 
 sum : (c : tie.Start) → SFits w16 (c .args .w +ℤ pos (gain c))
-sum c = fits-abs (c .args .w +ℤ pos (gain c)) (sum-fits (c .args .w) (pos (gain c)) (c .pre .2) (small c))
+sum c = fits-sum (c .args .w) (pos (gain c)) (omega (arith, c .pre .2, small c))
 
 sub-result : tie.Need-sub-result
 sub-result c = simp (toZ-ofZ (c .before .before .before .fits .w), gained (c .before)) (difference (c .before .before .before))

@@ -7,9 +7,9 @@ use lib.IntN.{ℤ, pos, natAbs, _+ℤ_, _*ℤ_}
 use mir.Syntax.{w16, w32}
 use mir.Val.{toZ, ofZ}
 use borrow.Author.Needs.{needs}
-use Rattle.laws.specs.Sums.{dot}
+use Rattle.laws.specs.Sums.{dot, dot-none}
 use Rattle.laws.specs.Machine.{kept}
-use Rattle.steps.proofs.SideLaws.{sum-none, sum-next, sum-bound, sum-all}
+use Rattle.steps.proofs.SideLaws.{sum-next, sum-bound, sum-all}
 use Rattle.steps.proofs.side.total.Statement.{statement}
 use Rattle.steps.proofs.side.total.Tie as tie
 
@@ -20,7 +20,7 @@ abbrev μ-loop : tie.MeasureT-loop
 μ-loop w a total₀ i₀ total i = length w - i
 
 loop-holds : tie.Need-loop-holds Inv-loop μ-loop
-loop-holds c = sym (sum-none (c .args .w .now) (c .args .a .now))
+loop-holds c = sym (dot-none _)
 
 mul-mac : tie.Need-mul-mac Inv-loop μ-loop
 mul-mac c = search needs
