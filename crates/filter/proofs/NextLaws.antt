@@ -5,7 +5,6 @@ use mathlib.Core.List.{List}
 use Prim.Native.Nat.{ℕ, _≤_}
 use lib.ListN.{length, length-map}
 use lib.IntN.{ℤ}
-use Rattle.laws.specs.Sums.{Each}
 use Rattle.steps.specs.Limits.{exponentLimit}
 use Rattle.steps.specs.Settings.{Settings, isEntry}
 use Rattle.steps.specs.Side.{push}

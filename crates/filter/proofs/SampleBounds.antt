@@ -7,7 +7,6 @@ use lib.IntN.{ℤ, natAbs}
 use Rattle.laws.specs.Lists.{and-left, and-right}
 use Rattle.laws.specs.Powers.{split, positive}
 use Rattle.laws.specs.Sums.{Each}
-use Rattle.numbers.specs.Cut.{raise}
 use Rattle.steps.specs.Limits.{outputExponentLimit}
 use Rattle.steps.specs.Settings.{Settings, scaleForward, scaleBack, isEntry}
 use Rattle.steps.specs.Side.{Side, allSmall}

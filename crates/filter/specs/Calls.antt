@@ -1,17 +1,17 @@
 -- What the functions of a sample ask and promise, as records with named parts.
 use mathlib.Core.Path.{_≡_}
 use mathlib.Core.Bool.{true, _&&_, cond}
-use mathlib.Core.List.{List, [], _∷_, _++_}
-use Prim.Native.Nat.{ℕ, _+_, _-_, _*_, _^_, _≤_, _<_, max}
+use mathlib.Core.List.{List, _∷_}
+use Prim.Native.Nat.{ℕ, _+_, _-_, _*_, _^_, _≤_, _<_}
 use lib.Dec.{eqb, ltb}
-use lib.ListN.{length, getD, take}
+use lib.ListN.{length, getD}
 use lib.IntN.{ℤ, pos, natAbs, _*ℤ_}
 use Rattle.laws.specs.Sums.{Each, dot}
 use Rattle.numbers.specs.BitLength.{bitLength}
 use Rattle.numbers.specs.Cut.{cut, raise}
 use Rattle.steps.specs.Limits.{symbolLimit, exponentLimit, scaleLimit, dataExponentLimit, outputExponentLimit}
-use Rattle.steps.specs.Settings.{Settings, Within, isEntry, scaleForward, scaleBack}
-use Rattle.steps.specs.Side.{adapt, allSmall, largest, magnitudes}
+use Rattle.steps.specs.Settings.{Settings, isEntry, scaleForward, scaleBack}
+use Rattle.steps.specs.Side.{adapt, allSmall}
 use Rattle.steps.specs.Output.{output, outputExponent}
 use Rattle.steps.specs.Decision.{decide}
 use Rattle.steps.specs.Error.{error, errorExponent}

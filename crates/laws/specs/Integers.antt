@@ -1,5 +1,5 @@
 -- The ring laws of ℤ and the laws of the magnitude that the toolchain's integers lack.
-use mathlib.Core.Path.{_≡_, refl, ap, _∙_}
+use mathlib.Core.Path.{_≡_, refl, ap}
 use Prim.Native.Nat.{ℕ, suc, _+_, _*_, _≤_}
 use native.Mathlib.Omega.{arith}
 use lib.IntN.{ℤ, pos, negsuc, negℤ, natAbs, _+ℤ_, _-ℤ_, _*ℤ_, *ℤ-comm}
@@ -47,9 +47,6 @@ neg-*ℤ a b =
       ap (λ (n : ℕ). n * up b) (down-neg a),
       ap (λ (n : ℕ). n * down b) (down-neg a),
     ))
-
-pub *ℤ-neg : (a b : ℤ) → a *ℤ negℤ b ≡ negℤ (a *ℤ b)
-*ℤ-neg a b = *ℤ-comm a (negℤ b) ∙ neg-*ℤ b a ∙ ap negℤ (*ℤ-comm b a)
 
 pub one-*ℤ : (a : ℤ) → pos 1 *ℤ a ≡ a
 one-*ℤ a = same-parts _ _ (omega (arith, mul-parts (pos 1) a, ap (λ (n : ℕ). n * up a) (up-pos 1), ap (λ (n : ℕ). n * down a) (up-pos 1), ap (λ (n : ℕ). n * up a) (down-pos 1), ap (λ (n : ℕ). n * down a) (down-pos 1)))

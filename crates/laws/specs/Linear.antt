@@ -4,8 +4,8 @@ use mathlib.Core.Bool.{Bool, true, false, not}
 use Prim.Native.Nat.{ℕ, pred, _+_, _*_, _≤_, _<_}
 use native.Mathlib.Omega.{arith}
 use lib.IntN.{ℤ, pos, negℤ, natAbs, _+ℤ_, _-ℤ_, _*ℤ_}
-use lib.Signed.{_≤ℤ_, _<ℤ_}
-use Rattle.laws.specs.Parts.{up, down, up-neg, down-neg, up-pos, down-pos, abs-parts, add-parts, sub-parts-of, mul-parts, same-parts, parts-le, le-parts, parts-lt, lt-parts}
+use lib.Signed.{_≤ℤ_}
+use Rattle.laws.specs.Parts.{up, down, up-neg, down-neg, up-pos, down-pos, abs-parts, add-parts, sub-parts-of, mul-parts, le-parts}
 use Rattle.laws.specs.Integers.{abs-bounds}
 
 pub data E : ℤ → Type 0 where
@@ -42,36 +42,14 @@ parts (neg {x = x} a) = omega (arith, parts a, up-neg x, down-neg x)
 parts (nat n) = omega (arith, up-pos n, down-pos n)
 parts (atom z) = omega arith
 
--- the expression of a term is found by `search (expression, atom a, ..)`: the caller lists the atoms
-pub ruleset expression = (sum, diff, prod, neg, nat)
-
 -- ---- a statement on ℤ and the one on the parts, each way
 
-module _ {x y : ℤ} (a : E x) (b : E y) where
-  pub by-eq : part true a + part false b ≡ part true b + part false a → x ≡ y
-  by-eq h = same-parts x y (omega (arith, parts a, parts b))
-
-  pub by-le : part true a + part false b ≤ part true b + part false a → x ≤ℤ y
-  by-le h = parts-le x y (omega (arith, parts a, parts b))
-
-  pub by-lt : part true a + part false b < part true b + part false a → x <ℤ y
-  by-lt h = parts-lt x y (omega (arith, parts a, parts b))
-
-  pub of-eq : x ≡ y → part true a + part false b ≡ part true b + part false a
-  of-eq h = omega (arith, parts a, parts b, ap up h, ap down h)
-
-  pub of-le : x ≤ℤ y → part true a + part false b ≤ part true b + part false a
-  of-le h = omega (arith, parts a, parts b, le-parts x y h)
-
-  pub of-lt : x <ℤ y → part true a + part false b < part true b + part false a
-  of-lt h = omega (arith, parts a, parts b, lt-parts x y h)
+pub of-le : {x y : ℤ} (a : E x) (b : E y) → x ≤ℤ y → part true a + part false b ≤ part true b + part false a
+of-le {x} {y} a b h = omega (arith, parts a, parts b, le-parts x y h)
 
 module _ (x : ℤ) {k : ℕ} (a : E x) where
   pub by-abs : (part true a ≤ part false a + k) × (part false a ≤ part true a + k) → natAbs x ≤ k
   by-abs h = abs-bounds x k (omega (arith, parts a)) (omega (arith, parts a))
-
-  pub of-abs : natAbs x ≤ k → (part true a ≤ part false a + k) × (part false a ≤ part true a + k)
-  of-abs h = omega (arith, parts a, abs-parts x)
 
   pub by-abs-lt : (part true a < part false a + k) × (part false a < part true a + k) → natAbs x < k
   by-abs-lt h = below (abs-bounds x (pred k) (omega (arith, parts a)) (omega (arith, parts a)))

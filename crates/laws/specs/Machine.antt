@@ -30,14 +30,22 @@ kept w z h = toZ-ofZ (record { sfits = h })
 pub fits-abs : {w : Width} (z : ℤ) → natAbs z < 2 ^ hbits w → SFits w z
 fits-abs z h = record { sfits = lt-of-le-of-lt (mag-le z) h }
 
-pub fits-sum : {w : Width} (a b : ℤ) → natAbs a + natAbs b < 2 ^ hbits w → SFits w (a +ℤ b)
-fits-sum a b h = fits-abs (a +ℤ b) (lt-of-le-of-lt (abs-add a b) h)
-
-pub fits-difference : {w : Width} (a b : ℤ) → natAbs a + natAbs b < 2 ^ hbits w → SFits w (a -ℤ b)
-fits-difference a b h = fits-abs (a -ℤ b) (lt-of-le-of-lt (abs-sub a b) h)
-
 pub abs-fits : {w : Width} {z : ℤ} → SFits w z → natAbs z ≤ 2 ^ hbits w
 abs-fits {z = z} h = natAbs-le z (h .sfits)
+
+-- the sum and the difference of two numbers that a register keeps, where no larger one is needed
+module _ (w : Width) {a b x y : ℤ} (f : mag a < 2 ^ hbits w) (g : mag b < 2 ^ hbits w) (e : a ≡ x) (h : b ≡ y) (l : natAbs x + natAbs y < 2 ^ hbits w) where
+  pub sum-kept : let s = toZ w (ofZ w a) +ℤ toZ w (ofZ w b) in SFits w s × (toZ w (ofZ w s) ≡ x +ℤ y)
+  sum-kept = rw (kept w a f, kept w b g, e, h) (within, toZ-ofZ within)
+    where
+      within : SFits w (x +ℤ y)
+      within = fits-abs (x +ℤ y) (lt-of-le-of-lt (abs-add x y) l)
+
+  pub difference-kept : let d = toZ w (ofZ w a) -ℤ toZ w (ofZ w b) in SFits w d × (toZ w (ofZ w d) ≡ x -ℤ y)
+  difference-kept = rw (kept w a f, kept w b g, e, h) (within, toZ-ofZ within)
+    where
+      within : SFits w (x -ℤ y)
+      within = fits-abs (x -ℤ y) (lt-of-le-of-lt (abs-sub x y) l)
 
 -- a wider one too
 pub kept-wider : {w : Width} (w′ : Width) {z : ℤ} → T (leb (hbits w) (hbits w′)) → SFits w z → toZ w′ (ofZ w′ (toZ w (ofZ w z))) ≡ z

@@ -3,9 +3,9 @@ use mathlib.Core.Path.{_≡_, refl, ap}
 use mathlib.Core.Bool.{Bool, true, false, not, cond}
 use Prim.Native.Nat.{ℕ, zero, suc, _+_, _*_, _-_, _≤_, _<_}
 use native.Mathlib.Omega.{arith}
-use lib.Dec.{T, ltb, ltb→lt, nltb→le, lt→ltb, le→leb, leb→le}
+use lib.Dec.{T, ltb→lt, ltb, nltb→le, leb→le}
 use lib.IntN.{ℤ, pos, negsuc, negℤ, natAbs, subℕ, _+ℤ_, _-ℤ_, _*ℤ_}
-use lib.Signed.{leZ, ltZ, _≤ℤ_, _<ℤ_}
+use lib.Signed.{leZ, _≤ℤ_}
 
 unfoldable pub up : ℤ → ℕ
 up (pos n) = n
@@ -90,17 +90,7 @@ same-parts (pos a) (negsuc b) h = absurd (omega arith)
 same-parts (negsuc a) (pos b) h = absurd (omega arith)
 same-parts (negsuc a) (negsuc b) h = ap negsuc (omega arith)
 
--- ---- the orders
-
-le-test : (x y : ℤ) → up x + down y ≤ up y + down x → T (leZ x y)
-unfolding up down
-le-test (pos a) (pos b) h = le→leb a b (omega arith)
-le-test (pos a) (negsuc b) h = absurd (omega arith)
-le-test (negsuc a) (pos b) h = tt
-le-test (negsuc a) (negsuc b) h = le→leb b a (omega arith)
-
-pub parts-le : (x y : ℤ) → up x + down y ≤ up y + down x → x ≤ℤ y
-parts-le x y h = record { le = le-test x y h }
+-- ---- the order
 
 test-le : (x y : ℤ) → T (leZ x y) → up x + down y ≤ up y + down x
 unfolding up down
@@ -111,23 +101,3 @@ test-le (negsuc a) (negsuc b) t = omega (arith, leb→le b a t)
 
 pub le-parts : (x y : ℤ) → x ≤ℤ y → up x + down y ≤ up y + down x
 le-parts x y h = test-le x y (h .le)
-
-lt-test : (x y : ℤ) → up x + down y < up y + down x → T (ltZ x y)
-unfolding up down
-lt-test (pos a) (pos b) h = lt→ltb a b (omega arith)
-lt-test (pos a) (negsuc b) h = absurd (omega arith)
-lt-test (negsuc a) (pos b) h = tt
-lt-test (negsuc a) (negsuc b) h = lt→ltb b a (omega arith)
-
-pub parts-lt : (x y : ℤ) → up x + down y < up y + down x → x <ℤ y
-parts-lt x y h = record { lt = lt-test x y h }
-
-test-lt : (x y : ℤ) → T (ltZ x y) → up x + down y < up y + down x
-unfolding up down
-test-lt (pos a) (pos b) t = omega (arith, ltb→lt a b t)
-test-lt (pos a) (negsuc b) t = absurd t
-test-lt (negsuc a) (pos b) t = omega arith
-test-lt (negsuc a) (negsuc b) t = omega (arith, ltb→lt b a t)
-
-pub lt-parts : (x y : ℤ) → x <ℤ y → up x + down y < up y + down x
-lt-parts x y h = test-lt x y (h .lt)

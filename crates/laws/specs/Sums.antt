@@ -5,8 +5,8 @@ use Prim.Native.Nat.{ℕ, zero, suc, _*_, _≤_, _<_}
 use native.Mathlib.Omega.{arith}
 use native.Mathlib.Nat.{le-of-suc-le-suc, not-suc-le-zero, mul-le-mul}
 use lib.ListN.{length, getD, take, drop}
-use lib.IntN.{ℤ, pos, negℤ, natAbs, _+ℤ_, _*ℤ_, zero-*ℤ, +ℤ-idl, +ℤ-idr, +ℤ-assoc, negℤ-+ℤ, negℤ-negℤ}
-use Rattle.laws.specs.Integers.{neg-*ℤ, *ℤ-neg, add-*ℤ, *ℤ-assoc, abs-mul, abs-add}
+use lib.IntN.{ℤ, pos, natAbs, _+ℤ_, _*ℤ_, zero-*ℤ, +ℤ-idl, +ℤ-idr, +ℤ-assoc}
+use Rattle.laws.specs.Integers.{add-*ℤ, *ℤ-assoc, abs-mul, abs-add}
 
 -- ---- a fact of each element
 
@@ -56,21 +56,6 @@ dot (w ∷ ws) (a ∷ as′) = w *ℤ a +ℤ dot ws as′
 pub dot-none : (a : List ℤ) → dot [] a ≡ pos 0
 unfolding dot
 dot-none a = refl
-
-pub dot-neg-left : (w a : List ℤ) → dot (map negℤ w) a ≡ negℤ (dot w a)
-unfolding dot
-dot-neg-left [] a = refl
-dot-neg-left (w ∷ ws) [] = refl
-dot-neg-left (w ∷ ws) (a ∷ b) = ap₂ (λ (x y : ℤ). x +ℤ y) (neg-*ℤ w a) (dot-neg-left ws b) ∙ sym (negℤ-+ℤ (w *ℤ a) (dot ws b))
-
-pub dot-neg-right : (w a : List ℤ) → dot w (map negℤ a) ≡ negℤ (dot w a)
-unfolding dot
-dot-neg-right [] a = refl
-dot-neg-right (w ∷ ws) [] = refl
-dot-neg-right (w ∷ ws) (a ∷ b) = ap₂ (λ (x y : ℤ). x +ℤ y) (*ℤ-neg w a) (dot-neg-right ws b) ∙ sym (negℤ-+ℤ (w *ℤ a) (dot ws b))
-
-pub dot-neg-both : (w a : List ℤ) → dot (map negℤ w) (map negℤ a) ≡ dot w a
-dot-neg-both w a = dot-neg-left w (map negℤ a) ∙ ap negℤ (dot-neg-right w a) ∙ negℤ-negℤ (dot w a)
 
 -- the right list times a number
 pub dot-scale : (c : ℤ) (w a : List ℤ) → dot w (map (λ (x : ℤ). x *ℤ c) a) ≡ dot w a *ℤ c

@@ -46,9 +46,6 @@ pub bit-length-zero : bitLength 0 ≡ 0
 unfolding bitLength
 bit-length-zero = refl
 
-pub bit-length-only-zero : (n : ℕ) → bitLength n ≡ 0 → n ≡ 0
-bit-length-only-zero n e = omega (arith, bit-length-above n, ap (λ (k : ℕ). 2 ^ k) e)
-
 -- a number below 2^k has at most k digits, and only such a number
 pub bit-length-le : (n k : ℕ) → n < 2 ^ k → bitLength n ≤ k
 bit-length-le n k h = go (eq-zero-or-pos n)

@@ -4,7 +4,7 @@ use Prim.Native.Nat.{ℕ, zero, suc, _+_, _*_, _-_, _/_, _%_, _^_, _≤_, _<_, m
 use mathlib.Core.Bool.{Bool, true, false, not, Bool·beq}
 use native.Mathlib.Omega.{arith}
 use native.Mathlib.Nat.{zero-div, div-one, div-le-self, div-mul-le-self, div-add-mod', mod-lt, mul-div-mul-right, div-eq-of-lt, div-eq-sub-div, div-lt-iff-lt-mul, mul-div-cancel, min-eq-left, min-eq-right, lt-of-lt-of-le}
-use lib.Pow.{pow-pos, shr-shr}
+use lib.Pow.{pow-pos}
 use lib.Dec.{T, ltb, ltb→lt}
 use borrow.Author.Tests.{lt-ltb, le-ltb}
 use native.Mathlib.Decide.{decLe}
@@ -102,13 +102,6 @@ raise-kept w z k f h l = rw (toZ-ofZ f, signed-one-shifted w k h) (fits, toZ-ofZ
 
 pub raise-raise : (z : ℤ) (i j k : ℕ) → k ≡ i + j → raise (raise z i) j ≡ raise z k
 raise-raise z i j k e = *ℤ-assoc z (pos (2 ^ i)) (pos (2 ^ j)) ∙ ap (λ (n : ℕ). z *ℤ pos n) (sym (split k i j e))
-
-pub cut-cut : (z : ℤ) (i j : ℕ) → cut (cut z i) j ≡ cut z (i + j)
-unfolding cut
-cut-cut z i j = by-sign (λ z. cut (cut z i) j ≡ cut z (i + j)) (λ n. ap pos (shr-shr n i j)) negative z
-  where
-    negative : (z : ℤ) → cut (cut z i) j ≡ cut z (i + j) → cut (cut (negℤ z) i) j ≡ cut (negℤ z) (i + j)
-    negative z h = ap (λ (c : ℤ). cut c j) (cut-neg z i) ∙ cut-neg (cut z i) j ∙ ap negℤ h ∙ sym (cut-neg z (i + j))
 
 -- ---- a number raised and then cut
 

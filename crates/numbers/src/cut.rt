@@ -1,5 +1,5 @@
 ghost use mathlib.Core.Path.{_≡_};
-ghost use Prim.Native.Nat.{_*_, _-_, _^_, _<_, _≤_};
+ghost use Prim.Native.Nat.{_*_, _-_, _^_, _<_};
 ghost use lib.IntN.{pos, natAbs};
 ghost use lib.Signed.{shrZ};
 ghost use Rattle.numbers.specs.Cut.{cut, raise, rescale};

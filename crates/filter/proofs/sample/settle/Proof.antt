@@ -18,7 +18,7 @@ kept : (c : tie.Start) → ltb (c .args .seen) halvingLimit ≡ (allSmall (c .ar
 kept c = ap (λ (n : ℕ). ltb n halvingLimit) (c .pre .1) ∙ both-small (c .args .forward .now) (c .args .back .now)
 
 returns : tie.Need-returns
-returns c = settled-kept _ _ _ (sym (kept (c .before)) ∙ lt-ltb _ _ (c .if1 .taken))
+returns c = settled-kept _ _ _ (sym (kept (c .before)) ∙ lt-ltb (c .before .args .seen) halvingLimit (c .if1 .taken))
 
 -- the bits of each side are among them
 short : (c : tie.Start) → (together (magnitudes (c .args .forward .now)) < 2 ^ 16) × (together (magnitudes (c .args .back .now)) < 2 ^ 16)
@@ -46,7 +46,7 @@ returns-2 : tie.Need-returns-2
 returns-2 c =
     let d = c .before .before .before .before .before .before in
     let s = d .before in
-    settled-halved _ _ _ _ _ (sym (kept s) ∙ le-ltb _ _ (d .if1 .left))
+    settled-halved _ _ _ _ _ (sym (kept s) ∙ le-ltb (s .args .seen) halvingLimit (d .if1 .left))
     (c .before .before .before .before .rescale-all .ensures ∙ halved-is (s .args .forward .now)) (c .before .rescale-all2 .ensures ∙ halved-is (s .args .back .now))
 
 pub settle-spec : {M : Type 1} → statement M

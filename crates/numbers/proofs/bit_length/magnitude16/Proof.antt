@@ -1,5 +1,5 @@
 -- A magnitude of 16 bits with a sign fits 16 bits without one.
-use mathlib.Core.Path.{_≡_, sym, ap, _∙_, subst}
+use mathlib.Core.Path.{sym, ap, _∙_, subst}
 use lib.IntN.{natAbs}
 use mir.Syntax.{w16, w64}
 use mir.Val.{Fits}

@@ -9,13 +9,13 @@ ones-requires : tie.Need-ones-requires
 ones-requires c κs = search needs
 
 add-result : tie.Need-add-result
-add-result c = lift-negative w64 _ _ _ (c .before .before .fits .z) (sfits-of (c .before .ones .ok)) (c .before .ones .ensures) (c .if1 .left) .0
+add-result c = let s = c .before .before in lift-negative w64 (s .args .z) _ (s .args .k) (s .fits .z) (sfits-of (c .before .ones .ok)) (c .before .ones .ensures) (c .if1 .left) .0
 
 returns : tie.Need-returns
-returns c = lift-whole w64 _ _ (c .before .before .fits .z) (c .if1 .taken)
+returns c = let s = c .before .before in lift-whole w64 (s .args .z) (s .args .k) (s .fits .z) (c .if1 .taken)
 
 returns-2 : tie.Need-returns-2
-returns-2 c = lift-negative w64 _ _ _ (c .before .before .fits .z) (sfits-of (c .before .ones .ok)) (c .before .ones .ensures) (c .if1 .left) .1
+returns-2 c = let s = c .before .before in lift-negative w64 (s .args .z) _ (s .args .k) (s .fits .z) (sfits-of (c .before .ones .ok)) (c .before .ones .ensures) (c .if1 .left) .1
 
 pub lifted-spec : {M : Type 1} → statement M
 lifted-spec = tie.close (tie.spec ones-requires add-result returns returns-2)

@@ -1,11 +1,11 @@
 -- Both parts are at most 2^29 in magnitude, so their difference fits 32 bits.
-use mathlib.Core.Path.{_≡_, ap₂, _∙_}
+use mathlib.Core.Path.{_≡_, _∙_}
+use Prim.Native.Nat.{_+_, _^_, _<_}
 use native.Mathlib.Omega.{arith}
-use lib.IntN.{ℤ, _-ℤ_}
+use lib.IntN.{natAbs}
 use mir.Syntax.{w32}
-use mir.Val.{SFits}
 use mir.Facts.{toZ-ofZ, sfits-widen}
-use Rattle.laws.specs.Machine.{kept, fits-difference}
+use Rattle.laws.specs.Machine.{difference-kept}
 use Rattle.numbers.specs.Cut.{cut, raise}
 use Rattle.numbers.proofs.CutLaws.{cut-le, raise-abs}
 use Rattle.steps.proofs.error.difference.Statement.{statement}
@@ -26,19 +26,16 @@ raised c = c .raise32 .ensures ∙ simp (toZ-ofZ (c .before .fits .v), toZ-ofZ {
 gave : (c : tie.After-cut32) → c .cut32 .result ≡ cut (c .before .before .args .y) (c .before .before .args .down)
 gave c = c .cut32 .ensures ∙ simp (toZ-ofZ (c .before .before .fits .y))
 
-fits : (c : tie.After-cut32) → SFits w32 (c .before .raise32 .result -ℤ c .cut32 .result)
-fits c =
+small : (c : tie.After-cut32) → let a = c .before .before .args in natAbs (raise (a .v) (a .up)) + natAbs (cut (a .y) (a .down)) < 2 ^ 31
+small c =
     let s = c .before .before in
-    fits-difference (c .before .raise32 .result) (c .cut32 .result)
-    (rw (raised (c .before), gave c) (omega (arith, raise-abs (s .args .v) (s .args .up), cut-le (s .args .y) (s .args .down), s .pre .0, s .pre .3)))
+    omega (arith, raise-abs (s .args .v) (s .args .up), cut-le (s .args .y) (s .args .down), s .pre .0, s .pre .3)
 
 sub-result : tie.Need-sub-result
-sub-result c = simp (kept w32 (c .before .raise32 .result) (c .before .raise32 .ok), kept w32 (c .cut32 .result) (c .cut32 .ok)) (fits c)
+sub-result c = difference-kept w32 (c .before .raise32 .ok) (c .cut32 .ok) (raised (c .before)) (gave c) (small c) .0
 
 returns : tie.Need-returns
-returns c =
-    simp (kept w32 (c .before .raise32 .result) (c .before .raise32 .ok), kept w32 (c .cut32 .result) (c .cut32 .ok), toZ-ofZ (fits c))
-    (ap₂ (λ (x y : ℤ). x -ℤ y) (raised (c .before)) (gave c))
+returns c = difference-kept w32 (c .before .raise32 .ok) (c .cut32 .ok) (raised (c .before)) (gave c) (small c) .1
 
 pub difference-spec : {M : Type 1} → statement M
 difference-spec =

@@ -1,12 +1,12 @@
 -- Neither part grows beyond 2^28, so both together fit 32 bits.
 use mathlib.Core.Path.{_≡_, ap₂, _∙_}
+use Prim.Native.Nat.{_+_, _^_, _<_}
 use native.Mathlib.Omega.{arith}
-use lib.IntN.{ℤ, _+ℤ_}
+use lib.IntN.{natAbs}
 use mir.Syntax.{w32}
-use mir.Val.{SFits}
 use mir.Facts.{toZ-ofZ}
 use borrow.Author.Needs.{needs}
-use Rattle.laws.specs.Machine.{kept, fits-sum}
+use Rattle.laws.specs.Machine.{sum-kept}
 use Rattle.numbers.specs.Cut.{cut, raise}
 use Rattle.numbers.proofs.CutLaws.{cut-le, cut-most, raise-abs}
 use Rattle.steps.proofs.output.added.Statement.{statement}
@@ -34,19 +34,16 @@ gave c =
 raised : (c : tie.After-raise32) → c .raise32 .result ≡ raise (c .before .before .before .args .h) (c .before .before .before .args .up)
 raised c = c .raise32 .ensures ∙ simp (toZ-ofZ (c .before .before .before .fits .h))
 
-fits : (c : tie.After-raise32) → SFits w32 (c .before .cut32 .result +ℤ c .raise32 .result)
-fits c =
+small : (c : tie.After-raise32) → let a = c .before .before .before .args in natAbs (cut (a .f) (a .down)) + natAbs (raise (a .h) (a .up)) < 2 ^ 31
+small c =
     let s = c .before .before .before in
-    fits-sum (c .before .cut32 .result) (c .raise32 .result)
-    (rw (gave (c .before), raised c) (omega (arith, cut-le (s .args .f) (s .args .down), raise-abs (s .args .h) (s .args .up), s .pre .0, s .pre .2)))
+    omega (arith, cut-le (s .args .f) (s .args .down), raise-abs (s .args .h) (s .args .up), s .pre .0, s .pre .2)
 
 add-result : tie.Need-add-result
-add-result c = simp (kept w32 (c .before .cut32 .result) (c .before .cut32 .ok), kept w32 (c .raise32 .result) (c .raise32 .ok)) (fits c)
+add-result c = sum-kept w32 (c .before .cut32 .ok) (c .raise32 .ok) (gave (c .before)) (raised c) (small c) .0
 
 returns : tie.Need-returns
-returns c =
-    simp (kept w32 (c .before .cut32 .result) (c .before .cut32 .ok), kept w32 (c .raise32 .result) (c .raise32 .ok), toZ-ofZ (fits c))
-    (ap₂ (λ (x y : ℤ). x +ℤ y) (gave (c .before)) (raised c))
+returns c = sum-kept w32 (c .before .cut32 .ok) (c .raise32 .ok) (gave (c .before)) (raised c) (small c) .1
 
 pub added-spec : {M : Type 1} → statement M
 added-spec = tie.close (tie.spec near-requires cut32-requires raise32-requires add-result returns)

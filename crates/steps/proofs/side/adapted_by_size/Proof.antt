@@ -1,13 +1,12 @@
 -- The weight and the gain are below 2^14, so the new weight fits 16 bits. The gain is subtracted where one of j and a is negative.
-use mathlib.Core.Path.{_≡_, ap, ap₂, _∙_}
+use mathlib.Core.Path.{_≡_, refl, ap, ap₂, _∙_}
 use Prim.Native.Nat.{ℕ, _+_, _*_, _/_, _^_, _<_}
 use native.Mathlib.Omega.{arith}
-use lib.IntN.{ℤ, pos, natAbs, _+ℤ_, _-ℤ_}
+use lib.IntN.{ℤ, pos, natAbs, _+ℤ_}
 use mir.Syntax.{w16}
-use mir.Val.{SFits, toZ, ofZ}
 use mir.Facts.{toZ-ofZ}
 use borrow.Author.Needs.{needs}
-use Rattle.laws.specs.Machine.{kept, fits-sum, fits-difference}
+use Rattle.laws.specs.Machine.{sum-kept, difference-kept}
 use Rattle.steps.proofs.GainLaws.{gain-small, alike-gain, unlike-gain}
 use Rattle.steps.proofs.side.adapted_by_size.Statement.{statement}
 use Rattle.steps.proofs.side.adapted_by_size.Tie as tie
@@ -24,37 +23,29 @@ gain-requires c κs = rw (product c) (c .before .pre .0, c .before .pre .3)
 abbrev gain : tie.Start → ℕ
 gain c = natAbs (c .args .j) * natAbs (c .args .a) / 2 ^ (15 + c .args .t)
 
-small : (c : tie.Start) → gain c < 2 ^ 14
-small c = gain-small (natAbs (c .args .j) * natAbs (c .args .a)) (c .args .t) (c .pre .3)
+gained : (c : tie.After-gain) → c .gain .result ≡ pos (gain (c .before .before))
+gained c = c .gain .ensures ∙ ap (λ (n : ℕ). pos (n / 2 ^ (15 + c .before .before .args .t))) (product (c .before))
 
-gained : (c : tie.After-gain) → toZ w16 (ofZ w16 (c .gain .result)) ≡ pos (gain (c .before .before))
-gained c =
-    kept w16 (c .gain .result) (c .gain .ok) ∙ c .gain .ensures
-    ∙ ap (λ (n : ℕ). pos (n / 2 ^ (15 + c .before .before .args .t))) (product (c .before))
-
-difference : (c : tie.Start) → SFits w16 (c .args .w -ℤ pos (gain c))
-difference c = fits-difference (c .args .w) (pos (gain c)) (omega (arith, c .pre .2, small c))
-
-sum : (c : tie.Start) → SFits w16 (c .args .w +ℤ pos (gain c))
-sum c = fits-sum (c .args .w) (pos (gain c)) (omega (arith, c .pre .2, small c))
+small : (c : tie.Start) → natAbs (c .args .w) + gain c < 2 ^ 15
+small c = omega (arith, c .pre .2, gain-small (natAbs (c .args .j) * natAbs (c .args .a)) (c .args .t) (c .pre .3))
 
 sub-result : tie.Need-sub-result
-sub-result c = simp (toZ-ofZ (c .before .before .before .fits .w), gained (c .before)) (difference (c .before .before .before))
+sub-result c = let s = c .before .before .before in difference-kept w16 {a = s .args .w} (s .fits .w .sfits) (c .before .gain .ok) refl (gained (c .before)) (small s) .0
 
 add-result : tie.Need-add-result
-add-result c = simp (toZ-ofZ (c .before .before .before .fits .w), gained (c .before)) (sum (c .before .before .before))
+add-result c = let s = c .before .before .before in sum-kept w16 {a = s .args .w} (s .fits .w .sfits) (c .before .gain .ok) refl (gained (c .before)) (small s) .0
 
 returns : tie.Need-returns
 returns c =
     let s = c .before .before .before in
-    simp (toZ-ofZ (s .fits .w), gained (c .before), toZ-ofZ (difference s))
-    (ap (λ (x : ℤ). s .args .w +ℤ x) (unlike-gain (s .args .j) (s .args .a) (s .args .t) (s .pre .0) (rw (toZ-ofZ (s .fits .j)) at (rw (toZ-ofZ (s .fits .a)) at (c .if1 .taken)))))
+    difference-kept w16 {a = s .args .w} (s .fits .w .sfits) (c .before .gain .ok) refl (gained (c .before)) (small s) .1
+    ∙ ap (λ (x : ℤ). s .args .w +ℤ x) (unlike-gain (s .args .j) (s .args .a) (s .args .t) (s .pre .0) (rw (toZ-ofZ (s .fits .j)) at (rw (toZ-ofZ (s .fits .a)) at (c .if1 .taken))))
 
 returns-2 : tie.Need-returns-2
 returns-2 c =
     let s = c .before .before .before in
-    simp (toZ-ofZ (s .fits .w), gained (c .before), toZ-ofZ (sum s))
-    (ap (λ (x : ℤ). s .args .w +ℤ x) (alike-gain (s .args .j) (s .args .a) (s .args .t) (s .pre .0) (rw (toZ-ofZ (s .fits .j)) at (rw (toZ-ofZ (s .fits .a)) at (c .if1 .left)))))
+    sum-kept w16 {a = s .args .w} (s .fits .w .sfits) (c .before .gain .ok) refl (gained (c .before)) (small s) .1
+    ∙ ap (λ (x : ℤ). s .args .w +ℤ x) (alike-gain (s .args .j) (s .args .a) (s .args .t) (s .pre .0) (rw (toZ-ofZ (s .fits .j)) at (rw (toZ-ofZ (s .fits .a)) at (c .if1 .left))))
 
 pub adapted-by-size-spec : {M : Type 1} → statement M
 adapted-by-size-spec =
