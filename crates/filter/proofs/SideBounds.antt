@@ -82,7 +82,7 @@ module _ {r n : ℕ} (f : Side) (h : SideFit r n f) where
     bound = go (largest (magnitudes (f .mantissas))) mantissas-largest;
   }
     where
-      go : (m : ℕ) → m * 2 ^ f .scale < 2 ^ 15 → length (f .weights) * (2 ^ 14 * m) < 2 ^ 31
+      go : (m : ℕ) → m * 2 ^ f .scale < 2 ^ 15 → length (f .weights) * (halvingLimit * m) < 2 ^ 31
       go m b = omega (arith, mul-le-mul-right m (h .scale-enough), ap (λ (l : ℕ). l * m) (h .weights-long))
 
   pub adaptable : (J : ℤ) → natAbs J ≤ 2 ^ 29 → f .scale ≤ 15 → Adaptable J (15 - f .scale) (f .weights) (f .mantissas)

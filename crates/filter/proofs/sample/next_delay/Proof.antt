@@ -1,10 +1,11 @@
 -- By the bit length of the new symbol.
-use mathlib.Core.Path.{_≡_, _∙_}
-use lib.IntN.{natAbs}
+use mathlib.Core.Path.{_≡_, ap, _∙_}
+use lib.IntN.{ℤ, natAbs}
 use mir.Syntax.{w64}
 use mir.Facts.{toZ-ofZ, sfits-widen}
 use borrow.Author.Needs.{needs}
 use borrow.Author.Tests.{lt-ltb, le-ltb}
+use Rattle.laws.specs.Machine.{kept-wider}
 use Rattle.numbers.specs.BitLength.{bitLength}
 use Rattle.filter.specs.Calls.{nextDelay}
 use Rattle.filter.proofs.sample.next_delay.Statement.{statement}
@@ -17,7 +18,7 @@ signed-bit-length-requires : tie.Need-signed-bit-length-requires
 signed-bit-length-requires c κs = search needs
 
 measured : (c : tie.After-signed-bit-length) → c .signed-bit-length .result ≡ bitLength (natAbs (c .before .args .v))
-measured c = c .signed-bit-length .ensures ∙ simp (toZ-ofZ (c .before .fits .v), toZ-ofZ {w = w64} (sfits-widen tt (c .before .fits .v)))
+measured c = c .signed-bit-length .ensures ∙ ap (λ (v : ℤ). bitLength (natAbs v)) (kept-wider w64 tt (c .before .fits .v))
 
 add-result : tie.Need-add-result
 add-result c = search needs

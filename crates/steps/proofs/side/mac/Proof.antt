@@ -6,7 +6,7 @@ use mir.Syntax.{w32}
 use mir.Val.{SFits}
 use mir.Facts.{toZ-ofZ}
 use Rattle.laws.specs.Integers.{abs-mul}
-use Rattle.laws.specs.Machine.{fits-abs, abs-fits}
+use Rattle.laws.specs.Machine.{kept-wider, fits-abs, abs-fits}
 use Rattle.steps.proofs.SideLaws.{fits-32}
 use Rattle.steps.proofs.side.mac.Statement.{statement}
 use Rattle.steps.proofs.side.mac.Tie as tie
@@ -25,15 +25,13 @@ total : (c : tie.Start) → SFits w32 (c .args .sum +ℤ c .args .w *ℤ c .args
 total c = fits-abs (c .args .sum +ℤ c .args .w *ℤ c .args .a) (c .pre)
 
 mul-result : tie.Need-mul-result
-mul-result c = simp (toZ-ofZ (c .fits .w), toZ-ofZ (c .fits .a), toZ-ofZ (fits-32 (c .fits .w)), toZ-ofZ (fits-32 (c .fits .a))) (product c)
+mul-result c = simp (kept-wider w32 tt (c .fits .w), kept-wider w32 tt (c .fits .a)) (product c)
 
 add-result : tie.Need-add-result
-add-result c =
-    simp (toZ-ofZ (c .fits .sum), toZ-ofZ (c .fits .w), toZ-ofZ (c .fits .a), toZ-ofZ (fits-32 (c .fits .w)), toZ-ofZ (fits-32 (c .fits .a)), toZ-ofZ (product c)) (total c)
+add-result c = simp (toZ-ofZ (c .fits .sum), kept-wider w32 tt (c .fits .w), kept-wider w32 tt (c .fits .a), toZ-ofZ (product c)) (total c)
 
 returns : tie.Need-returns
-returns c =
-    simp (toZ-ofZ (c .fits .sum), toZ-ofZ (c .fits .w), toZ-ofZ (c .fits .a), toZ-ofZ (fits-32 (c .fits .w)), toZ-ofZ (fits-32 (c .fits .a)), toZ-ofZ (product c), toZ-ofZ (total c))
+returns c = simp (toZ-ofZ (c .fits .sum), kept-wider w32 tt (c .fits .w), kept-wider w32 tt (c .fits .a), toZ-ofZ (product c), toZ-ofZ (total c))
 
 pub mac-spec : {M : Type 1} → statement M
 mac-spec = tie.close (tie.spec cast-result cast-result-2 mul-result add-result returns)
