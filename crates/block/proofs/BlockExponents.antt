@@ -6,6 +6,7 @@ use lib.IntN.{ℤ, natAbs}
 use Rattle.laws.specs.Powers.{rises-strictly}
 use Rattle.laws.specs.Sums.{Each, each-weaken}
 use Rattle.numbers.proofs.BitLengthLaws.{bit-length-above, bit-length-le}
+use Rattle.steps.specs.Limits.{gainLimit, lengthLimit}
 use Rattle.steps.specs.Settings.{Settings, scaleForward}
 use Rattle.steps.specs.Side.{largest, magnitudes}
 use Rattle.block.specs.Block.{Block, Memory, receivedAll, newb, newB, g}
@@ -29,26 +30,26 @@ module _ (k : Settings) (o : Memory) (i : Block) where
   unfolding newB
   oldb-newB = le-max-right (newb k o i) (o .b)
 
-  pub newb-most : k .L ≤ 15 → Acceptable k i → newb k o i + k .L ≤ 31
+  pub newb-most : k .L ≤ gainLimit → Acceptable k i → newb k o i + k .L ≤ lengthLimit
   unfolding newb
   newb-most l a = omega (
     arith,
-    bit-length-le (largest (magnitudes (receivedAll (i .samples) (i .gains)))) (31 - k .L) (omega (
+    bit-length-le (largest (magnitudes (receivedAll (i .samples) (i .gains)))) (lengthLimit - k .L) (omega (
       arith,
       largest-magnitude (λ (n : ℕ). n ≤ 2 ^ (30 - k .L)) (omega arith) (receivedAll (i .samples) (i .gains))
           (received-each (k .L) (i .samples) (i .gains) l (a .samples-are) (a .gains-least)),
-      rises-strictly {a = 30 - k .L} {b = 31 - k .L} (omega arith),
+      rises-strictly {a = 30 - k .L} {b = lengthLimit - k .L} (omega arith),
     )),
   )
 
-  pub newB-most : Sound k o → Acceptable k i → newB k o i + k .L ≤ 31
+  pub newB-most : Sound k o → Acceptable k i → newB k o i + k .L ≤ lengthLimit
   unfolding newB
-  newB-most s a = omega (arith, max-le {a = newb k o i} {b = o .b} {k = 31 - k .L} (omega (arith, newb-most (s .within .L-most) a)) (omega (arith, s .b-most, s .B-most)), s .within .L-most)
+  newB-most s a = omega (arith, max-le {a = newb k o i} {b = o .b} {k = lengthLimit - k .L} (omega (arith, newb-most (s .within .L-most) a)) (omega (arith, s .b-most, s .B-most)), s .within .L-most)
 
   pub g-least : scaleForward k ≤ g k o i
   unfolding g
   g-least = omega arith
 
-  pub g-most : Sound k o → Acceptable k i → g k o i + k .L ≤ k .r + 31 + scaleForward k
+  pub g-most : Sound k o → Acceptable k i → g k o i + k .L ≤ k .r + lengthLimit + scaleForward k
   unfolding g
   g-most s a = omega (arith, newB-most s a)

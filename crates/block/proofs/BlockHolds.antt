@@ -15,7 +15,8 @@ use Rattle.filter.proofs.SampleBounds as S
 use Rattle.filter.proofs.Distance as D
 use Rattle.filter.proofs.SampleSteps.{unclipped, settled-once}
 use Rattle.block.proofs.ValuesLaws.{values-at}
-use Rattle.block.proofs.BlockSound.{fit-at, goes-before}
+use Rattle.block.proofs.BlockCount.{goes-before}
+use Rattle.block.proofs.BlockSound.{fit-at}
 
 module _ (k : Settings) (o : Memory) (i : Block) (s : Sound k o) (a : Acceptable k i) (e : goes k o i (k .N) ≡ true) (n : ℕ) (h : n < k .N) where
   pub entry-is : isEntry (k .r) (entryAt k o i n) ≡ true

@@ -1,14 +1,13 @@
 -- A block on a sound state: every sample of it is fit, and what it leaves is sound.
-use mathlib.Core.Path.{_≡_, refl, sym, ap, _∙_}
+use mathlib.Core.Path.{_≡_, refl, _∙_}
 use mathlib.Core.Bool.{Bool, true, false}
 use mathlib.Core.List.{List, [], _∷_}
-use mathlib.Core.Logic.{_⊎_, inl, inr}
 use Prim.Native.Nat.{ℕ, zero, suc, _-_, _≤_, _<_}
 use native.Mathlib.Omega.{arith}
-use native.Mathlib.Nat.{le-refl, le-antisymm, eq-or-lt-of-le}
+use native.Mathlib.Nat.{le-refl}
 use lib.ListN.{length, getD, length-map}
 use lib.IntN.{ℤ, pos}
-use borrow.Author.Tests.{leb-true, lt-leb}
+use borrow.Author.Tests.{leb-true}
 use Rattle.laws.specs.Lists.{and-left, and-right}
 use Rattle.laws.specs.Sums.{Each, each-at, each-of, each-append}
 use Rattle.steps.specs.Limits.{exponentLimit}
@@ -107,25 +106,6 @@ fit-next k x t e f h l = record {
   g-least = f .g-least;
   g-most = f .g-most;
 }
-
--- ψ stayed within its limit up to any earlier sample
-pub goes-before : (k : Settings) (o : Memory) (i : Block) (m n : ℕ) → m ≤ n → goes k o i n ≡ true → goes k o i m ≡ true
-unfolding goes
-goes-before k o i m zero h e = ap (goes k o i) (le-antisymm h (omega arith)) ∙ e
-goes-before k o i m (suc n) h e = go (eq-or-lt-of-le h) (λ l. goes-before k o i m n l (and-left (goes k o i n) _ e))
-  where
-    go : (m ≡ suc n) ⊎ (m < suc n) → (m ≤ n → goes k o i m ≡ true) → goes k o i m ≡ true
-    go (inl q) rest = ap (goes k o i) q ∙ e
-    go (inr l) rest = rest (omega arith)
-
--- and once it has passed it, every later count fails
-pub goes-never : (k : Settings) (o : Memory) (i : Block) (m n : ℕ) → m < n → exponentLimit < after k o i (suc m) .ψ → goes k o i n ≡ false
-unfolding goes
-goes-never k o i m n h l = go (goes k o i n) refl
-  where
-    go : (b : Bool) → goes k o i n ≡ b → b ≡ false
-    go false e = refl
-    go true e = sym (and-right (goes k o i m) _ (goes-before k o i (suc m) n h e)) ∙ lt-leb _ _ l
 
 module _ (k : Settings) (o : Memory) (i : Block) (s : Sound k o) (a : Acceptable k i) where
   -- when n samples are done

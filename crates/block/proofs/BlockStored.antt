@@ -11,10 +11,12 @@ use Rattle.laws.specs.Powers as Power
 use Rattle.laws.specs.Sums.{Each, each-map, each-weaken}
 use Rattle.numbers.specs.Cut.{rescale}
 use Rattle.numbers.proofs.CutLaws.{rescale-most}
+use Rattle.steps.specs.Limits.{lengthLimit}
 use Rattle.steps.specs.Settings.{Settings, scaleForward}
+use Rattle.filter.proofs.SampleSides.{scale-most}
 use Rattle.block.specs.Block.{Block, Memory, receivedAll, newb, newB, stored, old}
-use Rattle.block.specs.Sound.{Sound, Acceptable, Receivable, Storable}
-use Rattle.block.proofs.BlockExponents.{received-below, newb-newB, oldb-newB, newb-most}
+use Rattle.block.specs.Sound.{Sound, Acceptable, Receivable, StoreBounds, Storable}
+use Rattle.block.proofs.BlockExponents.{received-below, newb-newB, oldb-newB, newb-most, newB-most}
 use Rattle.block.proofs.ReceivedLaws.{received-length}
 
 -- the bound of a stored sample in a sound state with b and B, and at a sample
@@ -94,19 +96,20 @@ module _ (k : Settings) (o : Memory) (i : Block) where
   pub receivable : Acceptable k i → Receivable (i .samples) (i .gains)
   receivable a = record { same-length = a .samples-long ∙ sym (a .gains-long); gains-most = a .gains-most }
 
-  pub received-storable : Sound k o → Acceptable k i → Each (Storable 15 (newB k o i + scaleForward k)) (receivedAll (i .samples) (i .gains))
-  received-storable s a =
-      each-weaken (λ (x : ℤ). natAbs x < 2 ^ newb k o i) (Storable 15 (newB k o i + scaleForward k)) storable (receivedAll (i .samples) (i .gains)) (received-below k o i)
+  pub store-bounds : Sound k o → Acceptable k i → StoreBounds (i .samples) (i .gains) (newB k o i + scaleForward k)
+  store-bounds s a = record {
+    receivable = receivable a;
+    places-most = omega (arith, newB-most k o i s a, scale-most (k .p) (s .within .p-most));
+    fitting = each-weaken (λ (x : ℤ). natAbs x < 2 ^ newb k o i) _ fitting (receivedAll (i .samples) (i .gains)) (received-below k o i);
+  }
     where
-      storable : (x : ℤ) → natAbs x < 2 ^ newb k o i → Storable 15 (newB k o i + scaleForward k) x
-      storable x h =
-          let A = rescale x 15 (newB k o i + scaleForward k) in
-          record {
-            shift = omega arith;
-            room = omega (arith, rises {a = newb k o i} {b = 31} (omega (arith, newb-most k o i (s .within .L-most) a)));
-            bound = fits (natAbs A) (scaleForward k)
-                (sample-below A (newb k o i) (newB k o i) (scaleForward k) (newb-newB k o i) (stored-below x (newb k o i) (newB k o i + scaleForward k) h));
-          }
+      fitting : (x : ℤ) → natAbs x < 2 ^ newb k o i → (natAbs x < 2 ^ 31) × (natAbs (rescale x 15 (newB k o i + scaleForward k)) < 2 ^ 15)
+      fitting x h =
+          let A = rescale x 15 (newB k o i + scaleForward k) in (
+            omega (arith, rises {a = newb k o i} {b = lengthLimit} (omega (arith, newb-most k o i (s .within .L-most) a))),
+            fits (natAbs A) (scaleForward k)
+                (sample-below A (newb k o i) (newB k o i) (scaleForward k) (newb-newB k o i) (stored-below x (newb k o i) (newB k o i + scaleForward k) h)),
+          )
 
   pub old-storable : Sound k o → Each (Storable (o .B) (newB k o i)) (o .samples)
   old-storable s =

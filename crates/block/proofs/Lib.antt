@@ -6,6 +6,7 @@ pub mod BlockStored
 pub mod BlockWindow
 pub mod LineLaws
 pub mod BlockNear
+pub mod BlockCount
 pub mod BlockSound
 pub mod RunStart
 pub mod RunLaws

@@ -1,22 +1,26 @@
 -- Laws of the samples as received.
-use mathlib.Core.Path.{_≡_, refl, ap}
+use mathlib.Core.Path.{_≡_, refl, sym, ap, _∙_, subst}
 use mathlib.Core.List.{List, [], _∷_}
 use Prim.Native.Nat.{ℕ, zero, suc, _+_, _*_, _-_, _^_, _≤_, _<_}
 use native.Mathlib.Omega.{arith}
 use native.Mathlib.Nat.{le-of-suc-le-suc, not-suc-le-zero, mul-le-mul-right}
+use native.Mathlib.Decide.{decLe}
 use lib.ListN.{length, getD}
 use lib.IntN.{ℤ, pos, natAbs}
 use Rattle.laws.specs.Powers.{split, rises}
 use Rattle.laws.specs.Sums.{Each}
-use Rattle.numbers.proofs.CutLaws.{raise-abs}
+use Rattle.numbers.specs.Cut.{rescale}
+use Rattle.numbers.proofs.CutLaws.{raise-abs, rescale-up, rescale-down}
+use Rattle.steps.specs.Limits.{gainLimit, scaleLimit, lengthLimit}
 use Rattle.block.specs.Block.{received, receivedAll}
+use Rattle.block.specs.Sound.{ShiftBounds}
 
 -- a sample of 16 bits with a gain of L or more is at most 2^(30−L)
-pub received-most : (L g m : ℕ) → L ≤ 15 → L ≤ g → m ≤ 2 ^ 15 → m * 2 ^ (15 - g) ≤ 2 ^ (30 - L)
+pub received-most : (L g m : ℕ) → L ≤ gainLimit → L ≤ g → m ≤ 2 ^ 15 → m * 2 ^ (15 - g) ≤ 2 ^ (30 - L)
 received-most L g m l h b =
     omega (arith, mul-le-mul-right (2 ^ (15 - g)) b, split (15 + (15 - g)) 15 (15 - g) refl, rises {a = 15 + (15 - g)} {b = 30 - L} (omega arith))
 
-pub received-each : (L : ℕ) (m : List ℤ) (gains : List ℕ) → L ≤ 15 → Each (λ (x : ℤ). natAbs x ≤ 2 ^ 15) m → Each (λ (n : ℕ). L ≤ n) gains →
+pub received-each : (L : ℕ) (m : List ℤ) (gains : List ℕ) → L ≤ gainLimit → Each (λ (x : ℤ). natAbs x ≤ 2 ^ 15) m → Each (λ (n : ℕ). L ≤ n) gains →
     Each (λ (x : ℤ). natAbs x ≤ 2 ^ (30 - L)) (receivedAll m gains)
 unfolding receivedAll
 received-each L [] gs l h f = tt
@@ -36,3 +40,28 @@ received-at [] gs i h k = absurd (not-suc-le-zero h)
 received-at (m ∷ ms) [] i h k = absurd (not-suc-le-zero k)
 received-at (m ∷ ms) (g ∷ gs) zero h k = refl
 received-at (m ∷ ms) (g ∷ gs) (suc i) h k = received-at ms gs i (le-of-suc-le-suc h) (le-of-suc-le-suc k)
+
+-- ---- one shift up and one down
+
+pub rescale-shifts : (z : ℤ) (i j : ℕ) → rescale z i j ≡ rescale z (i - j) (j - i)
+rescale-shifts z i j = go (decLe i j)
+  where
+    go : Dec (i ≤ j) → rescale z i j ≡ rescale z (i - j) (j - i)
+    go (yes l) = rescale-down z i j (j - i) (omega arith) ∙ sym (rescale-down z (i - j) (j - i) (j - i) (omega arith))
+    go (no l) = rescale-up z i j (i - j) (omega arith) ∙ sym (rescale-up z (i - j) (j - i) (i - j) (omega arith))
+
+pub shifted-is : (places : ℕ) {x y : ℤ} {up down : ℕ} → x ≡ y → up ≡ 15 - places → down ≡ places - 15 → rescale x up down ≡ rescale y 15 places
+shifted-is places {y = y} e u d = rw (e, u, d) (sym (rescale-shifts y 15 places))
+
+-- either none up, or the product is the result
+pub shift-bounds : (x : ℤ) (places : ℕ) → places ≤ lengthLimit + scaleLimit → natAbs x < 2 ^ 31 → natAbs (rescale x 15 places) < 2 ^ 15 → ShiftBounds (15 - places) (places - 15) x
+shift-bounds x places m r b = record {
+  up-most = omega arith;
+  down-most = omega arith;
+  room = go (decLe 15 places);
+  bound = subst (λ (z : ℤ). natAbs z < 2 ^ 15) (rescale-shifts x 15 places) b;
+}
+  where
+    go : Dec (15 ≤ places) → natAbs x * 2 ^ (15 - places) < 2 ^ 31
+    go (yes l) = subst (λ (n : ℕ). natAbs x * 2 ^ n < 2 ^ 31) {x = 0} (omega arith) (omega arith)
+    go (no l) = omega (arith, raise-abs x (15 - places), ap natAbs (rescale-up x 15 places (15 - places) (omega arith)))

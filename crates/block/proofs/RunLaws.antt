@@ -1,240 +1,238 @@
 -- The run of a block, sample by sample: what holds when n samples are done.
-use mathlib.Core.Path.{_≡_, refl, sym, ap, _∙_, subst}
-use mathlib.Core.Bool.{true, false}
-use mathlib.Core.List.{List, [], _∷_, _++_}
-use Prim.Native.Nat.{ℕ, suc, _+_, _-_, _≤_, _<_}
+use mathlib.Core.Path.{_≡_, refl, sym, ap, ap₂, _∙_, subst}
+use mathlib.Core.Bool.{true}
+use mathlib.Core.List.{List, _∷_}
+use Prim.Native.Nat.{ℕ, suc, _+_, _*_, _-_, _≤_, _<_}
 use native.Mathlib.Omega.{arith}
-use native.Mathlib.Nat.{le-antisymm}
+use native.Mathlib.Nat.{le-antisymm, mul-le-mul}
 use native.Mathlib.Numerals.{add-one}
-use lib.Dec.{T}
-use lib.ListN.{length, getD, take, drop, set, replicate, length-set, length-take, length-replicate}
-use lib.Seq.{take-suc-set}
+use lib.ListN.{length, getD, take, drop, set, length-take}
 use lib.IntN.{ℤ, pos}
+use mir.Syntax.{w64}
+use mir.Val.{Fits}
 use borrow.Author.Tests.{le-leb}
+use Rattle.laws.specs.Lists.{Written, written-none, written-next}
 use Rattle.laws.specs.Sums.{each-at}
+use Rattle.steps.specs.Limits.{tapLimit, blockLimit, exponentLimit, lineLength}
 use Rattle.steps.specs.Settings.{Settings, isEntry}
-use Rattle.filter.specs.Sample.{Taps, Y, ξ, decision, Z, θ, next}
-use Rattle.block.specs.Block.{Block, Memory, newb, newB, g, start, after, at, goes, values, entryAt, handedY, handedξ, handedDecision, handedZ, handedθ}
+use Rattle.filter.specs.Sample.{Taps, next}
 use Rattle.filter.specs.Sound.{Fit}
-use Rattle.filter.specs.Calls.{LongestAt, NextDelay, SampleResult-is}
-use Rattle.block.specs.Line.{newest}
-use Rattle.block.specs.Calls.{tapsAt, Advanceable, Runnable, Finished, Ran-is}
+use Rattle.filter.specs.Calls.{LongestAt, NextDelay, SampleResult-is, tapsOf}
 use Rattle.filter.specs.declared.sample.SampleResult.{SampleResult}
-use Rattle.block.specs.declared.run.Begun.{Begun}
-use Rattle.block.specs.declared.run.Ran.{Ran}
-use Rattle.block.proofs.BlockSound.{fit-at, fit-after, goes-never}
+use Rattle.block.specs.Block.{Block, Memory, Outputs, newb, newB, g, after, at, goes, count, entryAt, handedY, handedξ, handedDecision, handedZ, handedθ, handed}
+use Rattle.block.specs.Line.{place, newest}
+use Rattle.block.specs.Calls.{outputsOf, tapsAfter, tapsAt, Advanceable, Runnable, BegunOn, ProgressedOn, BlockResult-is}
+use Rattle.block.specs.declared.run.BlockExponents.{BlockExponents}
+use Rattle.block.specs.declared.run.Progress.{Progress}
+use Rattle.block.specs.declared.run.BlockResult.{BlockResult}
+use Rattle.block.proofs.ValuesLaws.{values-length, values-at}
+use Rattle.block.proofs.BlockCount.{count-most, count-all, count-stopped}
+use Rattle.block.proofs.BlockSound.{fit-at, fit-after}
 use Rattle.block.proofs.LineLaws.{newest-given, newest-longest-at}
-use Rattle.block.proofs.RunStart.{Begun-as, Line-is}
 
--- ---- a work area of which the first n places are filled
-
-pub record Filled {ℓ} {A : Type ℓ} (f : ℕ → A) (n : ℕ) (l : List A) : Type ℓ where
-  pub long : length l ≡ 128
-  pub is : take n l ≡ values f n
-
-pub filled-none {ℓ} : {A : Type ℓ} (f : ℕ → A) (x : A) → Filled f 0 (replicate 128 x)
-unfolding values
-filled-none f x = record { long = length-replicate 128 x; is = refl }
-
-pub filled-next {ℓ} : {A : Type ℓ} (f : ℕ → A) (n : ℕ) (l : List A) (x : A) → n < 128 → Filled f n l → x ≡ f n → Filled f (suc n) (set l n x)
-unfolding values
-filled-next f n l x h p e = record {
-  long = length-set l n x ∙ p .long;
-  is = take-suc-set l n x (omega (arith, p .long)) ∙ ap (λ t. t ++ (x ∷ [])) (p .is) ∙ ap (λ y. values f n ++ (y ∷ [])) e;
-}
-
--- ---- n samples are done
-
--- what the loop carries: the weights, the line of symbols, ψ, the delay, and the work areas of what is handed out
+-- what the loop carries: the weights, the line of symbols, ψ and the lists that are handed out
 pub record Work : Type 0 where
   pub n : ℕ
   pub forward : List ℤ
   pub back : List ℤ
-  pub marks : List ℤ
+  pub symbols : List ℤ
   pub ψ : ℕ
-  pub delay : ℕ
-  pub y : List ℤ
-  pub xi : List ℕ
-  pub decisions : List ℤ
-  pub z : List ℤ
-  pub theta : List ℕ
+  pub outputs : Outputs
 
-pub record Passed (k : Settings) (o : Memory) (i : Block) (l : Work) : Type 0 where
-  pub within : l .n ≤ k .N
-  pub goes-on : goes k o i (l .n) ≡ true
-  pub forward-is : l .forward ≡ after k o i (l .n) .forward
-  pub back-is : l .back ≡ after k o i (l .n) .back
-  pub marks-long : length (l .marks) ≡ 144
-  pub symbols-are : newest (k .q) (l .n) (l .marks) ≡ after k o i (l .n) .symbols
-  pub ψ-is : l .ψ ≡ after k o i (l .n) .ψ
-  pub delay-most : l .delay ≤ 16 + l .n
-  pub longest-at : LongestAt (k .r) (l .delay) (newest (k .q) (l .n) (l .marks))
-  pub y-filled : Filled (λ m. Y k (g k o i) (at k o i m) (entryAt k o i m)) (l .n) (l .y)
-  pub xi-filled : Filled (λ m. ξ k (g k o i) (at k o i m) (entryAt k o i m)) (l .n) (l .xi)
-  pub decision-filled : Filled (λ m. decision k (g k o i) (at k o i m) (entryAt k o i m)) (l .n) (l .decisions)
-  pub z-filled : Filled (λ m. Z k (g k o i) (at k o i m) (entryAt k o i m)) (l .n) (l .z)
-  pub theta-filled : Filled (λ m. θ k (g k o i) (at k o i m) (entryAt k o i m)) (l .n) (l .theta)
+-- n samples are done
+pub record Reached (k : Settings) (o : Memory) (i : Block) (samples : List ℤ) (l : Outputs) (w : Work) : Type 0 where
+  pub within : w .n ≤ k .N
+  pub symbols-long : length (w .symbols) ≡ lineLength
+  pub taps-are : tapsAfter k (w .n) (w .forward) (w .back) samples (w .symbols) (w .ψ) ≡ after k o i (w .n)
+  pub y-written : Written (handedY k o i) (l .y) (w .n) (w .outputs .y)
+  pub xi-written : Written (handedξ k o i) (l .xi) (w .n) (w .outputs .xi)
+  pub decision-written : Written (handedDecision k o i) (l .decision) (w .n) (w .outputs .decision)
+  pub z-written : Written (handedZ k o i) (l .z) (w .n) (w .outputs .z)
+  pub theta-written : Written (handedθ k o i) (l .theta) (w .n) (w .outputs .theta)
 
--- none, and nothing is handed out yet
-pub passed-none : (k : Settings) (o : Memory) (i : Block) (marks : List ℤ) → length marks ≡ 144 → length (o .symbols) ≡ k .q → k .q ≤ 16 → take (length (o .symbols)) (drop 128 marks) ≡ o .symbols →
-    Passed k o i (record {
-      n = 0;
-      forward = o .forward;
-      back = o .back;
-      marks = marks;
-      ψ = o .ψ;
-      delay = 16;
-      y = replicate 128 (pos 0);
-      xi = replicate 128 0;
-      decisions = replicate 128 (pos 0);
-      z = replicate 128 (pos 0);
-      theta = replicate 128 0;
-    })
-unfolding goes after start
-passed-none k o i marks h l m e = record {
-  within = omega arith;
-  goes-on = refl;
-  forward-is = refl;
-  back-is = refl;
-  marks-long = h;
-  symbols-are = ap (λ (m : ℕ). take m (drop 128 marks)) (sym l) ∙ e;
-  ψ-is = refl;
-  delay-most = omega arith;
-  longest-at = λ a. absurd (omega (arith, length-take (k .q) (drop 128 marks)));
-  y-filled = filled-none _ (pos 0);
-  xi-filled = filled-none _ 0;
-  decision-filled = filled-none _ (pos 0);
-  z-filled = filled-none _ (pos 0);
-  theta-filled = filled-none _ 0;
+-- and ψ kept its limit
+pub record Passed (k : Settings) (o : Memory) (i : Block) (samples : List ℤ) (l : Outputs) (w : Work) (delay : ℕ) : Type 0 where
+  pub reached : Reached k o i samples l w
+  pub goes-on : goes k o i (w .n) ≡ true
+  pub delay-most : delay ≤ tapLimit + w .n
+  pub longest-at : LongestAt (k .r) delay (newest (k .q) (w .n) (w .symbols))
+
+-- lists that are the same, one by one
+same-outputs : (l : Outputs) {y : List ℤ} {xi : List ℕ} {decision z : List ℤ} {theta : List ℕ} → l .y ≡ y → l .xi ≡ xi → l .decision ≡ decision → l .z ≡ z → l .theta ≡ theta →
+    l ≡ outputsOf y xi decision z theta
+same-outputs l ey ex ed ez et = rw (sym ey, sym ex, sym ed, sym ez, sym et)
+
+-- these are all that are run
+pub progressed : {k : Settings} {o : Memory} {i : Block} {samples : List ℤ} {l : Outputs} {w : Work} → Reached k o i samples l w → w .n ≡ count k o i (k .N) →
+    ProgressedOn k o i samples l (record { count = w .n; psi = w .ψ }) (w .forward) (w .back) (w .symbols) (w .outputs)
+progressed {k = k} {o = o} {i = i} {l = l} {w = w} p e = record {
+  count-is = e;
+  taps-are = p .taps-are ∙ ap (after k o i) e;
+  outputs-are = same-outputs (w .outputs) (p .y-written .is) (p .xi-written .is) (p .decision-written .is) (p .z-written .is) (p .theta-written .is) ∙ ap (λ (m : ℕ). handed k o i m l) e;
 }
 
--- what the call for sample n is given: the numbers of the block and the entry
-pub record Given (k : Settings) (o : Memory) (i : Block) (n : ℕ) (r : Begun) (e : ℤ) : Type 0 where
-  pub begun : Begun-as k o i r
-  pub entry : e ≡ entryAt k o i n
+module _ {k : Settings} {o : Memory} {i : Block} {e : BlockExponents} {ψ : ℕ} {entries forward₀ back₀ samples symbols₀ : List ℤ} {l : Outputs}
+    (b : BegunOn k o i e ψ entries forward₀ back₀ samples symbols₀ l) where
+  -- none is done
+  pub passed-none : Passed k o i samples l (record { n = 0; forward = forward₀; back = back₀; symbols = symbols₀; ψ = ψ; outputs = l }) tapLimit
+  unfolding goes
+  passed-none = record {
+    reached = record {
+      within = omega arith;
+      symbols-long = b .symbols-long;
+      taps-are = b .taps-are;
+      y-written = written-none _ _;
+      xi-written = written-none _ _;
+      decision-written = written-none _ _;
+      z-written = written-none _ _;
+      theta-written = written-none _ _;
+    };
+    goes-on = refl;
+    delay-most = omega arith;
+    longest-at = λ a. absurd (omega (arith, length-take (k .q) (drop blockLimit symbols₀), b .sound .within .q-most));
+  }
 
--- what the loop leaves
-abbrev pub ranOf : Work → ℕ → ℕ → Ran
-ranOf l b big = record { done = true; psi = l .ψ; b = b; big = big; y = l .y; xi = l .xi; decision = l .decisions; z = l .z; theta = l .theta }
+  module _ {w : Work} {delay : ℕ} (p : Passed k o i samples l w delay) where
+    fit : Fit k (g k o i) (after k o i (w .n))
+    fit = fit-after k o i (b .sound) (b .acceptable) (w .n) (p .reached .within) (p .goes-on)
 
-module _ {k : Settings} {o : Memory} {i : Block} {window₀ line : List ℤ} {l : Work} (run : Runnable k o i window₀) (w : Line-is k o i line) (p : Passed k o i l) where
-  fit : Fit k (g k o i) (after k o i (l .n))
-  fit = fit-after k o i (run .sound) (run .acceptable) (l .n) (p .within) (p .goes-on)
+    -- the weights are as many as the taps
+    pub forward-long : length (w .forward) ≡ k .p
+    forward-long = ap (λ (t : Taps). length (t .forward)) (p .reached .taps-are) ∙ fit .forward-long
 
-  -- each list is as long as it was
-  pub same-lengths : (length (l .forward) ≡ length (o .forward)) × (length (l .back) ≡ length (o .back))
-  same-lengths = (
-    ap length (p .forward-is) ∙ fit .forward-long ∙ sym (run .sound .forward-long),
-    ap length (p .back-is) ∙ fit .back-long ∙ sym (run .sound .back-long),
-  )
+    pub back-long : length (w .back) ≡ k .q
+    back-long = ap (λ (t : Taps). length (t .back)) (p .reached .taps-are) ∙ fit .back-long
 
-  abbrev taps : Taps
-  taps = tapsAt k (l .n) (l .forward) (l .back) line (l .marks) (l .ψ)
+    -- all are done
+    pub finished : k .N ≤ w .n → ProgressedOn k o i samples l (record { count = w .n; psi = w .ψ }) (w .forward) (w .back) (w .symbols) (w .outputs)
+    finished h =
+        let last = le-antisymm (p .reached .within) h in
+        progressed (p .reached) (last ∙ sym (count-all k o i (k .N) (ap (goes k o i) (sym last) ∙ p .goes-on)))
 
-  -- one more is there
-  module _ (more : l .n < k .N) {r : Begun} {e : ℤ} (q : Given k o i (l .n) r e) where
-    taps-at : taps ≡ at k o i (l .n)
-    unfolding at after next
-    taps-at = rw (p .forward-is, p .back-is, w .windows (suc (l .n)) more, p .symbols-are, p .ψ-is)
+    -- one more is there
+    module _ (more : w .n < k .N) {entry : ℤ} (q : entry ≡ getD entries (w .n) (pos 0)) where
+      entry-is : entry ≡ entryAt k o i (w .n)
+      entry-is = q ∙ ap (λ (t : List ℤ). getD t (w .n) (pos 0)) (b .entries-are)
 
-    fit-now : Fit k (g k o i) (at k o i (l .n))
-    fit-now = fit-at k o i (run .sound) (run .acceptable) (l .n) more (p .goes-on)
+      abbrev taps : Taps
+      taps = tapsAt k (w .n) (w .forward) (w .back) samples (w .symbols) (w .ψ)
 
-    room : l .n < 128
-    room = omega (arith, run .sound .within .N-most)
+      taps-at : taps ≡ at k o i (w .n)
+      unfolding at after next
+      taps-at = ap₂ (λ (t : Taps) (a : List ℤ). tapsOf (t .forward) (t .back) a (t .symbols) (t .ψ)) (p .reached .taps-are) (b .sample-line .windows (suc (w .n)) more)
 
-    pub advanceable : Advanceable k r (l .delay) (l .n) e line (l .marks) taps
-    advanceable = record {
-      room = room;
-      line-long = w .long;
-      marks-long = p .marks-long;
-      ready = rw (taps-at, q .begun .g-as, q .entry) (record {
-        fit = fit-now;
-        entry-is = each-at (λ (v : ℤ). isEntry (k .r) v ≡ true) (i .entries) (l .n) (pos 0) (run .acceptable .entries-are) (omega (arith, run .acceptable .entries-long));
-        forward-scale = q .begun .s-as;
-        back-scale = q .begun .sb-as;
-      });
-      longest-at = p .longest-at;
-    }
+      fit-now : Fit k (g k o i) (at k o i (w .n))
+      fit-now = fit-at k o i (b .sound) (b .acceptable) (w .n) more (p .goes-on)
 
-    module _ {t : SampleResult} {f′ b′ : List ℤ} (m′ : List ℤ) (h : SampleResult-is k (r .g) taps e t f′ b′ (newest (suc (k .q)) (suc (l .n)) m′)) where
-      -- a step of the definitions
-      step : SampleResult-is k (g k o i) (at k o i (l .n)) (entryAt k o i (l .n)) t f′ b′ (newest (suc (k .q)) (suc (l .n)) m′)
-      step = rw (taps-at, q .begun .g-as, q .entry) at h
+      room : w .n < blockLimit
+      room = omega (arith, b .sound .within .N-most)
 
-      ψ-next : t .psi ≡ after k o i (suc (l .n)) .ψ
-      unfolding after at
-      ψ-next = step .psi
-
-      -- ψ kept its limit
-      pub passed-next : length m′ ≡ 144 → {ty td tz : ℤ} → ty ≡ t .y → td ≡ t .decision → tz ≡ t .z → t .psi ≤ 15 →
-          {delay : ℕ} {v : ℤ} → v ≡ getD m′ (127 - l .n) (pos 0) → NextDelay (k .r) (l .delay) v delay →
-          Passed k o i (record {
-            n = l .n + 1;
-            forward = f′;
-            back = b′;
-            marks = m′;
-            ψ = t .psi;
-            delay = delay;
-            y = set (l .y) (l .n) ty;
-            xi = set (l .xi) (l .n) (t .xi);
-            decisions = set (l .decisions) (l .n) td;
-            z = set (l .z) (l .n) tz;
-            theta = set (l .theta) (l .n) (t .theta);
-          })
-      unfolding goes after at next
-      passed-next long ey ed ez m {delay = delay} ev next-delay = rw (add-one (l .n)) (record {
-        within = more;
-        goes-on = rw (p .goes-on) (le-leb _ _ (subst (λ (x : ℕ). x ≤ 15) ψ-next m));
-        forward-is = step .forward-is;
-        back-is = step .back-is;
-        marks-long = long;
-        symbols-are = newest-given (k .q) (l .n) m′ _ _ (step .symbols-are) (fit-now .symbols-long);
-        ψ-is = ψ-next;
-        delay-most = omega (arith, next-delay .0, p .delay-most);
-        longest-at = newest-longest-at (k .r) delay (k .q) (l .n) m′ _ _ (h .symbols-are) long room (subst (λ (x : ℤ). LongestAt (k .r) delay (x ∷ taps .symbols)) ev (next-delay .1 (taps .symbols) (p .longest-at)));
-        y-filled = filled-next _ _ _ _ room (p .y-filled) (ey ∙ step .y);
-        xi-filled = filled-next _ _ _ _ room (p .xi-filled) (step .xi);
-        decision-filled = filled-next _ _ _ _ room (p .decision-filled) (ed ∙ step .decision-is);
-        z-filled = filled-next _ _ _ _ room (p .z-filled) (ez ∙ step .z);
-        theta-filled = filled-next _ _ _ _ room (p .theta-filled) (step .theta);
-      })
-
-      -- ψ would pass its limit
-      pub stopped : 15 < t .psi → (r : Ran) → r .done ≡ false → (f b w y : List ℤ) → Ran-is k o i r f b w y
-      stopped m r d f b w y = record { done = d ∙ sym never; finished = λ e. absurd {A = Finished k o i r f b w y} (subst T (sym e ∙ never) tt) }
-        where
-          never : goes k o i (k .N) ≡ false
-          never = goes-never k o i (l .n) (k .N) more (subst (λ (x : ℕ). 15 < x) ψ-next m)
-
-  -- all are done
-  module _ (all : k .N ≤ l .n) where
-    last : l .n ≡ k .N
-    last = le-antisymm (p .within) all
-
-    end : after k o i (l .n) ≡ after k o i (k .N)
-    end = ap (after k o i) last
-
-    filled : {A : Type 0} {f : ℕ → A} {y : List A} → Filled f (l .n) y → take (k .N) y ≡ values f (k .N)
-    filled {f = f} {y = y} h = subst (λ (m : ℕ). take m y ≡ values f m) last (h .is)
-
-    module _ {p′ q′ : ℕ} {window heard : List ℤ} (ep : p′ ≡ k .p) (eq : q′ ≡ k .q) (ew : window ≡ newest p′ (l .n) line) (eh : heard ≡ newest q′ (l .n) (l .marks)) where
-      finished : {b big : ℕ} → b ≡ newb k o i → big ≡ newB k o i → Finished k o i (ranOf l b big) (l .forward) (l .back) window heard
-      unfolding handedY handedξ handedDecision handedZ handedθ
-      finished eb eB = record {
-        forward-is = p .forward-is ∙ ap (λ (a : Taps). a .forward) end;
-        back-is = p .back-is ∙ ap (λ (a : Taps). a .back) end;
-        window-is = ew ∙ ap (λ (m : ℕ). newest m (l .n) line) ep ∙ w .windows (l .n) (p .within) ∙ ap (λ (a : Taps). a .samples) end;
-        symbols-are = eh ∙ ap (λ (m : ℕ). newest m (l .n) (l .marks)) eq ∙ p .symbols-are ∙ ap (λ (a : Taps). a .symbols) end;
-        psi = p .ψ-is ∙ ap (λ (a : Taps). a .ψ) end;
-        b = eb;
-        big = eB;
-        y = filled (p .y-filled);
-        xi = filled (p .xi-filled);
-        decision-is = filled (p .decision-filled);
-        z = filled (p .z-filled);
-        theta = filled (p .theta-filled);
+      pub advanceable : Advanceable k e delay (w .n) entry samples (w .symbols) taps
+      advanceable = record {
+        room = room;
+        samples-long = b .sample-line .long;
+        symbols-long = p .reached .symbols-long;
+        ready = rw (taps-at, b .exponents .g-is, entry-is) (record {
+          fit = fit-now;
+          entry-is = each-at (λ (v : ℤ). isEntry (k .r) v ≡ true) (i .entries) (w .n) (pos 0) (b .acceptable .entries-are) (omega (arith, b .acceptable .entries-long));
+          forward-scale = b .exponents .s-is;
+          back-scale = b .exponents .sb-is;
+        });
+        longest-at = p .longest-at;
       }
 
-      pub ran : {b big : ℕ} → b ≡ newb k o i → big ≡ newB k o i → Ran-is k o i (ranOf l b big) (l .forward) (l .back) window heard
-      ran eb eB = record { done = sym (ap (goes k o i) (sym last) ∙ p .goes-on); finished = λ e. finished eb eB }
+      module _ {t : SampleResult} {forward back : List ℤ} (symbols : List ℤ) (h : SampleResult-is k (e .g) taps entry t forward back (newest (suc (k .q)) (suc (w .n)) symbols))
+          (long : length symbols ≡ lineLength) {ty td tz : ℤ} (ey : ty ≡ t .y) (ed : td ≡ t .decision) (ez : tz ≡ t .z) where
+        -- a step of the definitions
+        step : SampleResult-is k (g k o i) (at k o i (w .n)) (entryAt k o i (w .n)) t forward back (newest (suc (k .q)) (suc (w .n)) symbols)
+        step = rw (taps-at, b .exponents .g-is, entry-is) at h
+
+        ψ-next : t .psi ≡ after k o i (suc (w .n)) .ψ
+        unfolding after at
+        ψ-next = step .psi
+
+        abbrev pub work : Work
+        work = record {
+          n = w .n + 1;
+          forward = forward;
+          back = back;
+          symbols = symbols;
+          ψ = t .psi;
+          outputs = outputsOf (set (w .outputs .y) (w .n) ty) (set (w .outputs .xi) (w .n) (t .xi)) (set (w .outputs .decision) (w .n) td)
+              (set (w .outputs .z) (w .n) tz) (set (w .outputs .theta) (w .n) (t .theta));
+        }
+
+        taps-next : tapsAfter k (suc (w .n)) forward back samples symbols (t .psi) ≡ after k o i (suc (w .n))
+        unfolding after at next
+        taps-next = rw (step .forward-is, step .back-is, b .sample-line .windows (suc (w .n)) more, newest-given (k .q) (w .n) symbols _ _ (step .symbols-are) (fit-now .symbols-long), ψ-next)
+
+        reached : Reached k o i samples l work
+        unfolding handedY handedξ handedDecision handedZ handedθ
+        reached = record {
+          within = omega arith;
+          symbols-long = long;
+          taps-are = rw (add-one (w .n)) taps-next;
+          y-written = written-next (p .reached .y-written) (pos 0) _ (rw values-length more) (rw (b .outputs-long .y-long) more) (ey ∙ step .y ∙ sym (values-at _ (pos 0) (k .N) (w .n) more));
+          xi-written = written-next (p .reached .xi-written) 0 _ (rw values-length more) (rw (b .outputs-long .xi-long) more) (step .xi ∙ sym (values-at _ 0 (k .N) (w .n) more));
+          decision-written = written-next (p .reached .decision-written) (pos 0) _ (rw values-length more) (rw (b .outputs-long .decision-long) more) (ed ∙ step .decision-is ∙ sym (values-at _ (pos 0) (k .N) (w .n) more));
+          z-written = written-next (p .reached .z-written) (pos 0) _ (rw values-length more) (rw (b .outputs-long .z-long) more) (ez ∙ step .z ∙ sym (values-at _ (pos 0) (k .N) (w .n) more));
+          theta-written = written-next (p .reached .theta-written) 0 _ (rw values-length more) (rw (b .outputs-long .theta-long) more) (step .theta ∙ sym (values-at _ 0 (k .N) (w .n) more));
+        }
+
+        -- ψ kept its limit
+        pub passed-next : t .psi ≤ exponentLimit → {delay′ : ℕ} {v : ℤ} → v ≡ getD symbols (place (w .n)) (pos 0) → NextDelay (k .r) delay v delay′ → Passed k o i samples l work delay′
+        unfolding goes
+        passed-next m {delay′ = delay′} ev d = record {
+          reached = reached;
+          goes-on = rw (add-one (w .n), p .goes-on) (le-leb _ _ (subst (λ (x : ℕ). x ≤ exponentLimit) ψ-next m));
+          delay-most = omega (arith, d .0, p .delay-most);
+          longest-at = rw (add-one (w .n)) (newest-longest-at (k .r) delay′ (k .q) (w .n) symbols _ _ (h .symbols-are) long room
+              (subst (λ (x : ℤ). LongestAt (k .r) delay′ (x ∷ taps .symbols)) ev (d .1 (taps .symbols) (p .longest-at))));
+        }
+
+        -- ψ passes it
+        pub stopped : exponentLimit < t .psi → ProgressedOn k o i samples l (record { count = w .n + 1; psi = t .psi }) forward back symbols (work .outputs)
+        stopped m = progressed reached (add-one (w .n) ∙ sym (count-stopped k o i (w .n) (k .N) more (p .goes-on) (subst (λ (x : ℕ). exponentLimit < x) ψ-next m)))
+
+-- ---- the newest samples and symbols are where the old ones were
+
+module _ {k : Settings} {o : Memory} {i : Block} {samples : List ℤ} {l : Outputs} {r : Progress} {forward back symbols : List ℤ} {l′ : Outputs}
+    (p : ProgressedOn k o i samples l r forward back symbols l′) where
+  pub count-room : k .N ≤ blockLimit → r .count ≤ blockLimit
+  count-room h = omega (arith, p .count-is, count-most k o i (k .N))
+
+  pub block-result : {window past : List ℤ} {p′ q′ : ℕ} → p′ ≡ k .p → q′ ≡ k .q → window ≡ newest p′ (r .count) samples → past ≡ newest q′ (r .count) symbols →
+      {b big : ℕ} → b ≡ newb k o i → big ≡ newB k o i → BlockResult-is k o i l (record { psi = r .psi; b = b; big = big }) forward back window past l′
+  block-result ep eq ew es eb eB = record {
+    taps-are = ap₂ (λ (a b : List ℤ). tapsOf forward back a b (r .psi)) (ew ∙ ap (λ (m : ℕ). newest m (r .count) samples) ep) (es ∙ ap (λ (m : ℕ). newest m (r .count) symbols) eq)
+        ∙ p .taps-are;
+    b = eb;
+    big = eB;
+    outputs-are = p .outputs-are;
+  }
+
+-- ---- place n of a list of N elements
+
+-- in bytes, of elements of this size
+pub place-fits : (n size : ℕ) → n < blockLimit → size < 5 → Fits w64 (n * size)
+place-fits n size h k = record { fits = omega (arith, mul-le-mul h k) }
+
+pub place-within : (n : ℕ) → place n < blockLimit
+place-within n = omega arith
+
+-- of a list that is written
+pub within : {A : Type 0} {new old now : List A} {n i : ℕ} → n < i → length old ≡ i → Written new old n now → n < length now
+within h e w = omega (arith, w .long)
+
+-- of a line
+pub line-place : (n : ℕ) (line : List ℤ) → length line ≡ lineLength → place n < length line
+line-place n line e = omega arith
+
+pub delay-fits : {delay n : ℕ} → n < blockLimit → delay ≤ tapLimit + n → delay ≤ 256
+delay-fits h m = omega arith
+
+pub next-fits : (n : ℕ) → n < blockLimit → Fits w64 (n + 1)
+next-fits n h = record { fits = omega arith }
+
+pub fewer : (m n : ℕ) → n < m → m - (n + 1) < m - n
+fewer m n h = omega arith

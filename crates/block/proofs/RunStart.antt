@@ -1,32 +1,28 @@
 -- The run of a block before its first sample: what the calls ask, and what they promise by the definitions.
-use mathlib.Core.Path.{_≡_, sym, ap, ap₂, _∙_}
+use mathlib.Core.Path.{_≡_, refl, sym, ap, ap₂, _∙_}
 use mathlib.Core.List.{List, [], _∷_, _++_, map, map-append}
-use Prim.Native.Nat.{ℕ, zero, suc, _+_, _*_, _-_, _≤_, _<_}
+use Prim.Native.Nat.{ℕ, zero, suc, _+_, _≤_, _<_}
 use native.Mathlib.Omega.{arith}
-use native.Mathlib.Nat.{mul-le-mul}
 use lib.ListN.{length, getD, take, drop, length-append, length-map}
 use lib.IntN.{ℤ, pos}
-use mir.Syntax.{w64}
-use mir.Val.{Fits}
 use Rattle.laws.specs.Sums.{Each, each-append}
 use Rattle.numbers.specs.Cut.{rescale}
 use Rattle.numbers.proofs.CutLaws.{rescale-zero}
-use Rattle.steps.specs.Settings.{Settings, scaleForward, scaleBack}
-use Rattle.block.specs.Block.{Block, Memory, receivedAll, newb, newB, g, stored, old, start, after}
-use Rattle.block.specs.Sound.{Receivable, Storable}
+use Rattle.steps.specs.Limits.{tapLimit, blockLimit, lineLength}
+use Rattle.steps.specs.Settings.{Settings}
 use Rattle.steps.specs.Side.{push}
-use Rattle.filter.specs.Sample.{next}
-use Rattle.block.specs.Line.{newest, Lined}
-use Rattle.block.specs.Calls.{Runnable, Startable, Begun-is}
-use Rattle.block.specs.declared.run.Begun.{Begun}
-use Rattle.filter.proofs.SampleSides.{scale-most}
-use Rattle.block.proofs.BlockExponents.{newB-most}
-use Rattle.block.proofs.BlockStored.{receivable, received-storable, old-storable}
+use Rattle.filter.specs.Sample.{Taps, next}
+use Rattle.block.specs.Block.{Block, Memory, Outputs, storedAll, newb, newB, g, stored, old, start, after}
+use Rattle.block.specs.Sound.{Storable}
+use Rattle.block.specs.Line.{place, newest, started, added}
+use Rattle.block.specs.Calls.{Startable, BlockExponents-is, ExponentsOf, FillBounds, filled, SampleLine, Runnable, BegunOn}
+use Rattle.block.specs.declared.run.BlockExponents.{BlockExponents}
+use Rattle.block.proofs.BlockStored.{receivable, store-bounds, old-storable}
 use Rattle.block.proofs.BlockWindow.{after-length}
-use Rattle.block.proofs.LineLaws.{newest-next}
+use Rattle.block.proofs.LineLaws.{started-length, started-old, added-length, added-old, added-at, newest-next}
 
-module _ {k : Settings} {o : Memory} {i : Block} {window₀ : List ℤ} (run : Runnable k o i window₀) where
-  pub lent-long : length window₀ ≡ k .p
+module _ {k : Settings} {o : Memory} {i : Block} {window₀ : List ℤ} {l : Outputs} (run : Runnable k o i window₀ l) where
+  lent-long : length window₀ ≡ k .p
   lent-long =
       ap length (run .window-is) ∙ length-append (o .samples) (pos 0 ∷ [])
       ∙ omega (arith, run .sound .samples-long, run .sound .within .p-least)
@@ -38,99 +34,99 @@ module _ {k : Settings} {o : Memory} {i : Block} {window₀ : List ℤ} (run : R
     receivable = receivable k o i (run .acceptable);
   }
 
--- a line that has the samples as the weights meet them
-pub record Line-is (k : Settings) (o : Memory) (i : Block) (line : List ℤ) : Type 0 where
-  pub long : length line ≡ 144
-  pub windows : (n : ℕ) → n ≤ k .N → newest (k .p) n line ≡ after k o i n .samples
+  pub symbols-most : length (o .symbols) ≤ tapLimit
+  symbols-most = omega (arith, run .sound .symbols-long, run .sound .within .q-most)
 
--- the numbers of a block by the definitions
-pub record Begun-as (k : Settings) (o : Memory) (i : Block) (r : Begun) : Type 0 where
-  pub s-as : r .s ≡ scaleForward k
-  pub sb-as : r .sb ≡ scaleBack k
-  pub b-as : r .b ≡ newb k o i
-  pub big-as : r .big ≡ newB k o i
-  pub g-as : r .g ≡ g k o i
-
-pub begun-as : {k : Settings} {i : Block} {r : Begun} (o : Memory) → Begun-is k (o .b) (i .samples) (i .gains) r → Begun-as k o i r
+pub exponents-of : {k : Settings} {o : Memory} {i : Block} {e : BlockExponents} → BlockExponents-is k (o .b) (i .samples) (i .gains) e → ExponentsOf k o i e
 unfolding g newB newb
-begun-as o p = record { s-as = p .s; sb-as = p .sb; b-as = p .b; big-as = p .big; g-as = p .exponent }
+exponents-of p = record { s-is = p .s; sb-is = p .sb; b-is = p .b; big-is = p .big; g-is = p .exponent }
 
-module _ {k : Settings} {o : Memory} {i : Block} {r : Begun} (b : Begun-as k o i r) where
-  module _ {window₀ : List ℤ} (run : Runnable k o i window₀) where
-    -- the window that was lent may be rescaled
-    pub window-storable : Each (Storable (o .B) (r .big)) window₀
-    window-storable =
-        rw (run .window-is, b .big-as)
-        (each-append (Storable (o .B) (newB k o i)) (o .samples) (pos 0 ∷ []) (old-storable k o i (run .sound)) (
-          record {
-            shift = omega (arith, run .sound .B-most);
-            room = omega arith;
-            bound = rw rescale-zero (omega arith);
-          },
-          tt,
-        ))
+module _ {k : Settings} {o : Memory} {i : Block} {e : BlockExponents} {window₀ : List ℤ} {l : Outputs} (b : ExponentsOf k o i e) (run : Runnable k o i window₀ l) where
+  -- the window that was lent may be rescaled
+  pub window-storable : Each (Storable (o .B) (e .big)) window₀
+  window-storable =
+      rw (run .window-is, b .big-is)
+      (each-append (Storable (o .B) (newB k o i)) (o .samples) (pos 0 ∷ []) (old-storable k o i (run .sound)) (
+        record {
+          shift = omega (arith, run .sound .B-most);
+          room = omega arith;
+          bound = rw rescale-zero (omega arith);
+        },
+        tt,
+      ))
+
+  module _ {window : List ℤ} (w : window ≡ map (λ (a : ℤ). rescale a (o .B) (e .big)) window₀) where
+    pub window-long : length window ≡ k .p
+    window-long = ap length w ∙ length-map window₀ _ ∙ lent-long run
 
     -- then it has the old samples at the new exponent
-    pub window-rescaled : (window : List ℤ) → window ≡ map (λ (a : ℤ). rescale a (o .B) (r .big)) window₀ → window ≡ after k o i 0 .samples
+    window-rescaled : window ≡ after k o i 0 .samples
     unfolding after start old
-    window-rescaled window e =
-        e ∙ rw (run .window-is, b .big-as) (
+    window-rescaled =
+        w ∙ rw (run .window-is, b .big-is) (
         map-append (λ (a : ℤ). rescale a (o .B) (newB k o i)) (o .samples) (pos 0 ∷ [])
         ∙ ap (λ (z : ℤ). map (λ (a : ℤ). rescale a (o .B) (newB k o i)) (o .samples) ++ (z ∷ [])) (rescale-zero (o .B) (newB k o i)))
 
-    pub window-most : (window : List ℤ) → window ≡ map (λ (a : ℤ). rescale a (o .B) (r .big)) window₀ → length window ≤ 16
-    window-most window e = omega (arith, ap length e ∙ length-map window₀ _ ∙ lent-long run, run .sound .within .p-most)
-
-    pub places-most : r .big + r .s ≤ 36
-    places-most = omega (arith, b .big-as, b .s-as, newB-most k o i (run .sound) (run .acceptable), scale-most (k .p) (run .sound .within .p-most))
+    pub window-most : length window ≤ tapLimit
+    window-most = omega (arith, window-long, run .sound .within .p-most)
 
     -- the samples may be stored
-    pub block-storable : (Receivable (i .samples) (i .gains)) × (length (i .samples) ≤ 128) × (Each (Storable 15 (r .big + r .s)) (receivedAll (i .samples) (i .gains)))
-    block-storable = (
-      receivable k o i (run .acceptable),
-      omega (arith, run .acceptable .samples-long, run .sound .within .N-most),
-      rw (b .big-as, b .s-as) (received-storable k o i (run .sound) (run .acceptable)),
-    )
+    pub fill-bounds : {area line : List ℤ} → length area ≡ length (i .samples) → length line ≡ lineLength → FillBounds (i .samples) (i .gains) (e .big + e .s) window area line
+    fill-bounds a h = record {
+      bounds = rw (b .big-is, b .s-is) (store-bounds k o i (run .sound) (run .acceptable));
+      samples-most = omega (arith, run .acceptable .samples-long, run .sound .within .N-most);
+      stored-long = a;
+      old-most = window-most;
+      line-long = h;
+    }
 
     -- then they stand in the line
-    module _ {window line : List ℤ} (e : window ≡ map (λ (a : ℤ). rescale a (o .B) (r .big)) window₀)
-        (h : Lined (map (λ (x : ℤ). rescale x 15 (r .big + r .s)) (receivedAll (i .samples) (i .gains))) (length (i .samples)) window line) where
-      stored-in : (n : ℕ) → n < k .N → getD line (127 - n) (pos 0) ≡ getD (stored k o i) n (pos 0)
+    module _ (line₀ : List ℤ) {line : List ℤ} (h : length line₀ ≡ lineLength)
+        (is : line ≡ filled (e .big + e .s) (i .samples) (i .gains) window line₀) where
+      started-long : length (started window line₀) ≡ lineLength
+      started-long = started-length window line₀ h window-most
+
+      line-long : length line ≡ lineLength
+      line-long = ap length is ∙ added-length _ _ _ ∙ started-long
+
+      stored-in : (n : ℕ) → n < k .N → getD line (place n) (pos 0) ≡ getD (stored k o i) n (pos 0)
       unfolding stored
-      stored-in n l =
-          h .new-at n (omega (arith, run .acceptable .samples-long))
-          ∙ ap (λ (m : ℕ). getD (map (λ (x : ℤ). rescale x 15 m) (receivedAll (i .samples) (i .gains))) n (pos 0)) (omega (arith, b .big-as, b .s-as))
+      stored-in n m =
+          ap (λ (t : List ℤ). getD t (place n) (pos 0)) is
+          ∙ added-at _ _ _ started-long (omega (arith, run .acceptable .samples-long, run .sound .within .N-most)) n (omega (arith, run .acceptable .samples-long))
+          ∙ ap (λ (m : ℕ). getD (storedAll m (i .samples) (i .gains)) n (pos 0)) (omega (arith, b .big-is, b .s-is))
 
       windows : (n : ℕ) → n ≤ k .N → newest (k .p) n line ≡ after k o i n .samples
       unfolding after next
-      windows zero l =
-          let first = window-rescaled window e in
-          ap (λ (m : ℕ). take m (drop 128 line)) (sym (ap length first ∙ after-length k o i (run .sound .within .p-least) (run .sound .samples-long) 0)) ∙ h .old-are ∙ first
-      windows (suc n) l =
-          newest-next (k .p) n line (h .long) (omega (arith, run .sound .within .N-most)) (run .sound .within .p-most)
-          ∙ ap₂ (λ (x : ℤ) (w : List ℤ). push x w) (stored-in n l) (windows n (omega arith))
+      windows zero m =
+          ap₂ (λ (n : ℕ) (t : List ℤ). take n t) (sym window-long) (ap (drop blockLimit) is ∙ added-old _ _ (started window line₀)) ∙ started-old window line₀ h ∙ window-rescaled
+      windows (suc n) m =
+          newest-next (k .p) n line line-long (omega (arith, run .sound .within .N-most)) (run .sound .within .p-most)
+          ∙ ap₂ (λ (x : ℤ) (w : List ℤ). push x w) (stored-in n m) (windows n (omega arith))
 
-      pub line-is : Line-is k o i line
-      line-is = record { long = h .long; windows = windows }
+      sample-line : SampleLine k o i line
+      sample-line = record { long = line-long; windows = windows }
 
--- ---- place n of a work area
+      -- and the symbols in theirs
+      pub begun-on : (symbols₀ : List ℤ) {symbols : List ℤ} → length symbols₀ ≡ lineLength → symbols ≡ started (o .symbols) symbols₀ →
+          BegunOn k o i e (o .ψ) (i .entries) (o .forward) (o .back) line symbols l
+      unfolding after start
+      begun-on symbols₀ {symbols = symbols} f s = record {
+        sound = run .sound;
+        acceptable = run .acceptable;
+        outputs-long = run .outputs-long;
+        exponents = b;
+        entries-are = refl;
+        sample-line = sample-line;
+        symbols-long = ap length s ∙ started-length (o .symbols) symbols₀ f (symbols-most run);
+        taps-are = rw (windows 0 (omega arith), past);
+      }
+        where
+          past : newest (k .q) 0 symbols ≡ o .symbols
+          past = ap₂ (λ (n : ℕ) (t : List ℤ). take n (drop blockLimit t)) (sym (run .sound .symbols-long)) s ∙ started-old (o .symbols) symbols₀ f
 
--- in bytes, of elements of this size
-pub place-fits : (n size : ℕ) → n < 128 → size < 5 → Fits w64 (n * size)
-place-fits n size h k = record { fits = omega (arith, mul-le-mul h k) }
+-- ---- the samples are stored, and stand in the line
 
--- the place of sample n
-pub before-last : (n : ℕ) → 127 - n < 128
-before-last n = omega arith
-
-pub within-line : (n : ℕ) → 127 - n < 144
-within-line n = omega arith
-
-pub delay-fits : {delay n : ℕ} → n < 128 → delay ≤ 16 + n → delay ≤ 256
-delay-fits h m = omega arith
-
-pub next-fits : (n : ℕ) → n < 128 → Fits w64 (n + 1)
-next-fits n h = record { fits = omega arith }
-
-pub fewer : (m n : ℕ) → n < m → m - (n + 1) < m - n
-fewer m n h = omega arith
+pub filled-is : (places : ℕ) (m : List ℤ) (gains : List ℕ) (old line₀ : List ℤ) {stored between line : List ℤ} → stored ≡ storedAll places m gains → length stored ≡ length m →
+    between ≡ started old line₀ → line ≡ added (length stored) stored between → line ≡ filled places m gains old line₀
+filled-is places m gains old line₀ s n b e = e ∙ rw (n, s, b)

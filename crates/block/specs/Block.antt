@@ -1,10 +1,11 @@
 -- One block of N samples.
-use mathlib.Core.Bool.{Bool, true, _&&_}
+use mathlib.Core.Bool.{Bool, true, _&&_, cond}
 use mathlib.Core.List.{List, [], _∷_, _++_, map}
 use Prim.Native.Nat.{ℕ, zero, suc, _+_, _-_, max}
 use lib.Dec.{leb}
 use lib.ListN.{getD, take}
 use lib.IntN.{ℤ, pos}
+use Rattle.laws.specs.Lists.{overlay}
 use Rattle.numbers.specs.BitLength.{bitLength}
 use Rattle.numbers.specs.Cut.{raise, rescale}
 use Rattle.steps.specs.Limits.{exponentLimit}
@@ -37,6 +38,18 @@ receivedAll [] gs = []
 receivedAll (m ∷ ms) [] = []
 receivedAll (m ∷ ms) (g ∷ gs) = received m g ∷ receivedAll ms gs
 
+-- the samples as they are stored at B + S = places
+abbrev pub storedAll : ℕ → List ℤ → List ℕ → List ℤ
+storedAll places m gains = map (λ (x : ℤ). rescale x 15 places) (receivedAll m gains)
+
+-- five lists, of an element for each sample
+pub record Outputs : Type 0 where
+  pub y : List ℤ
+  pub xi : List ℕ
+  pub decision : List ℤ
+  pub z : List ℤ
+  pub theta : List ℕ
+
 -- the values of f at 0 to n − 1
 unfoldable pub values {ℓ} : {A : Type ℓ} → (ℕ → A) → ℕ → List A
 values f zero = []
@@ -55,7 +68,7 @@ module _ (k : Settings) (o : Memory) (i : Block) where
 
   -- 2: the stored samples, and the old ones at the new exponent
   unfoldable pub stored : List ℤ
-  stored = map (λ (x : ℤ). rescale x 15 (newB + scaleForward k)) (receivedAll (i .samples) (i .gains))
+  stored = storedAll (newB + scaleForward k) (i .samples) (i .gains)
 
   unfoldable pub old : List ℤ
   old = map (λ (a : ℤ). rescale a (o .B) newB) (o .samples)
@@ -81,6 +94,11 @@ module _ (k : Settings) (o : Memory) (i : Block) where
   goes zero = true
   goes (suc n) = goes n && leb (after (suc n) .ψ) exponentLimit
 
+  -- how many of the first n samples are run: all, or up to and with the one at which ψ passes its limit
+  unfoldable pub count : ℕ → ℕ
+  count zero = 0
+  count (suc n) = cond (goes n) (suc n) (count n)
+
   -- the training entry of a sample
   abbrev pub entryAt : ℕ → ℤ
   entryAt n = getD (i .entries) n (pos 0)
@@ -100,6 +118,16 @@ module _ (k : Settings) (o : Memory) (i : Block) where
 
   unfoldable pub handedθ : List ℕ
   handedθ = values (λ n. θ k g (at n) (entryAt n)) (k .N)
+
+  -- the first n of each, over lists that were there
+  abbrev pub handed : ℕ → Outputs → Outputs
+  handed n l = record {
+    y = overlay n handedY (l .y);
+    xi = overlay n handedξ (l .xi);
+    decision = overlay n handedDecision (l .decision);
+    z = overlay n handedZ (l .z);
+    theta = overlay n handedθ (l .theta);
+  }
 
   -- what an accepted block leaves
   unfoldable pub left : Memory

@@ -1,20 +1,21 @@
 -- What the functions of a block ask and promise.
 use mathlib.Core.Path.{_≡_}
-use mathlib.Core.Bool.{true}
 use mathlib.Core.List.{List, [], _∷_, _++_}
 use Prim.Native.Nat.{ℕ, suc, _+_, _-_, _≤_, _<_, max}
 use lib.ListN.{length, take}
 use lib.IntN.{ℤ, pos}
 use Rattle.numbers.specs.BitLength.{bitLength}
+use Rattle.steps.specs.Limits.{tapLimit, blockLimit, lengthLimit, lineLength}
 use Rattle.steps.specs.Settings.{Settings, Within, scaleForward, scaleBack}
 use Rattle.steps.specs.Side.{largest, magnitudes}
 use Rattle.filter.specs.Sample.{Taps}
 use Rattle.filter.specs.Calls.{LongestAt, Ready, tapsOf}
-use Rattle.block.specs.Line.{newest}
-use Rattle.block.specs.Block.{Block, Memory, receivedAll, newb, newB, after, goes, handedY, handedξ, handedDecision, handedZ, handedθ}
-use Rattle.block.specs.Sound.{Sound, Acceptable, Receivable}
-use Rattle.block.specs.declared.run.Begun.{Begun}
-use Rattle.block.specs.declared.run.Ran.{Ran}
+use Rattle.block.specs.Line.{newest, started, added}
+use Rattle.block.specs.Block.{Block, Memory, Outputs, receivedAll, storedAll, newb, newB, g, after, count, handed}
+use Rattle.block.specs.Sound.{Sound, Acceptable, Receivable, StoreBounds}
+use Rattle.block.specs.declared.run.BlockExponents.{BlockExponents}
+use Rattle.block.specs.declared.run.Progress.{Progress}
+use Rattle.block.specs.declared.run.BlockResult.{BlockResult}
 
 abbrev pub blockOf : List ℤ → List ℕ → List ℤ → Block
 blockOf m gains entries = record { samples = m; gains = gains; entries = entries }
@@ -23,52 +24,109 @@ blockOf m gains entries = record { samples = m; gains = gains; entries = entries
 abbrev pub memoryOf : List ℤ → List ℤ → List ℤ → List ℤ → ℕ → ℕ → ℕ → Memory
 memoryOf forward back window symbols ψ b B = record { forward = forward; back = back; samples = take (length window - 1) window; symbols = symbols; ψ = ψ; b = b; B = B }
 
+abbrev pub outputsOf : List ℤ → List ℕ → List ℤ → List ℤ → List ℕ → Outputs
+outputsOf y xi decision z theta = record { y = y; xi = xi; decision = decision; z = z; theta = theta }
+
 -- 1: b
 abbrev pub blockLength : List ℤ → List ℕ → ℕ
 blockLength m gains = bitLength (largest (magnitudes (receivedAll m gains)))
 
 pub record Startable (k : Settings) (was : ℕ) (m : List ℤ) (gains : List ℕ) : Type 0 where
   pub within : Within k
-  pub was-most : was ≤ 31
+  pub was-most : was ≤ lengthLimit
   pub receivable : Receivable m gains
 
-pub record Begun-is (k : Settings) (was : ℕ) (m : List ℤ) (gains : List ℕ) (r : Begun) : Type 0 where
+pub record BlockExponents-is (k : Settings) (was : ℕ) (m : List ℤ) (gains : List ℕ) (r : BlockExponents) : Type 0 where
   pub s : r .s ≡ scaleForward k
   pub sb : r .sb ≡ scaleBack k
   pub b : r .b ≡ blockLength m gains
   pub big : r .big ≡ max (blockLength m gains) was
   pub exponent : r .g ≡ k .r + max (blockLength m gains) was + scaleForward k
 
--- the taps at sample n, on the lines of stored samples and of symbols
-abbrev pub tapsAt : Settings → ℕ → List ℤ → List ℤ → List ℤ → List ℤ → ℕ → Taps
-tapsAt k n forward back line marks ψ = tapsOf forward back (newest (k .p) (suc n) line) (newest (k .q) n marks) ψ
+-- ---- the samples of a block
 
-pub record Advanceable (k : Settings) (e : Begun) (delay n : ℕ) (entry : ℤ) (line marks : List ℤ) (t : Taps) : Type 0 where
-  pub room : n < 128
-  pub line-long : length line ≡ 144
-  pub marks-long : length marks ≡ 144
+pub record FillBounds (m : List ℤ) (gains : List ℕ) (places : ℕ) (old stored line : List ℤ) : Type 0 where
+  pub bounds : StoreBounds m gains places
+  pub samples-most : length m ≤ blockLimit
+  pub stored-long : length stored ≡ length m
+  pub old-most : length old ≤ tapLimit
+  pub line-long : length line ≡ lineLength
+
+-- a line with the old samples and those of a block
+abbrev pub filled : ℕ → List ℤ → List ℕ → List ℤ → List ℤ → List ℤ
+filled places m gains old line = added (length m) (storedAll places m gains) (started old line)
+
+-- the taps when n samples are done, on the lines of stored samples and of symbols, and with the next sample entered
+abbrev pub tapsAfter : Settings → ℕ → List ℤ → List ℤ → List ℤ → List ℤ → ℕ → Taps
+tapsAfter k n forward back samples symbols ψ = tapsOf forward back (newest (k .p) n samples) (newest (k .q) n symbols) ψ
+
+abbrev pub tapsAt : Settings → ℕ → List ℤ → List ℤ → List ℤ → List ℤ → ℕ → Taps
+tapsAt k n forward back samples symbols ψ = tapsOf forward back (newest (k .p) (suc n) samples) (newest (k .q) n symbols) ψ
+
+pub record Advanceable (k : Settings) (e : BlockExponents) (delay n : ℕ) (entry : ℤ) (samples symbols : List ℤ) (t : Taps) : Type 0 where
+  pub room : n < blockLimit
+  pub samples-long : length samples ≡ lineLength
+  pub symbols-long : length symbols ≡ lineLength
   pub ready : Ready k (e .s) (e .sb) (e .g) t entry
   pub longest-at : LongestAt (k .r) delay (t .symbols)
 
-pub record Runnable (k : Settings) (o : Memory) (i : Block) (window : List ℤ) : Type 0 where
+-- five lists of N elements
+pub record OutputsLong (k : Settings) (l : Outputs) : Type 0 where
+  pub y-long : length (l .y) ≡ k .N
+  pub xi-long : length (l .xi) ≡ k .N
+  pub decision-long : length (l .decision) ≡ k .N
+  pub z-long : length (l .z) ≡ k .N
+  pub theta-long : length (l .theta) ≡ k .N
+
+-- the exponents of the block i on the memory o
+pub record ExponentsOf (k : Settings) (o : Memory) (i : Block) (e : BlockExponents) : Type 0 where
+  pub s-is : e .s ≡ scaleForward k
+  pub sb-is : e .sb ≡ scaleBack k
+  pub b-is : e .b ≡ newb k o i
+  pub big-is : e .big ≡ newB k o i
+  pub g-is : e .g ≡ g k o i
+
+-- a line that has the samples as the weights meet them
+pub record SampleLine (k : Settings) (o : Memory) (i : Block) (line : List ℤ) : Type 0 where
+  pub long : length line ≡ lineLength
+  pub windows : (n : ℕ) → n ≤ k .N → newest (k .p) n line ≡ after k o i n .samples
+
+-- the block i on the memory o before its first sample
+pub record BegunOn (k : Settings) (o : Memory) (i : Block) (e : BlockExponents) (ψ : ℕ) (entries forward back samples symbols : List ℤ) (l : Outputs) : Type 0 where
+  pub sound : Sound k o
+  pub acceptable : Acceptable k i
+  pub outputs-long : OutputsLong k l
+  pub exponents : ExponentsOf k o i e
+  pub entries-are : entries ≡ i .entries
+  pub sample-line : SampleLine k o i samples
+  pub symbols-long : length symbols ≡ lineLength
+  pub taps-are : tapsAfter k 0 forward back samples symbols ψ ≡ after k o i 0
+
+pub record Begun (k : Settings) (e : BlockExponents) (ψ : ℕ) (entries forward back samples symbols : List ℤ) (l : Outputs) : Type 0 where
+  pub o : Memory
+  pub i : Block
+  pub begun : BegunOn k o i e ψ entries forward back samples symbols l
+
+-- the same after its last sample
+pub record ProgressedOn (k : Settings) (o : Memory) (i : Block) (samples : List ℤ) (l : Outputs) (r : Progress) (forward back symbols : List ℤ) (l′ : Outputs) : Type 0 where
+  pub count-is : r .count ≡ count k o i (k .N)
+  pub taps-are : tapsAfter k (r .count) forward back samples symbols (r .psi) ≡ after k o i (count k o i (k .N))
+  pub outputs-are : l′ ≡ handed k o i (count k o i (k .N)) l
+
+abbrev pub Progressed : Settings → BlockExponents → ℕ → List ℤ → List ℤ → List ℤ → List ℤ → List ℤ → Outputs → Progress → List ℤ → List ℤ → List ℤ → Outputs → Type 0
+Progressed k e ψ entries forward back samples symbols l r forward′ back′ symbols′ l′ =
+    (o : Memory) (i : Block) → BegunOn k o i e ψ entries forward back samples symbols l → ProgressedOn k o i samples l r forward′ back′ symbols′ l′
+
+-- ---- the whole block
+
+pub record Runnable (k : Settings) (o : Memory) (i : Block) (window : List ℤ) (l : Outputs) : Type 0 where
   pub sound : Sound k o
   pub acceptable : Acceptable k i
   pub window-is : window ≡ o .samples ++ (pos 0 ∷ [])
+  pub outputs-long : OutputsLong k l
 
-pub record Finished (k : Settings) (o : Memory) (i : Block) (r : Ran) (forward back window symbols : List ℤ) : Type 0 where
-  pub forward-is : forward ≡ after k o i (k .N) .forward
-  pub back-is : back ≡ after k o i (k .N) .back
-  pub window-is : window ≡ after k o i (k .N) .samples
-  pub symbols-are : symbols ≡ after k o i (k .N) .symbols
-  pub psi : r .psi ≡ after k o i (k .N) .ψ
+pub record BlockResult-is (k : Settings) (o : Memory) (i : Block) (l : Outputs) (r : BlockResult) (forward back window symbols : List ℤ) (l′ : Outputs) : Type 0 where
+  pub taps-are : tapsOf forward back window symbols (r .psi) ≡ after k o i (count k o i (k .N))
   pub b : r .b ≡ newb k o i
   pub big : r .big ≡ newB k o i
-  pub y : take (k .N) (r .y) ≡ handedY k o i
-  pub xi : take (k .N) (r .xi) ≡ handedξ k o i
-  pub decision-is : take (k .N) (r .decision) ≡ handedDecision k o i
-  pub z : take (k .N) (r .z) ≡ handedZ k o i
-  pub theta : take (k .N) (r .theta) ≡ handedθ k o i
-
-pub record Ran-is (k : Settings) (o : Memory) (i : Block) (r : Ran) (forward back window symbols : List ℤ) : Type 0 where
-  pub done : r .done ≡ goes k o i (k .N)
-  pub finished : goes k o i (k .N) ≡ true → Finished k o i r forward back window symbols
+  pub outputs-are : l′ ≡ handed k o i (count k o i (k .N)) l

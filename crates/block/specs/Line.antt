@@ -1,16 +1,24 @@
--- A line of 144 places. What a block adds stands before place 128, newest first; what was there before the block stands from there on.
-use mathlib.Core.Path.{_≡_}
+-- A line: what a block adds stands before place blockLimit, newest first; what was there before the block stands from there on.
 use mathlib.Core.List.{List}
-use Prim.Native.Nat.{ℕ, _-_, _<_}
-use lib.ListN.{length, getD, take, drop}
+use Prim.Native.Nat.{ℕ, zero, suc, _-_}
+use lib.ListN.{length, getD, take, drop, set}
+use lib.Seq.{paste}
 use lib.IntN.{ℤ, pos}
+use Rattle.steps.specs.Limits.{blockLimit}
+
+-- the place of sample n
+abbrev pub place : ℕ → ℕ
+place n = blockLimit - 1 - n
 
 -- the newest p when n are added
 abbrev pub newest : ℕ → ℕ → List ℤ → List ℤ
-newest p n line = take p (drop (128 - n) line)
+newest p n line = take p (drop (blockLimit - n) line)
 
--- n of the new ones are added
-pub record Lined (new : List ℤ) (n : ℕ) (old line : List ℤ) : Type 0 where
-  pub long : length line ≡ 144
-  pub old-are : take (length old) (drop 128 line) ≡ old
-  pub new-at : (j : ℕ) → j < n → getD line (127 - j) (pos 0) ≡ getD new j (pos 0)
+-- the old ones in their places
+abbrev pub started : List ℤ → List ℤ → List ℤ
+started old line = paste line blockLimit old (length old)
+
+-- the first n of the new ones in their places
+unfoldable pub added : ℕ → List ℤ → List ℤ → List ℤ
+added zero new line = line
+added (suc n) new line = set (added n new line) (place n) (getD new n (pos 0))

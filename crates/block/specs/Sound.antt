@@ -7,10 +7,10 @@ use lib.ListN.{length}
 use lib.IntN.{ℤ, natAbs}
 use Rattle.laws.specs.Sums.{Each}
 use Rattle.numbers.specs.Cut.{rescale}
-use Rattle.steps.specs.Limits.{gainLimit, exponentLimit, lengthLimit}
+use Rattle.steps.specs.Limits.{gainLimit, exponentLimit, scaleLimit, lengthLimit}
 use Rattle.steps.specs.Settings.{Settings, Within, Admitted, isEntry, scaleForward}
 use Rattle.steps.specs.Sound.{Small}
-use Rattle.block.specs.Block.{Block, Memory}
+use Rattle.block.specs.Block.{Block, Memory, receivedAll}
 
 -- the soundness facts between blocks
 pub record Sound (k : Settings) (o : Memory) : Type 0 where
@@ -44,6 +44,19 @@ pub record Acceptable (k : Settings) (i : Block) : Type 0 where
 pub record Receivable (m : List ℤ) (gains : List ℕ) : Type 0 where
   pub same-length : length m ≡ length gains
   pub gains-most : Each (λ (g : ℕ). g ≤ gainLimit) gains
+
+-- a number whose product with 2^up has 32 bits, and whose T(x·2^(up−down)) has 16
+pub record ShiftBounds (up down : ℕ) (x : ℤ) : Type 0 where
+  pub up-most : up ≤ 15
+  pub down-most : down ≤ lengthLimit
+  pub room : natAbs x * 2 ^ up < 2 ^ 31
+  pub bound : natAbs (rescale x up down) < 2 ^ 15
+
+-- samples that are stored at B + S = places
+pub record StoreBounds (m : List ℤ) (gains : List ℕ) (places : ℕ) : Type 0 where
+  pub receivable : Receivable m gains
+  pub places-most : places ≤ lengthLimit + scaleLimit
+  pub fitting : Each (λ (x : ℤ). (natAbs x < 2 ^ 31) × (natAbs (rescale x 15 places) < 2 ^ 15)) (receivedAll m gains)
 
 -- a number whose T(z·2^(i−j)) fits 16 bits
 pub record Storable (i j : ℕ) (z : ℤ) : Type 0 where

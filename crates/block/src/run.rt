@@ -2,13 +2,15 @@
 ghost use mathlib.Core.Path.{_≡_};
 ghost use Prim.Native.Nat.{suc, max};
 ghost use Rattle.filter.specs.Calls.{settingsOf, SampleResult-is};
+ghost use Rattle.block.specs.Block.{storedAll};
 ghost use Rattle.block.specs.Line.{newest};
-ghost use Rattle.block.specs.Calls.{blockOf, memoryOf, Begun-is, Startable, tapsAt, Advanceable, Runnable, Ran-is};
+ghost use Rattle.block.specs.Calls.{blockOf, memoryOf, outputsOf, BlockExponents-is, Startable, FillBounds, filled, tapsAt, Advanceable, Begun, Progressed, Runnable, BlockResult-is};
 use filter::sample::SampleResult;
 use filter::sample::Settings;
+use steps::limits;
 
 // The scale counts of a block, its b and B, and γ + 30.
-pub struct Begun {
+pub struct BlockExponents {
     pub s: u32,
     pub sb: u32,
     pub b: u32,
@@ -16,29 +18,29 @@ pub struct Begun {
     pub g: u32,
 }
 
-// Whether ψ kept its limit, and then what the block hands out and leaves.
-pub struct Ran {
-    pub done: bool,
+// How many samples are run, and ψ after them.
+pub struct Progress {
+    pub count: usize,
+    pub psi: u32,
+}
+
+// ψ, b and B after a block.
+pub struct BlockResult {
     pub psi: u32,
     pub b: u32,
     pub big: u32,
-    pub y: [i32; 128],
-    pub xi: [u8; 128],
-    pub decision: [i8; 128],
-    pub z: [i32; 128],
-    pub theta: [u8; 128],
 }
 
 // Step 1 of a block.
-pub fn begin(k: Settings, was: u32, m: &[i16], gains: &[u8]) -> Begun
+pub fn begin(k: Settings, was: u32, m: &[i16], gains: &[u8]) -> BlockExponents
     requires { ⌜ Startable (settingsOf k) was (now m) (now gains) ⌝ }
-    ensures { λ r. ⌜ Begun-is (settingsOf k) was (now (m .entry)) (now (gains .entry)) r ⌝ }
+    ensures { λ r. ⌜ BlockExponents-is (settingsOf k) was (now (m .entry)) (now (gains .entry)) r ⌝ }
 {
     let s = numbers::scale_count::scale_count(k.p as usize);
     let sb = numbers::scale_count::scale_count(k.q as usize);
     let b = numbers::bit_length::bit_length(super::stored::received_bits(m, gains) as u64);
     let big = larger(b, was);
-    Begun {
+    BlockExponents {
         s: s,
         sb: sb,
         b: b,
@@ -53,6 +55,16 @@ fn larger(a: u32, b: u32) -> u32
     if a < b { b } else { a }
 }
 
+// The samples of a block as stored, and in a line before the old ones.
+fn fill(m: &[i16], gains: &[u8], places: u32, old: &[i16], stored: &mut [i16], line: &mut [i16])
+    requires { ⌜ FillBounds (now m) (now gains) places (now old) (now stored) (now line) ⌝ }
+    ensures { λ _. ⌜ (now (stored .exit) ≡ storedAll places (now (m .entry)) (now (gains .entry))) × (now (line .exit) ≡ filled places (now (m .entry)) (now (gains .entry)) (now (old .entry)) (now (line .entry))) ⌝ }
+{
+    super::stored::store(m, gains, places, stored);
+    super::line::start(old, line);
+    super::line::add(stored, line);
+}
+
 fn wide(x: i8) -> i16
     ensures { λ r. ⌜ r ≡ x ⌝ }
 {
@@ -62,20 +74,20 @@ fn wide(x: i8) -> i16
 // Sample n, on the lines of stored samples and of symbols.
 fn advance(
     k: Settings,
-    e: Begun,
+    e: BlockExponents,
     psi: u32,
     delay: usize,
     n: usize,
     entry: i8,
     forward: &mut [i16],
     back: &mut [i16],
-    line: &[i16],
-    marks: &mut [i16],
+    samples: &[i16],
+    symbols: &mut [i16],
 ) -> SampleResult
-    requires { ⌜ Advanceable (settingsOf k) e delay n entry (now line) (now marks) (tapsAt (settingsOf k) n (now forward) (now back) (now line) (now marks) psi) ⌝ }
-    ensures { λ r. ⌜ SampleResult-is (settingsOf k) (e .g) (tapsAt (settingsOf k) n (now (forward .entry)) (now (back .entry)) (now (line .entry)) (now (marks .entry)) psi) entry r (now (forward .exit)) (now (back .exit)) (newest (suc (k .q)) (suc n) (now (marks .exit))) ⌝ }
+    requires { ⌜ Advanceable (settingsOf k) e delay n entry (now samples) (now symbols) (tapsAt (settingsOf k) n (now forward) (now back) (now samples) (now symbols) psi) ⌝ }
+    ensures { λ r. ⌜ SampleResult-is (settingsOf k) (e .g) (tapsAt (settingsOf k) n (now (forward .entry)) (now (back .entry)) (now (samples .entry)) (now (symbols .entry)) psi) entry r (now (forward .exit)) (now (back .exit)) (newest (suc (k .q)) (suc n) (now (symbols .exit))) ⌝ }
 {
-    let first = 127 - n;
+    let first = limits::BLOCK - 1 - n;
     let oldest = first + (k.p as usize);
     let last = first + (k.q as usize) + 1;
     filter::sample::step(
@@ -88,12 +100,66 @@ fn advance(
         wide(entry),
         forward,
         back,
-        &line[first..oldest],
-        &mut marks[first..last],
+        &samples[first..oldest],
+        &mut symbols[first..last],
     )
 }
 
-// The samples of a block one by one, up to the one at which ψ would pass its limit.
+// The samples of a block one by one, up to the one at which ψ passes its limit.
+fn run_samples(
+    k: Settings,
+    e: BlockExponents,
+    psi: u32,
+    entries: &[i8],
+    forward: &mut [i16],
+    back: &mut [i16],
+    samples: &[i16],
+    symbols: &mut [i16],
+    y: &mut [i32],
+    xi: &mut [u8],
+    decision: &mut [i8],
+    z: &mut [i32],
+    theta: &mut [u8],
+) -> Progress
+    requires { ⌜ Begun (settingsOf k) e psi (now entries) (now forward) (now back) (now samples) (now symbols) (outputsOf (now y) (now xi) (now decision) (now z) (now theta)) ⌝ }
+    ensures { λ r. ⌜ Progressed (settingsOf k) e psi (now (entries .entry)) (now (forward .entry)) (now (back .entry)) (now (samples .entry)) (now (symbols .entry)) (outputsOf (now (y .entry)) (now (xi .entry)) (now (decision .entry)) (now (z .entry)) (now (theta .entry))) r (now (forward .exit)) (now (back .exit)) (now (symbols .exit)) (outputsOf (now (y .exit)) (now (xi .exit)) (now (decision .exit)) (now (z .exit)) (now (theta .exit))) ⌝ }
+{
+    let mut at = psi;
+    // No symbol is known to have the largest bit length.
+    let mut delay: usize = limits::TAPS;
+    let mut n: usize = 0;
+    while n < entries.len() {
+        let t = advance(
+            k,
+            e,
+            at,
+            delay,
+            n,
+            entries[n],
+            forward,
+            back,
+            samples,
+            symbols,
+        );
+        let ty = t.y;
+        let td = t.decision;
+        let tz = t.z;
+        y[n] = ty;
+        xi[n] = t.xi;
+        decision[n] = td;
+        z[n] = tz;
+        theta[n] = t.theta;
+        delay = filter::sample::next_delay(k.r, delay, symbols[limits::BLOCK - 1 - n]);
+        at = t.psi;
+        n += 1;
+        if limits::EXPONENT < at {
+            return Progress { count: n, psi: at };
+        }
+    }
+    Progress { count: n, psi: at }
+}
+
+// The run of a block, which leaves the newest samples and symbols where the old ones were.
 pub fn run(
     k: Settings,
     psi: u32,
@@ -106,75 +172,50 @@ pub fn run(
     back: &mut [i16],
     samples: &mut [i16],
     symbols: &mut [i16],
-) -> Ran
-    requires { ⌜ Runnable (settingsOf k) (memoryOf (now forward) (now back) (now samples) (now symbols) psi b big) (blockOf (now m) (now gains) (now entries)) (now samples) ⌝ }
-    ensures { λ r. ⌜ Ran-is (settingsOf k) (memoryOf (now (forward .entry)) (now (back .entry)) (now (samples .entry)) (now (symbols .entry)) psi b big) (blockOf (now (m .entry)) (now (gains .entry)) (now (entries .entry))) r (now (forward .exit)) (now (back .exit)) (now (samples .exit)) (now (symbols .exit)) ⌝ }
+    y: &mut [i32],
+    xi: &mut [u8],
+    decision: &mut [i8],
+    z: &mut [i32],
+    theta: &mut [u8],
+) -> BlockResult
+    requires { ⌜ Runnable (settingsOf k) (memoryOf (now forward) (now back) (now samples) (now symbols) psi b big) (blockOf (now m) (now gains) (now entries)) (now samples) (outputsOf (now y) (now xi) (now decision) (now z) (now theta)) ⌝ }
+    ensures { λ r. ⌜ BlockResult-is (settingsOf k) (memoryOf (now (forward .entry)) (now (back .entry)) (now (samples .entry)) (now (symbols .entry)) psi b big) (blockOf (now (m .entry)) (now (gains .entry)) (now (entries .entry))) (outputsOf (now (y .entry)) (now (xi .entry)) (now (decision .entry)) (now (z .entry)) (now (theta .entry))) r (now (forward .exit)) (now (back .exit)) (now (samples .exit)) (now (symbols .exit)) (outputsOf (now (y .exit)) (now (xi .exit)) (now (decision .exit)) (now (z .exit)) (now (theta .exit))) ⌝ }
 {
     let e = begin(k, b, m, gains);
     super::stored::rescale_all(samples, big, e.big);
-    let mut line = [0i16; 144];
-    super::line::start(samples, &mut line);
-    super::stored::store(m, gains, e.big + e.s, &mut line);
-    let mut marks = [0i16; 144];
-    super::line::start(symbols, &mut marks);
-    let mut y = [0i32; 128];
-    let mut xi = [0u8; 128];
-    let mut decision = [0i8; 128];
-    let mut z = [0i32; 128];
-    let mut theta = [0u8; 128];
-    let mut at = psi;
-    // No symbol is known to have the largest bit length.
-    let mut delay: usize = 16;
-    let mut n: usize = 0;
-    while n < m.len() {
-        let t = advance(
-            k,
-            e,
-            at,
-            delay,
-            n,
-            entries[n],
-            forward,
-            back,
-            &line,
-            &mut marks,
-        );
-        at = t.psi;
-        if 15 < at {
-            return Ran {
-                done: false,
-                psi: at,
-                b: e.b,
-                big: e.big,
-                y: y,
-                xi: xi,
-                decision: decision,
-                z: z,
-                theta: theta,
-            };
-        }
-        let ty = t.y;
-        let td = t.decision;
-        let tz = t.z;
-        y[n] = ty;
-        xi[n] = t.xi;
-        decision[n] = td;
-        z[n] = tz;
-        theta[n] = t.theta;
-        delay = filter::sample::next_delay(k.r, delay, marks[127 - n]);
-        n += 1;
-    }
-    super::line::newest(&line, n, samples);
-    super::line::newest(&marks, n, symbols);
-    Ran {
-        done: true,
-        psi: at,
+    let n = m.len();
+    let mut stored = [0i16; limits::BLOCK];
+    let mut sample_line = [0i16; limits::LINE];
+    fill(
+        m,
+        gains,
+        e.big + e.s,
+        samples,
+        &mut stored[0..n],
+        &mut sample_line,
+    );
+    let mut symbol_line = [0i16; limits::LINE];
+    super::line::start(symbols, &mut symbol_line);
+    let r = run_samples(
+        k,
+        e,
+        psi,
+        entries,
+        forward,
+        back,
+        &sample_line,
+        &mut symbol_line,
+        y,
+        xi,
+        decision,
+        z,
+        theta,
+    );
+    super::line::newest(&sample_line, r.count, samples);
+    super::line::newest(&symbol_line, r.count, symbols);
+    BlockResult {
+        psi: r.psi,
         b: e.b,
         big: e.big,
-        y: y,
-        xi: xi,
-        decision: decision,
-        z: z,
-        theta: theta,
     }
 }

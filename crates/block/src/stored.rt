@@ -1,20 +1,20 @@
 // The samples of a block: as received, and as stored.
 ghost use mathlib.Core.Path.{_≡_};
 ghost use mathlib.Core.List.{map};
-ghost use Prim.Native.Nat.{_<_, _≤_};
-ghost use lib.ListN.{length, getD, drop};
+ghost use Prim.Native.Nat.{_-_, _<_, _≤_};
+ghost use lib.ListN.{length, getD};
 ghost use lib.IntN.{ℤ, pos, natAbs};
 ghost use Rattle.laws.specs.Sums.{Each};
 ghost use Rattle.numbers.specs.BitLength.{bitLength};
 ghost use Rattle.numbers.specs.Cut.{rescale};
-ghost use Rattle.block.specs.Block.{received, receivedAll};
+ghost use Rattle.steps.specs.Limits.{gainLimit};
+ghost use Rattle.block.specs.Block.{received, receivedAll, storedAll};
 ghost use Rattle.block.specs.Calls.{blockLength};
-ghost use Rattle.block.specs.Line.{Lined};
-ghost use Rattle.block.specs.Sound.{Receivable, Storable};
+ghost use Rattle.block.specs.Sound.{Receivable, Storable, ShiftBounds, StoreBounds};
 
 // X = m·2^(15−g).
 pub fn received(m: i16, g: u8) -> i32
-    requires { ⌜ g ≤ 15 ⌝ }
+    requires { ⌜ g ≤ gainLimit ⌝ }
     ensures { λ r. ⌜ r ≡ received m g ⌝ }
 {
     numbers::cut::raise32(m as i32, 15 - (g as u32))
@@ -49,55 +49,32 @@ pub fn received_bits(m: &[i16], gains: &[u8]) -> u32
     seen
 }
 
-// T(x·2^(15−places)) where it is no larger than x: one cut.
-fn lowered(x: i32, places: u32) -> i16
-    requires { ⌜ (Storable 15 places x) × (15 ≤ places) × (places < 47) ⌝ }
-    ensures { λ r. ⌜ r ≡ rescale x 15 places ⌝ }
+// a − b, or 0 where b is the larger.
+fn difference(a: u32, b: u32) -> u32
+    ensures { λ r. ⌜ r ≡ a - b ⌝ }
 {
-    numbers::cut::cut32(x, places - 15) as i16
+    if b < a { a - b } else { 0 }
 }
 
-// T(x·2^(15−places)) where it is no smaller than x: one product.
-fn raised(x: i32, places: u32) -> i16
-    requires { ⌜ (Storable 15 places x) × (places ≤ 15) ⌝ }
-    ensures { λ r. ⌜ r ≡ rescale x 15 places ⌝ }
+// T(x·2^(up−down)) in 16 bits.
+fn shifted(x: i32, up: u32, down: u32) -> i16
+    requires { ⌜ ShiftBounds up down x ⌝ }
+    ensures { λ r. ⌜ r ≡ rescale x up down ⌝ }
 {
-    numbers::cut::raise32(x, 15 - places) as i16
+    numbers::cut::cut32(numbers::cut::raise32(x, up), down) as i16
 }
 
-// The samples of a block into a line, cut.
-fn store_lowered(m: &[i16], gains: &[u8], places: u32, line: &mut [i16])
-    requires { ⌜ (Receivable (now m) (now gains)) × (length (now m) ≤ 128) × (Each (Storable 15 places) (receivedAll (now m) (now gains))) × (length (now line) ≡ 144) × (15 ≤ places) × (places < 47) ⌝ }
-    ensures { λ _. ⌜ Lined (map (λ (x : ℤ). rescale x 15 places) (receivedAll (now (m .entry)) (now (gains .entry)))) (length (now (m .entry))) (drop 128 (now (line .entry))) (now (line .exit)) ⌝ }
+// The samples of a block as stored.
+pub fn store(m: &[i16], gains: &[u8], places: u32, out: &mut [i16])
+    requires { ⌜ (StoreBounds (now m) (now gains) places) × (length (now out) ≡ length (now m)) ⌝ }
+    ensures { λ _. ⌜ now (out .exit) ≡ storedAll places (now (m .entry)) (now (gains .entry)) ⌝ }
 {
+    let up = difference(15, places);
+    let down = difference(places, 15);
     let mut i: usize = 0;
-    while i < m.len() {
-        line[127 - i] = lowered(received_at(m, gains, i), places);
+    while i < out.len() {
+        out[i] = shifted(received_at(m, gains, i), up, down);
         i += 1;
-    }
-}
-
-// The samples of a block into a line, raised.
-fn store_raised(m: &[i16], gains: &[u8], places: u32, line: &mut [i16])
-    requires { ⌜ (Receivable (now m) (now gains)) × (length (now m) ≤ 128) × (Each (Storable 15 places) (receivedAll (now m) (now gains))) × (length (now line) ≡ 144) × (places ≤ 15) ⌝ }
-    ensures { λ _. ⌜ Lined (map (λ (x : ℤ). rescale x 15 places) (receivedAll (now (m .entry)) (now (gains .entry)))) (length (now (m .entry))) (drop 128 (now (line .entry))) (now (line .exit)) ⌝ }
-{
-    let mut i: usize = 0;
-    while i < m.len() {
-        line[127 - i] = raised(received_at(m, gains, i), places);
-        i += 1;
-    }
-}
-
-// The samples of a block as stored, into a line before the old ones.
-pub fn store(m: &[i16], gains: &[u8], places: u32, line: &mut [i16])
-    requires { ⌜ (Receivable (now m) (now gains)) × (length (now m) ≤ 128) × (Each (Storable 15 places) (receivedAll (now m) (now gains))) × (length (now line) ≡ 144) × (places < 47) ⌝ }
-    ensures { λ _. ⌜ Lined (map (λ (x : ℤ). rescale x 15 places) (receivedAll (now (m .entry)) (now (gains .entry)))) (length (now (m .entry))) (drop 128 (now (line .entry))) (now (line .exit)) ⌝ }
-{
-    if 15 <= places {
-        store_lowered(m, gains, places, line)
-    } else {
-        store_raised(m, gains, places, line)
     }
 }
 

@@ -112,3 +112,15 @@ module _ {ℓ} {A : Type ℓ} (p : A → Bool) where
   all-at [] i d e h = absurd (not-suc-le-zero h)
   all-at (x ∷ xs) zero d e h = and-left (p x) (all xs) e
   all-at (x ∷ xs) (suc i) d e h = all-at xs i d (and-right (p x) (all xs) e) (le-of-suc-le-suc h)
+
+-- ---- as many elements replaced as there are
+
+module _ {ℓ} {A : Type ℓ} where
+  pub overlay-length : (i : ℕ) (new old : List A) → length (overlay i new old) ≡ length old
+  overlay-length zero new old = refl
+  overlay-length (suc i) [] old = refl
+  overlay-length (suc i) (x ∷ new) [] = refl
+  overlay-length (suc i) (x ∷ new) (y ∷ old) = ap suc (overlay-length i new old)
+
+  pub overlay-all : (n : ℕ) (new old : List A) → length new ≡ n → length old ≡ n → overlay n new old ≡ new
+  overlay-all n new old h k = written-all {old = old} {i = n} (record { long = overlay-length n new old; is = refl }) (omega arith) (omega arith)

@@ -9,6 +9,7 @@ use mir.Syntax.{w16}
 use borrow.Author.Needs.{needs}
 use Rattle.laws.specs.Lists.{Written, written-none, written-next, written-all}
 use Rattle.laws.specs.Machine.{kept}
+use Rattle.steps.specs.Limits.{blockLimit}
 use Rattle.block.specs.Line.{newest}
 use Rattle.block.proofs.line.newest.Statement.{statement}
 use Rattle.block.proofs.line.newest.Tie as tie
@@ -20,7 +21,7 @@ abbrev μ-loop : tie.MeasureT-loop
 μ-loop line n out₀ first i₀ out i = length out₀ - i
 
 long : (s : tie.Start Inv-loop μ-loop) → let a = s .args in length (newest (length (a .out .now)) (a .n) (a .line .now)) ≡ length (a .out .now)
-long s = let a = s .args in length-take-le (length (a .out .now)) (drop (128 - a .n) (a .line .now)) (omega (arith, s .pre, length-drop (128 - a .n) (a .line .now)))
+long s = let a = s .args in length-take-le (length (a .out .now)) (drop (blockLimit - a .n) (a .line .now)) (omega (arith, s .pre, length-drop (blockLimit - a .n) (a .line .now)))
 
 sub-first : tie.Need-sub-first Inv-loop μ-loop
 sub-first c = omega (arith, c .pre)
@@ -55,9 +56,9 @@ loop-again c =
     let l = c .before .before .loop in
     let a = s .args in
     written-next (l .inv) (pos 0) _ (omega (arith, long s, l .inv .long, c .before .loop-test .taken)) (omega (arith, l .inv .long, c .before .loop-test .taken))
-    (kept w16 (getD (a .line .now) (128 - a .n + l .i) (pos 0)) (c .out .given)
-    ∙ sym (getD-take (length (a .out .now)) (drop (128 - a .n) (a .line .now)) (l .i) (pos 0) (omega (arith, l .inv .long, c .before .loop-test .taken))
-    ∙ getD-drop (128 - a .n) (a .line .now) (l .i) (pos 0)))
+    (kept w16 (getD (a .line .now) (blockLimit - a .n + l .i) (pos 0)) (c .out .given)
+    ∙ sym (getD-take (length (a .out .now)) (drop (blockLimit - a .n) (a .line .now)) (l .i) (pos 0) (omega (arith, l .inv .long, c .before .loop-test .taken))
+    ∙ getD-drop (blockLimit - a .n) (a .line .now) (l .i) (pos 0)))
 
 same-length : tie.Need-same-length Inv-loop μ-loop
 same-length c = c .before .loop .inv .long

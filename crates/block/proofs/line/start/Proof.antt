@@ -3,21 +3,23 @@ use mathlib.Core.Path.{sym, _∙_}
 use Prim.Native.Nat.{_-_}
 use native.Mathlib.Omega.{arith}
 use lib.ListN.{length, getD}
+use lib.Seq.{paste, paste-zero, paste-suc}
 use lib.IntN.{pos}
 use mir.Syntax.{w16}
 use Rattle.laws.specs.Machine.{kept}
-use Rattle.block.proofs.LineLaws.{Placed, placed-none, placed-next, placed-all}
+use Rattle.steps.specs.Limits.{blockLimit}
+use Rattle.block.proofs.LineLaws.{Placed, placed-next, placed-all}
 use Rattle.block.proofs.line.start.Statement.{statement}
 use Rattle.block.proofs.line.start.Tie as tie
 
 abbrev Inv-loop : tie.InvT-loop
-Inv-loop old line₀ i₀ line i = Placed old i line
+Inv-loop old line₀ i₀ line i = Placed (paste line₀ blockLimit old) (length old) i line
 
 abbrev μ-loop : tie.MeasureT-loop
 μ-loop old line₀ i₀ line i = length old - i
 
 loop-holds : tie.Need-loop-holds Inv-loop μ-loop
-loop-holds c = placed-none _ _ (c .pre .1)
+loop-holds c = record { long = c .pre .1; within = omega arith; is = paste-zero (c .args .line .now) blockLimit (c .args .old .now) }
 
 mul-line : tie.Need-mul-line Inv-loop μ-loop
 mul-line c = omega arith
@@ -44,7 +46,8 @@ loop-again : tie.Need-loop-again Inv-loop μ-loop
 loop-again c =
     let l = c .before .before .loop in
     let a = c .before .before .before .args in
-    placed-next (l .inv) (omega arith) (omega arith) _ (kept w16 (getD (a .old .now) (l .i) (pos 0)) (c .line .given))
+    placed-next (l .inv) (c .before .loop-test .taken) _ _ (getD (a .old .now) (l .i) (pos 0)) (kept w16 _ (c .line .given))
+    (paste-suc (a .line .now) blockLimit (a .old .now) (l .i) (pos 0) (omega arith) (c .before .loop-test .taken))
 
 same-length : tie.Need-same-length Inv-loop μ-loop
 same-length c = c .before .loop .inv .long ∙ sym (c .before .before .pre .1)

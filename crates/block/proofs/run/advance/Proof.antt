@@ -8,12 +8,16 @@ use mir.Facts.{toZ-ofZ}
 use borrow.Author.Needs.{needs}
 use Rattle.laws.specs.Machine.{kept}
 use Rattle.filter.proofs.SampleLaws.{taken-of, taken-put}
+use Rattle.block.specs.Line.{place}
 use Rattle.block.proofs.LineLaws.{window-part, past-part, written-part}
 use Rattle.block.proofs.run.advance.Statement.{statement}
 use Rattle.block.proofs.run.advance.Tie as tie
 
 sub-first : tie.Need-sub-first
 sub-first c = search needs
+
+sub-first-2 : tie.Need-sub-first-2
+sub-first-2 c = search needs
 
 cast-oldest : tie.Need-cast-oldest
 cast-oldest c = search needs
@@ -69,7 +73,7 @@ step-requires c κs =
     let d = c .before .before .before .before in
     let s = start d in
     let a = s .args in
-    rw (window-part (a .k .p) (a .n) (a .line .now) (s .pre .room), past-part (a .k .q) (a .n) (a .marks .now) (s .pre .marks-long) (s .pre .room), entry-is d) (s .pre .ready, s .pre .longest-at)
+    rw (window-part (a .k .p) (a .n) (a .samples .now) (s .pre .room), past-part (a .k .q) (a .n) (a .symbols .now) (s .pre .symbols-long) (s .pre .room), entry-is d) (s .pre .ready, s .pre .longest-at)
 
 same-length : tie.Need-same-length
 same-length c = search needs
@@ -85,15 +89,16 @@ returns c =
     let d = c .before .before .before .before .before .before .before .before in
     let s = start d in
     let a = s .args in
-    let t = taken-of (window-part (a .k .p) (a .n) (a .line .now) (s .pre .room)) (past-part (a .k .q) (a .n) (a .marks .now) (s .pre .marks-long) (s .pre .room)) (entry-is d)
+    let t = taken-of (window-part (a .k .p) (a .n) (a .samples .now) (s .pre .room)) (past-part (a .k .q) (a .n) (a .symbols .now) (s .pre .symbols-long) (s .pre .room)) (entry-is d)
     (c .before .before .before .step .ensures) in
-    taken-put (sym (written-part (a .k .q) (a .n) (127 - a .n + a .k .q + 1 - (127 - a .n)) (a .marks .now) _ (s .pre .marks-long) (s .pre .room) (ap length (t .symbols-are) ∙ ap suc (s .pre .ready .fit .symbols-long)))) t
+    taken-put (sym (written-part (a .k .q) (a .n) (place (a .n) + a .k .q + 1 - place (a .n)) (a .symbols .now) _ (s .pre .symbols-long) (s .pre .room) (ap length (t .symbols-are) ∙ ap suc (s .pre .ready .fit .symbols-long)))) t
 
 pub advance-spec : {M : Type 1} → statement M
 advance-spec =
     tie.close
     (tie.spec
     sub-first
+    sub-first-2
     cast-oldest
     add-oldest
     cast-last

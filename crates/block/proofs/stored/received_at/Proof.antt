@@ -8,6 +8,7 @@ use mir.Syntax.{w16, w32}
 use borrow.Author.Needs.{needs}
 use Rattle.laws.specs.Machine.{kept}
 use Rattle.laws.specs.Sums.{each-at}
+use Rattle.steps.specs.Limits.{gainLimit}
 use Rattle.block.specs.Block.{received}
 use Rattle.block.proofs.ReceivedLaws.{received-at}
 use Rattle.block.proofs.stored.received_at.Statement.{statement}
@@ -25,7 +26,7 @@ shared-slice-read-received c = search needs
 received-requires : tie.Need-received-requires
 received-requires c κs =
     let s = c .before .before .before in
-    each-at (λ (g : ℕ). g ≤ 15) (s .args .gains .now) (s .args .i) 0 (s .pre .0 .gains-most) (omega arith)
+    each-at (λ (g : ℕ). g ≤ gainLimit) (s .args .gains .now) (s .args .i) 0 (s .pre .0 .gains-most) (omega arith)
 
 returns : tie.Need-returns
 returns c =
