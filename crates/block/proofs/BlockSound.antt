@@ -1,42 +1,25 @@
 -- A block on a sound state: every sample of it is fit, and what it leaves is sound.
-use mathlib.Core.Path.{_≡_, refl, _∙_}
-use mathlib.Core.Bool.{Bool, true, false}
-use mathlib.Core.List.{List, [], _∷_}
+use mathlib.Core.Path.{_≡_, _∙_}
+use mathlib.Core.Bool.{true}
+use mathlib.Core.List.{[], _∷_}
 use Prim.Native.Nat.{ℕ, zero, suc, _-_, _≤_, _<_}
 use native.Mathlib.Omega.{arith}
 use native.Mathlib.Nat.{le-refl}
-use lib.ListN.{length, getD, length-map}
+use lib.ListN.{length, getD}
 use lib.IntN.{ℤ, pos}
 use borrow.Author.Tests.{leb-true}
 use Rattle.laws.specs.Lists.{and-left, and-right}
 use Rattle.laws.specs.Sums.{Each, each-at, each-of, each-append}
-use Rattle.steps.specs.Limits.{exponentLimit}
 use Rattle.steps.specs.Settings.{Settings, isEntry}
-use Rattle.filter.specs.Sample.{Taps, v, settled, small, newForward, newBack, next}
+use Rattle.filter.specs.Sample.{Taps}
 use Rattle.block.specs.Block.{Block, Memory, newb, newB, g, stored, old, start, entered, after, at, goes, left}
 use Rattle.filter.specs.Sound.{Fit}
 use Rattle.block.specs.Sound.{Sound, Acceptable}
-use Rattle.steps.proofs.SymbolLaws.{symbol-entry}
-use Rattle.filter.proofs.SampleSides.{v-symbol}
-use Rattle.filter.proofs.SampleBounds.{bounded}
-use Rattle.steps.proofs.SideLaws.{adapt-length, push-length, push-each}
+use Rattle.steps.proofs.SideLaws.{push-length, push-each}
+use Rattle.filter.proofs.NextLaws.{next-fit}
 use Rattle.block.proofs.BlockExponents.{newb-newB, newB-most, g-least, g-most}
 use Rattle.block.proofs.BlockStored.{StateBound, SampleBound, stored-sound, stored-small, old-small, stored-length}
 use Rattle.block.proofs.BlockWindow.{after-length, left-length, left-at}
-
--- ---- a sample keeps the lengths
-
-settled-length : (b : Bool) (w : List ℤ) → length (settled b w) ≡ length w
-settled-length true w = refl
-settled-length false w = length-map w _
-
-next-forward-length : (k : Settings) (x : ℕ) (t : Taps) (e : ℤ) → length (next k x t e .forward) ≡ length (t .forward)
-unfolding next newForward
-next-forward-length k x t e = settled-length (small k x t e) (newForward k x t e) ∙ adapt-length _ (t .forward) _
-
-next-back-length : (k : Settings) (x : ℕ) (t : Taps) (e : ℤ) → length (next k x t e .back) ≡ length (t .back)
-unfolding next newBack
-next-back-length k x t e = settled-length (small k x t e) (newBack k x t e) ∙ adapt-length _ (t .back) _
 
 -- ---- before the first sample, and with a sample entered
 
@@ -88,32 +71,13 @@ left-samples k o i s a = each-of (StateBound k (newb k o i) (newB k o i)) (pos 0
         (each-at (StateBound k (newb k o i) (newB k o i)) (stored k o i) (k .N - 1 - j) (pos 0) (stored-sound k o i)
         (omega (arith, stored-length k o i a)))
 
--- one sample done
-fit-next : (k : Settings) (x : ℕ) (t : Taps) (e : ℤ) → Fit k x t → isEntry (k .r) e ≡ true → next k x t e .ψ ≤ exponentLimit → Fit k x (next k x t e)
-unfolding next
-fit-next k x t e f h l = record {
-  within = f .within;
-  admitted = f .admitted;
-  forward-long = next-forward-length k x t e ∙ f .forward-long;
-  back-long = next-back-length k x t e ∙ f .back-long;
-  samples-long = f .samples-long;
-  symbols-long = push-length (v k x t e) (t .symbols) ∙ f .symbols-long;
-  forward-small = bounded k x t e f h .next-forward;
-  back-small = bounded k x t e f h .next-back;
-  samples-small = f .samples-small;
-  symbols-are = push-each (λ (z : ℤ). isEntry (k .r) z ≡ true) (v k x t e) (t .symbols) (symbol-entry (k .r) (v k x t e) (v-symbol k x t e f h)) (f .symbols-are);
-  ψ-most = l;
-  g-least = f .g-least;
-  g-most = f .g-most;
-}
-
 module _ (k : Settings) (o : Memory) (i : Block) (s : Sound k o) (a : Acceptable k i) where
   -- when n samples are done
   pub fit-after : (n : ℕ) → n ≤ k .N → goes k o i n ≡ true → Fit k (g k o i) (after k o i n)
   unfolding after goes
   fit-after zero h e = fit-start k o i s a
   fit-after (suc n) h e =
-      fit-next k (g k o i) (entered k o i n (after k o i n)) (getD (i .entries) n (pos 0))
+      next-fit k (g k o i) (entered k o i n (after k o i n)) (getD (i .entries) n (pos 0))
       (fit-entered k o i n (after k o i n) a h (fit-after n (omega arith) (and-left (goes k o i n) _ e)))
       (each-at (λ (z : ℤ). isEntry (k .r) z ≡ true) (i .entries) n (pos 0) (a .entries-are) (omega (arith, a .entries-long)))
       (leb-true _ _ (and-right (goes k o i n) _ e))

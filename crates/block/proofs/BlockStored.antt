@@ -13,9 +13,10 @@ use Rattle.numbers.specs.Cut.{rescale}
 use Rattle.numbers.proofs.CutLaws.{rescale-most}
 use Rattle.steps.specs.Limits.{lengthLimit}
 use Rattle.steps.specs.Settings.{Settings, scaleForward}
+use Rattle.steps.specs.Sound.{Storable}
 use Rattle.filter.proofs.SampleSides.{scale-most}
 use Rattle.block.specs.Block.{Block, Memory, receivedAll, newb, newB, stored, old}
-use Rattle.block.specs.Sound.{Sound, Acceptable, Receivable, StoreBounds, Storable}
+use Rattle.block.specs.Sound.{Sound, Acceptable, Receivable, StoreBounds}
 use Rattle.block.proofs.BlockExponents.{received-below, newb-newB, oldb-newB, newb-most, newB-most}
 use Rattle.block.proofs.ReceivedLaws.{received-length}
 

@@ -1,5 +1,5 @@
 -- The stored samples that the weights meet: this block's, newest first, then the old ones.
-use mathlib.Core.Path.{_≡_, refl, ap, _∙_}
+use mathlib.Core.Path.{_≡_, sym, ap, _∙_}
 use mathlib.Core.List.{List, [], _∷_}
 use Prim.Native.Nat.{ℕ, zero, suc, _+_, _-_, _≤_, _<_}
 use native.Mathlib.Omega.{arith}
@@ -7,29 +7,34 @@ use lib.ListN.{length, getD, length-append, List·getD-append}
 use lib.Seq.{length-take-le, getD-take}
 use lib.IntN.{ℤ, pos}
 use Rattle.steps.specs.Settings.{Settings}
-use Rattle.filter.specs.Sample.{next}
-use Rattle.block.specs.Block.{Block, Memory, stored, old, start, after, at, left}
+use Rattle.steps.specs.Side.{push}
+use Rattle.filter.proofs.NextLaws.{next-samples}
+use Rattle.block.specs.Block.{Block, Memory, g, stored, old, start, after, at, left}
 use Rattle.steps.proofs.SideLaws.{push-length, push-at}
 use Rattle.block.proofs.BlockStored.{old-length}
 
 same-place : (l : List ℤ) (m n : ℕ) → m ≡ n → getD l m (pos 0) ≡ getD l n (pos 0)
 same-place l m n e = ap (λ (j : ℕ). getD l j (pos 0)) e
 
+-- the samples when one more is done
+pub after-next : (k : Settings) (o : Memory) (i : Block) (n : ℕ) → after k o i (suc n) .samples ≡ push (getD (stored k o i) n (pos 0)) (after k o i n .samples)
+unfolding after
+after-next k o i n = next-samples k (g k o i) _ _
+
 module _ (k : Settings) (o : Memory) (i : Block) (p-least : 1 ≤ k .p) (long : length (o .samples) ≡ k .p - 1) where
   pub after-length : (n : ℕ) → length (after k o i n .samples) ≡ k .p
-  unfolding after start next
+  unfolding after start
   after-length zero = length-append (old k o i) (pos 0 ∷ []) ∙ omega (arith, old-length k o i long)
-  after-length (suc n) = push-length (getD (stored k o i) n (pos 0)) (after k o i n .samples) ∙ after-length n
+  after-length (suc n) = ap length (after-next k o i n) ∙ push-length (getD (stored k o i) n (pos 0)) (after k o i n .samples) ∙ after-length n
 
   -- the samples at a sample are those when it is done
   at-after : (n : ℕ) → at k o i n .samples ≡ after k o i (suc n) .samples
-  unfolding at after next
-  at-after n = refl
+  unfolding at
+  at-after n = sym (after-next k o i n)
 
   -- when one sample more is done
   after-push : (n j : ℕ) → j < k .p → getD (after k o i (suc n) .samples) j (pos 0) ≡ getD (getD (stored k o i) n (pos 0) ∷ after k o i n .samples) j (pos 0)
-  unfolding after next
-  after-push n j h = push-at (getD (stored k o i) n (pos 0)) (after k o i n .samples) j (omega (arith, after-length n))
+  after-push n j h = ap (λ (s : List ℤ). getD s j (pos 0)) (after-next k o i n) ∙ push-at (getD (stored k o i) n (pos 0)) (after k o i n .samples) j (omega (arith, after-length n))
 
   -- when n samples are done, the places before n hold those of this block
   after-new : (n j m : ℕ) → j < k .p → n ≡ suc (j + m) → getD (after k o i n .samples) j (pos 0) ≡ getD (stored k o i) m (pos 0)

@@ -9,11 +9,15 @@ use lib.ListN.{length, getD}
 use lib.IntN.{ℤ, pos, natAbs}
 use Rattle.laws.specs.Powers.{split, rises}
 use Rattle.laws.specs.Sums.{Each}
+use Rattle.numbers.specs.BitLength.{bitLength}
 use Rattle.numbers.specs.Cut.{rescale}
-use Rattle.numbers.proofs.CutLaws.{raise-abs, rescale-up, rescale-down}
+use Rattle.numbers.proofs.CutLaws.{raise-abs, rescale-up, rescale-shifts}
+use Rattle.steps.specs.Side.{magnitudes, together}
+use Rattle.steps.proofs.LargestLaws.{together-longest, longest-is}
 use Rattle.steps.specs.Limits.{gainLimit, scaleLimit, lengthLimit}
 use Rattle.block.specs.Block.{received, receivedAll}
 use Rattle.block.specs.Sound.{ShiftBounds}
+use Rattle.block.specs.Calls.{blockLength}
 
 -- a sample of 16 bits with a gain of L or more is at most 2^(30−L)
 pub received-most : (L g m : ℕ) → L ≤ gainLimit → L ≤ g → m ≤ 2 ^ 15 → m * 2 ^ (15 - g) ≤ 2 ^ (30 - L)
@@ -41,14 +45,11 @@ received-at (m ∷ ms) [] i h k = absurd (not-suc-le-zero k)
 received-at (m ∷ ms) (g ∷ gs) zero h k = refl
 received-at (m ∷ ms) (g ∷ gs) (suc i) h k = received-at ms gs i (le-of-suc-le-suc h) (le-of-suc-le-suc k)
 
--- ---- one shift up and one down
+-- their bits together are as many as the largest has
+pub received-longest : (m : List ℤ) (gains : List ℕ) → bitLength (together (magnitudes (receivedAll m gains))) ≡ blockLength m gains
+received-longest m gains = together-longest (receivedAll m gains) ∙ longest-is (receivedAll m gains)
 
-pub rescale-shifts : (z : ℤ) (i j : ℕ) → rescale z i j ≡ rescale z (i - j) (j - i)
-rescale-shifts z i j = go (decLe i j)
-  where
-    go : Dec (i ≤ j) → rescale z i j ≡ rescale z (i - j) (j - i)
-    go (yes l) = rescale-down z i j (j - i) (omega arith) ∙ sym (rescale-down z (i - j) (j - i) (j - i) (omega arith))
-    go (no l) = rescale-up z i j (i - j) (omega arith) ∙ sym (rescale-up z (i - j) (j - i) (i - j) (omega arith))
+-- ---- one shift up and one down
 
 pub shifted-is : (places : ℕ) {x y : ℤ} {up down : ℕ} → x ≡ y → up ≡ 15 - places → down ≡ places - 15 → rescale x up down ≡ rescale y 15 places
 shifted-is places {y = y} e u d = rw (e, u, d) (sym (rescale-shifts y 15 places))

@@ -15,9 +15,9 @@ use Rattle.laws.specs.Lists.{Written, written-none, written-next}
 use Rattle.laws.specs.Sums.{each-at}
 use Rattle.steps.specs.Limits.{tapLimit, blockLimit, exponentLimit, lineLength}
 use Rattle.steps.specs.Settings.{Settings, isEntry}
-use Rattle.filter.specs.Sample.{Taps, next}
+use Rattle.filter.specs.Sample.{Taps}
 use Rattle.filter.specs.Sound.{Fit}
-use Rattle.filter.specs.Calls.{LongestAt, NextDelay, SampleResult-is, tapsOf}
+use Rattle.filter.specs.Calls.{LongestAt, nextDelay, SampleResult-is, tapsOf}
 use Rattle.filter.specs.declared.sample.SampleResult.{SampleResult}
 use Rattle.block.specs.Block.{Block, Memory, Outputs, newb, newB, g, after, at, goes, count, entryAt, handedY, handedξ, handedDecision, handedZ, handedθ, handed}
 use Rattle.block.specs.Line.{place, newest}
@@ -25,9 +25,12 @@ use Rattle.block.specs.Calls.{outputsOf, tapsAfter, tapsAt, Advanceable,
 use Rattle.block.specs.declared.run.BlockExponents.{BlockExponents}
 use Rattle.block.specs.declared.run.Progress.{Progress}
 use Rattle.block.specs.declared.run.BlockResult.{BlockResult}
+use Rattle.filter.proofs.NextLaws.{next-symbols}
+use Rattle.filter.proofs.DelayLaws.{next-delay-most, next-longest-at}
 use Rattle.block.proofs.ValuesLaws.{values-length, values-at}
 use Rattle.block.proofs.BlockCount.{count-most, count-all, count-stopped}
 use Rattle.block.proofs.BlockSound.{fit-at, fit-after}
+use Rattle.block.proofs.BlockWindow.{after-next}
 use Rattle.block.proofs.LineLaws.{newest-given, newest-longest-at}
 
 -- what the loop carries: the weights, the line of symbols, ψ and the lists that are handed out
@@ -118,8 +121,8 @@ module _ {k : Settings} {o : Memory} {i : Block} {e : BlockExponents} {ψ : ℕ}
       taps = tapsAt k (w .n) (w .forward) (w .back) samples (w .symbols) (w .ψ)
 
       taps-at : taps ≡ at k o i (w .n)
-      unfolding at after next
-      taps-at = ap₂ (λ (t : Taps) (a : List ℤ). tapsOf (t .forward) (t .back) a (t .symbols) (t .ψ)) (p .reached .taps-are) (b .sample-line .windows (suc (w .n)) more)
+      unfolding at
+      taps-at = ap₂ (λ (t : Taps) (a : List ℤ). tapsOf (t .forward) (t .back) a (t .symbols) (t .ψ)) (p .reached .taps-are) (b .sample-line .windows (suc (w .n)) more ∙ after-next k o i (w .n))
 
       fit-now : Fit k (g k o i) (at k o i (w .n))
       fit-now = fit-at k o i (b .sound) (b .acceptable) (w .n) more (p .goes-on)
@@ -163,8 +166,16 @@ module _ {k : Settings} {o : Memory} {i : Block} {e : BlockExponents} {ψ : ℕ}
         }
 
         taps-next : tapsAfter k (suc (w .n)) forward back samples symbols (t .psi) ≡ after k o i (suc (w .n))
-        unfolding after at next
-        taps-next = rw (step .forward-is, step .back-is, b .sample-line .windows (suc (w .n)) more, newest-given (k .q) (w .n) symbols _ _ (step .symbols-are) (fit-now .symbols-long), ψ-next)
+        unfolding after at
+        taps-next =
+            let x = next-symbols k (g k o i) (at k o i (w .n)) (entryAt k o i (w .n)) in
+            rw (
+              step .forward-is,
+              step .back-is,
+              b .sample-line .windows (suc (w .n)) more,
+              newest-given (k .q) (w .n) symbols _ _ (step .symbols-are) (fit-now .symbols-long) ∙ sym x,
+              ψ-next,
+            )
 
         reached : Reached k o i samples l work
         unfolding handedY handedξ handedDecision handedZ handedθ
@@ -180,14 +191,14 @@ module _ {k : Settings} {o : Memory} {i : Block} {e : BlockExponents} {ψ : ℕ}
         }
 
         -- ψ kept its limit
-        pub passed-next : t .psi ≤ exponentLimit → {delay′ : ℕ} {v : ℤ} → v ≡ getD symbols (place (w .n)) (pos 0) → NextDelay (k .r) delay v delay′ → Passed k o i samples l work delay′
+        pub passed-next : t .psi ≤ exponentLimit → {delay′ : ℕ} {v : ℤ} → v ≡ getD symbols (place (w .n)) (pos 0) → delay′ ≡ nextDelay (k .r) delay v → Passed k o i samples l work delay′
         unfolding goes
-        passed-next m {delay′ = delay′} ev d = record {
+        passed-next m {v = v} ev d = record {
           reached = reached;
           goes-on = rw (add-one (w .n), p .goes-on) (le-leb _ _ (subst (λ (x : ℕ). x ≤ exponentLimit) ψ-next m));
-          delay-most = omega (arith, d .0, p .delay-most);
-          longest-at = rw (add-one (w .n)) (newest-longest-at (k .r) delay′ (k .q) (w .n) symbols _ _ (h .symbols-are) long room
-              (subst (λ (x : ℤ). LongestAt (k .r) delay′ (x ∷ taps .symbols)) ev (d .1 (taps .symbols) (p .longest-at))));
+          delay-most = omega (arith, d, next-delay-most (k .r) delay v, p .delay-most);
+          longest-at = rw (add-one (w .n), d) (newest-longest-at (k .r) (nextDelay (k .r) delay v) (k .q) (w .n) symbols _ _ (h .symbols-are) long room
+              (subst (λ (x : ℤ). LongestAt (k .r) (nextDelay (k .r) delay v) (x ∷ taps .symbols)) ev (next-longest-at (k .r) delay v (taps .symbols) (p .longest-at))));
         }
 
         -- ψ passes it
@@ -228,7 +239,7 @@ within h e w = omega (arith, w .long)
 pub line-place : (n : ℕ) (line : List ℤ) → length line ≡ lineLength → place n < length line
 line-place n line e = omega arith
 
-pub delay-fits : {delay n : ℕ} → n < blockLimit → delay ≤ tapLimit + n → delay ≤ 256
+pub delay-fits : {delay n : ℕ} → n < blockLimit → delay ≤ tapLimit + n → delay ≤ lineLength
 delay-fits h m = omega arith
 
 pub next-fits : (n : ℕ) → n < blockLimit → Fits w64 (n + 1)

@@ -11,14 +11,13 @@ use Rattle.numbers.proofs.CutLaws.{rescale-zero}
 use Rattle.steps.specs.Limits.{tapLimit, blockLimit, lineLength}
 use Rattle.steps.specs.Settings.{Settings}
 use Rattle.steps.specs.Side.{push}
-use Rattle.filter.specs.Sample.{Taps, next}
+use Rattle.steps.specs.Sound.{Storable}
 use Rattle.block.specs.Block.{Block, Memory, Outputs, storedAll, newb, newB, g, stored, old, start, after}
-use Rattle.block.specs.Sound.{Storable}
 use Rattle.block.specs.Line.{place, newest, started, added}
 use Rattle.block.specs.Calls.{Startable, BlockExponents-is, ExponentsOf, FillBounds, filled, SampleLine, Runnable, BegunOn}
 use Rattle.block.specs.declared.run.BlockExponents.{BlockExponents}
 use Rattle.block.proofs.BlockStored.{receivable, store-bounds, old-storable}
-use Rattle.block.proofs.BlockWindow.{after-length}
+use Rattle.block.proofs.BlockWindow.{after-next}
 use Rattle.block.proofs.LineLaws.{started-length, started-old, added-length, added-old, added-at, newest-next}
 
 module _ {k : Settings} {o : Memory} {i : Block} {window₀ : List ℤ} {l : Outputs} (run : Runnable k o i window₀ l) where
@@ -97,12 +96,11 @@ module _ {k : Settings} {o : Memory} {i : Block} {e : BlockExponents} {window₀
           ∙ ap (λ (m : ℕ). getD (storedAll m (i .samples) (i .gains)) n (pos 0)) (omega (arith, b .big-is, b .s-is))
 
       windows : (n : ℕ) → n ≤ k .N → newest (k .p) n line ≡ after k o i n .samples
-      unfolding after next
       windows zero m =
           ap₂ (λ (n : ℕ) (t : List ℤ). take n t) (sym window-long) (ap (drop blockLimit) is ∙ added-old _ _ (started window line₀)) ∙ started-old window line₀ h ∙ window-rescaled
       windows (suc n) m =
           newest-next (k .p) n line line-long (omega (arith, run .sound .within .N-most)) (run .sound .within .p-most)
-          ∙ ap₂ (λ (x : ℤ) (w : List ℤ). push x w) (stored-in n m) (windows n (omega arith))
+          ∙ ap₂ (λ (x : ℤ) (w : List ℤ). push x w) (stored-in n m) (windows n (omega arith)) ∙ sym (after-next k o i n)
 
       sample-line : SampleLine k o i line
       sample-line = record { long = line-long; windows = windows }

@@ -57,9 +57,3 @@ pub record StoreBounds (m : List ℤ) (gains : List ℕ) (places : ℕ) : Type 0
   pub receivable : Receivable m gains
   pub places-most : places ≤ lengthLimit + scaleLimit
   pub fitting : Each (λ (x : ℤ). (natAbs x < 2 ^ 31) × (natAbs (rescale x 15 places) < 2 ^ 15)) (receivedAll m gains)
-
--- a number whose T(z·2^(i−j)) fits 16 bits
-pub record Storable (i j : ℕ) (z : ℤ) : Type 0 where
-  pub shift : i < 63
-  pub room : natAbs z * 2 ^ i < 2 ^ 63
-  pub bound : natAbs (rescale z i j) < 2 ^ 15

@@ -1,6 +1,6 @@
 // One block.
 ghost use mathlib.Core.Path.{_≡_};
-ghost use Prim.Native.Nat.{suc, max};
+ghost use Prim.Native.Nat.{suc};
 ghost use Rattle.filter.specs.Calls.{settingsOf, SampleResult-is};
 ghost use Rattle.block.specs.Block.{storedAll};
 ghost use Rattle.block.specs.Line.{newest};
@@ -39,7 +39,7 @@ pub fn begin(k: Settings, was: u32, m: &[i16], gains: &[u8]) -> BlockExponents
     let s = numbers::scale_count::scale_count(k.p as usize);
     let sb = numbers::scale_count::scale_count(k.q as usize);
     let b = numbers::bit_length::bit_length(super::stored::received_bits(m, gains) as u64);
-    let big = larger(b, was);
+    let big = steps::exponent::larger(b, was);
     BlockExponents {
         s: s,
         sb: sb,
@@ -47,12 +47,6 @@ pub fn begin(k: Settings, was: u32, m: &[i16], gains: &[u8]) -> BlockExponents
         big: big,
         g: k.r + big + s,
     }
-}
-
-fn larger(a: u32, b: u32) -> u32
-    ensures { λ r. ⌜ r ≡ max a b ⌝ }
-{
-    if a < b { b } else { a }
 }
 
 // The samples of a block as stored, and in a line before the old ones.
@@ -182,7 +176,7 @@ pub fn run(
     ensures { λ r. ⌜ BlockResult-is (settingsOf k) (memoryOf (now (forward .entry)) (now (back .entry)) (now (samples .entry)) (now (symbols .entry)) psi b big) (blockOf (now (m .entry)) (now (gains .entry)) (now (entries .entry))) (outputsOf (now (y .entry)) (now (xi .entry)) (now (decision .entry)) (now (z .entry)) (now (theta .entry))) r (now (forward .exit)) (now (back .exit)) (now (samples .exit)) (now (symbols .exit)) (outputsOf (now (y .exit)) (now (xi .exit)) (now (decision .exit)) (now (z .exit)) (now (theta .exit))) ⌝ }
 {
     let e = begin(k, b, m, gains);
-    super::stored::rescale_all(samples, big, e.big);
+    steps::side::rescale_all(samples, big, e.big);
     let n = m.len();
     let mut stored = [0i16; limits::BLOCK];
     let mut sample_line = [0i16; limits::LINE];

@@ -1,16 +1,13 @@
 // The samples of a block: as received, and as stored.
 ghost use mathlib.Core.Path.{_≡_};
-ghost use mathlib.Core.List.{map};
 ghost use Prim.Native.Nat.{_-_, _<_, _≤_};
 ghost use lib.ListN.{length, getD};
-ghost use lib.IntN.{ℤ, pos, natAbs};
-ghost use Rattle.laws.specs.Sums.{Each};
-ghost use Rattle.numbers.specs.BitLength.{bitLength};
+ghost use lib.IntN.{pos};
 ghost use Rattle.numbers.specs.Cut.{rescale};
 ghost use Rattle.steps.specs.Limits.{gainLimit};
+ghost use Rattle.steps.specs.Side.{magnitudes, together};
 ghost use Rattle.block.specs.Block.{received, receivedAll, storedAll};
-ghost use Rattle.block.specs.Calls.{blockLength};
-ghost use Rattle.block.specs.Sound.{Receivable, Storable, ShiftBounds, StoreBounds};
+ghost use Rattle.block.specs.Sound.{Receivable, ShiftBounds, StoreBounds};
 
 // X = m·2^(15−g).
 pub fn received(m: i16, g: u8) -> i32
@@ -18,13 +15,6 @@ pub fn received(m: i16, g: u8) -> i32
     ensures { λ r. ⌜ r ≡ received m g ⌝ }
 {
     numbers::cut::raise32(m as i32, 15 - (g as u32))
-}
-
-// |X|.
-fn size(x: i32) -> u32
-    ensures { λ r. ⌜ r ≡ natAbs x ⌝ }
-{
-    numbers::bit_length::magnitude(x as i64) as u32
 }
 
 // X of the sample at a place.
@@ -35,15 +25,15 @@ fn received_at(m: &[i16], gains: &[u8], i: usize) -> i32
     received(m[i], gains[i])
 }
 
-// The bits of every |X| of a block together: as many as the largest has.
+// The bits of every |X| of a block together.
 pub fn received_bits(m: &[i16], gains: &[u8]) -> u32
     requires { ⌜ Receivable (now m) (now gains) ⌝ }
-    ensures { λ r. ⌜ bitLength r ≡ blockLength (now (m .entry)) (now (gains .entry)) ⌝ }
+    ensures { λ r. ⌜ r ≡ together (magnitudes (receivedAll (now (m .entry)) (now (gains .entry)))) ⌝ }
 {
     let mut seen: u32 = 0;
     let mut i: usize = 0;
     while i < m.len() {
-        seen |= size(received_at(m, gains, i));
+        seen |= numbers::bit_length::magnitude32(received_at(m, gains, i));
         i += 1;
     }
     seen
@@ -75,25 +65,5 @@ pub fn store(m: &[i16], gains: &[u8], places: u32, out: &mut [i16])
     while i < out.len() {
         out[i] = shifted(received_at(m, gains, i), up, down);
         i += 1;
-    }
-}
-
-// T(z·2^(i−j)) of a number whose result fits 16 bits.
-fn restored(z: i64, i: u32, j: u32) -> i16
-    requires { ⌜ Storable i j z ⌝ }
-    ensures { λ r. ⌜ r ≡ rescale z i j ⌝ }
-{
-    numbers::cut::rescale(z, i, j) as i16
-}
-
-// The old stored samples at another exponent.
-pub fn rescale_all(xs: &mut [i16], i: u32, j: u32)
-    requires { ⌜ Each (Storable i j) (now xs) ⌝ }
-    ensures { λ _. ⌜ now (xs .exit) ≡ map (λ (a : ℤ). rescale a i j) (now (xs .entry)) ⌝ }
-{
-    let mut n: usize = 0;
-    while n < xs.len() {
-        xs[n] = restored(xs[n] as i64, i, j);
-        n += 1;
     }
 }

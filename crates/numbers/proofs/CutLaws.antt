@@ -196,3 +196,12 @@ lift-negative w z low k f g e t = rw (toZ-ofZ f, toZ-ofZ g, e) (fits, ap (λ (x 
 
     fits : SFits w (z +ℤ pos (2 ^ k - 1))
     fits = fits-opposite z (2 ^ k - 1) below f (rw e at g .sfits)
+
+-- ---- one shift up and one down, of which one is none
+
+pub rescale-shifts : (z : ℤ) (i j : ℕ) → rescale z i j ≡ rescale z (i - j) (j - i)
+rescale-shifts z i j = go (decLe i j)
+  where
+    go : Dec (i ≤ j) → rescale z i j ≡ rescale z (i - j) (j - i)
+    go (yes l) = rescale-down z i j (j - i) (omega arith) ∙ sym (rescale-down z (i - j) (j - i) (j - i) (omega arith))
+    go (no l) = rescale-up z i j (i - j) (omega arith) ∙ sym (rescale-up z (i - j) (j - i) (i - j) (omega arith))

@@ -3,9 +3,11 @@ use mathlib.Core.Path.{_≡_, ap, ap₂, _∙_}
 use Prim.Native.Nat.{ℕ, _+_, _≤_, max}
 use native.Mathlib.Omega.{arith}
 use borrow.Author.Needs.{needs}
+use Rattle.numbers.specs.BitLength.{bitLength}
 use Rattle.numbers.proofs.BitLengthLaws.{bit-length-le}
 use Rattle.block.specs.Calls.{blockLength}
 use Rattle.filter.proofs.SampleSides.{scale-most}
+use Rattle.block.proofs.ReceivedLaws.{received-longest}
 use Rattle.block.proofs.run.begin.Statement.{statement}
 use Rattle.block.proofs.run.begin.Tie as tie
 
@@ -44,7 +46,9 @@ abbrev start : tie.After-received-bits → tie.Start
 start c = scaled c .before .before .before
 
 length-is : (c : tie.After-larger) → c .before .bit-length .result ≡ blockLength (start (loud c) .args .m .now) (start (loud c) .args .gains .now)
-length-is c = c .before .bit-length .ensures ∙ loud c .received-bits .ensures
+length-is c =
+    let a = start (loud c) .args in
+    c .before .bit-length .ensures ∙ ap bitLength (loud c .received-bits .ensures) ∙ received-longest (a .m .now) (a .gains .now)
 
 length-most : (c : tie.After-larger) → c .before .bit-length .result ≤ 64
 length-most c = omega (arith, c .before .bit-length .ensures, bit-length-le (loud c .received-bits .result) 64 (omega (arith, loud c .received-bits .ok)))
