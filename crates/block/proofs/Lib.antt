@@ -8,6 +8,7 @@ pub mod LineLaws
 pub mod BlockNear
 pub mod BlockCount
 pub mod BlockSound
+pub mod BlockLeft
 pub mod RunStart
 pub mod RunLaws
 pub mod BlockHolds
