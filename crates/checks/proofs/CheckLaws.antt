@@ -7,6 +7,7 @@ use lib.Dec.{leb, eqb}
 use lib.ListN.{length}
 use borrow.Author.Tests.{leb-true, eqb-true, eqb-false, ne-eqb}
 use Rattle.laws.specs.Lists.{and-left, and-right, all}
+use Rattle.steps.specs.Limits.{gainLimit, places}
 use Rattle.steps.specs.Settings.{isEntry}
 use Rattle.checks.specs.Checks.{Lent, block, lengthsFit, gainFits, checkNumber}
 use Rattle.state.specs.Answers.{examined}
@@ -88,7 +89,7 @@ module _ (e : Equaliser) (l : Lent) (passed : checkNumber e l ≡ 0) where
         theta = theta .1;
       }
 
-  pub checked-is : length (e .weights) ≡ 32 → length (e .past) ≡ 32 → Sampled (l .m) → Checked e (block l)
+  pub checked-is : length (e .weights) ≡ places → length (e .past) ≡ places → Sampled (l .m) → Checked e (block l)
   checked-is w d m =
       let t = check-tests in
       record {
@@ -100,8 +101,8 @@ module _ (e : Equaliser) (l : Lent) (passed : checkNumber e l ≡ 0) where
           gains-long = long .gains;
           entries-long = long .entries;
           samples-are = m;
-          gains-least = each-tested (gainFits (e .l)) _ (λ g h. leb-true (e .l) g (and-left (leb (e .l) g) (leb g 15) h)) (l .gains) (t .2);
-          gains-most = each-tested (gainFits (e .l)) _ (λ g h. leb-true g 15 (and-right (leb (e .l) g) (leb g 15) h)) (l .gains) (t .2);
+          gains-least = each-tested (gainFits (e .l)) _ (λ g h. leb-true (e .l) g (and-left (leb (e .l) g) (leb g gainLimit) h)) (l .gains) (t .2);
+          gains-most = each-tested (gainFits (e .l)) _ (λ g h. leb-true g gainLimit (and-right (leb (e .l) g) (leb g gainLimit) h)) (l .gains) (t .2);
           entries-are = each-tested (isEntry (e .r)) _ (λ v h. h) (l .entries) (t .3);
         };
       }

@@ -2,23 +2,23 @@
 ghost use mathlib.Core.Path.{_≡_};
 ghost use Prim.Native.Nat.{_≤_};
 ghost use Rattle.laws.specs.Lists.{all};
+ghost use Rattle.steps.specs.Limits.{symbolLimit};
 ghost use Rattle.steps.specs.Settings.{isEntry};
 ghost use Rattle.checks.specs.Checks.{gainFits, lengthsFit, checkNumber};
 ghost use Rattle.checks.specs.Calls.{lentOf, Sampled};
 use state::equaliser::Equaliser;
 
 pub fn all_entries(xs: &[i8], r: u32) -> bool
-    requires { ⌜ r ≤ 3 ⌝ }
+    requires { ⌜ r ≤ symbolLimit ⌝ }
     ensures { λ f. ⌜ f ≡ all (isEntry r) (now (xs .entry)) ⌝ }
 {
+    let mut fit = true;
     let mut i: usize = 0;
     while i < xs.len() {
-        if !state::sound::is_entry(xs[i] as i16, r) {
-            return false;
-        }
+        fit = fit & state::sound::is_entry(xs[i] as i16, r);
         i += 1;
     }
-    true
+    fit
 }
 
 pub fn all_gains(gains: &[u8], l: u8) -> bool

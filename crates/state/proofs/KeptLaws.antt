@@ -10,14 +10,13 @@ use lib.IntN.{ℤ, pos, natAbs}
 use borrow.Author.Tests.{le-leb, lt-ltb}
 use Rattle.laws.specs.Lists.{all}
 use Rattle.laws.specs.Sums.{Each, each-append}
-use Rattle.steps.specs.Limits.{halvingLimit}
+use Rattle.steps.specs.Limits.{exponentLimit, halvingLimit, lengthLimit, places}
 use Rattle.steps.specs.Settings.{Settings, scaleForward, isEntry}
 use Rattle.steps.specs.Side.{allSmall, isSmall}
 use Rattle.steps.specs.Sound.{Small}
 use Rattle.block.specs.Block.{Memory}
 use Rattle.block.specs.Sound.{Sound}
 use Rattle.state.specs.Sizes.{sizesFit, admits}
-use Rattle.steps.specs.Limits.{places}
 use Rattle.state.specs.State.{memory, isZero, isStored, soundExponents, soundWeights, soundPast, isSound, padded, stateOf}
 use Rattle.state.specs.Answers.{examined}
 use Rattle.state.proofs.ListTests.{tested-each, all-replicate}
@@ -81,7 +80,7 @@ module _ (k : Settings) (o : Memory) (s : Sound k o) where
 
   exponents-pass : soundExponents (stateOf k o) ≡ true
   unfolding stateOf
-  exponents-pass = both _ _ (both _ _ (le-leb (o .ψ) 15 (s .ψ-most)) (le-leb (o .b) (o .B) (s .b-most))) (le-leb (o .B + k .L) 31 (s .B-most))
+  exponents-pass = both _ _ (both _ _ (le-leb (o .ψ) exponentLimit (s .ψ-most)) (le-leb (o .b) (o .B) (s .b-most))) (le-leb (o .B + k .L) lengthLimit (s .B-most))
 
   weights-pass : soundWeights (stateOf k o) ≡ true
   unfolding stateOf

@@ -5,18 +5,18 @@ use mathlib.Core.List.{List}
 use Prim.Native.Nat.{ℕ, _+_, _*_, _-_, _^_, _≤_}
 use native.Mathlib.Omega.{arith}
 use native.Mathlib.Nat.{le-refl, sub-le}
-use lib.Dec.{ltb}
 use lib.ListN.{length, take, drop, replicate, length-drop, getD-replicate}
 use lib.Seq.{length-take-le, take-add}
-use lib.IntN.{ℤ, pos, natAbs}
+use lib.IntN.{ℤ, pos}
 use borrow.Author.Tests.{leb-true, le-leb, ltb-true, lt-ltb}
 use Rattle.laws.specs.Lists.{all, and-left, and-right}
+use Rattle.steps.specs.Limits.{exponentLimit, lengthLimit, places}
 use Rattle.steps.specs.Settings.{Settings, Within, scaleForward, isEntry}
+use Rattle.steps.specs.Side.{isSmall}
 use Rattle.steps.specs.Sound.{Small}
 use Rattle.block.specs.Sound.{Sound}
 use Rattle.filter.proofs.SideBounds.{all-small}
 use Rattle.state.specs.Sizes.{sizesFit, admits}
-use Rattle.steps.specs.Limits.{places}
 use Rattle.state.specs.State.{settings, memory, taps, samples, filler, symbols, isZero, isStored, soundExponents, soundWeights, soundPast, isSound, fresh}
 use Rattle.state.specs.Answers.{examined}
 use Rattle.state.specs.declared.equaliser.Equaliser.{Equaliser}
@@ -34,23 +34,23 @@ sound-tests e h =
       and-right (soundExponents e && soundWeights e) (soundPast e) h,
     )
 
--- ψ ≤ 15, b ≤ B and B + L ≤ 31
-pub exponents-bound : (e : Equaliser) → soundExponents e ≡ true → (e .psi ≤ 15) × (e .b ≤ e .big) × (e .big + e .l ≤ 31)
+-- ψ, b, and B with L
+pub exponents-bound : (e : Equaliser) → soundExponents e ≡ true → (e .psi ≤ exponentLimit) × (e .b ≤ e .big) × (e .big + e .l ≤ lengthLimit)
 exponents-bound e h =
-    let big = last-le _ (e .big + e .l) 31 h in
+    let big = last-le _ (e .big + e .l) lengthLimit h in
     let b = last-le _ (e .b) (e .big) (big .0) in
-    (leb-true (e .psi) 15 (b .0), b .1, big .1)
+    (leb-true (e .psi) exponentLimit (b .0), b .1, big .1)
 
 -- ---- what is sound
 
-module _ (e : Equaliser) (sizes : sizesFit (settings e) ≡ true) (weights : length (e .weights) ≡ 32) (past : length (e .past) ≡ 32) where
+module _ (e : Equaliser) (sizes : sizesFit (settings e) ≡ true) (weights : length (e .weights) ≡ places) (past : length (e .past) ≡ places) where
   within : Within (settings e)
   within = fit-within (settings e) sizes
 
-  front-long : (i : ℕ) (xs : List ℤ) → length xs ≡ 32 → i ≤ e .p → length (take i xs) ≡ i
+  front-long : (i : ℕ) (xs : List ℤ) → length xs ≡ places → i ≤ e .p → length (take i xs) ≡ i
   front-long i xs l h = length-take-le i xs (omega (arith, within .p-most))
 
-  back-long : (xs : List ℤ) → length xs ≡ 32 → length (take (e .q) (drop (e .p) xs)) ≡ e .q
+  back-long : (xs : List ℤ) → length xs ≡ places → length (take (e .q) (drop (e .p) xs)) ≡ e .q
   back-long xs l = length-take-le (e .q) (drop (e .p) xs) (omega (arith, length-drop (e .p) xs, within .p-most, within .q-most))
 
   pub sound-state : admits (settings e) ≡ true → isSound e ≡ true → Sound (settings e) (memory e)
@@ -93,7 +93,7 @@ pub tests-examined : (e : Equaliser) → sizesFit (settings e) ≡ true → admi
 unfolding examined
 tests-examined e f a s = rw (f, a, s)
 
-pub examined-sound : (e : Equaliser) → length (e .weights) ≡ 32 → length (e .past) ≡ 32 → examined e ≡ 0 → Sound (settings e) (memory e)
+pub examined-sound : (e : Equaliser) → length (e .weights) ≡ places → length (e .past) ≡ places → examined e ≡ 0 → Sound (settings e) (memory e)
 examined-sound e w d h = let t = examined-tests e h in sound-state e (t .0) w d (t .1) (t .2)
 
 -- ---- a fresh state
@@ -117,11 +117,11 @@ module _ (p : ℤ → Bool) (e : p (pos 0) ≡ true) where
 
 fresh-exponents : (k : Settings) → Within k → soundExponents (fresh k) ≡ true
 unfolding fresh
-fresh-exponents k w = le-leb (0 + k .L) 31 (omega (arith, w .L-most))
+fresh-exponents k w = le-leb (0 + k .L) lengthLimit (omega (arith, w .L-most))
 
 fresh-weights : (k : Settings) → soundWeights (fresh k) ≡ true
 unfolding fresh
-fresh-weights k = both _ _ (front-passes (λ x. ltb (natAbs x) (2 ^ 14)) refl (k .p + k .q)) (rest-passes isZero refl (k .p + k .q))
+fresh-weights k = both _ _ (front-passes isSmall refl (k .p + k .q)) (rest-passes isZero refl (k .p + k .q))
 
 fresh-past : (k : Settings) → Within k → soundPast (fresh k) ≡ true
 unfolding fresh

@@ -8,6 +8,7 @@ use lib.ListN.{length, take, drop, length-drop}
 use lib.Seq.{take-all}
 use lib.IntN.{ℤ}
 use Rattle.laws.specs.Lists.{all}
+use Rattle.steps.specs.Limits.{places}
 use Rattle.steps.specs.Settings.{isEntry, scaleForward}
 use Rattle.steps.specs.Side.{allSmall}
 use Rattle.state.specs.Sizes.{settingsNumber, sizesFit, admits}
@@ -30,8 +31,8 @@ last-fails false b h = refl
 
 -- ---- the places from i on
 
-pub rest-is : (i : ℕ) (xs : List ℤ) → length xs ≡ 32 → take (32 - i) (drop i xs) ≡ drop i xs
-rest-is i xs l = take-all (32 - i) (drop i xs) (omega (arith, length-drop i xs))
+pub rest-is : (i : ℕ) (xs : List ℤ) → length xs ≡ places → take (places - i) (drop i xs) ≡ drop i xs
+rest-is i xs l = take-all (places - i) (drop i xs) (omega (arith, length-drop i xs))
 
 -- the places from i on, up to i + n
 pub part-is : (i n : ℕ) (xs : List ℤ) → take (i + n - i) (drop i xs) ≡ take n (drop i xs)

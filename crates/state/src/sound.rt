@@ -3,6 +3,7 @@ ghost use mathlib.Core.Path.{_≡_};
 ghost use mathlib.Core.Bool.{true};
 ghost use Prim.Native.Nat.{_≤_};
 ghost use Rattle.laws.specs.Lists.{all};
+ghost use Rattle.steps.specs.Limits.{symbolLimit, scaleLimit, lengthLimit};
 ghost use Rattle.steps.specs.Settings.{isEntry};
 ghost use Rattle.state.specs.Sizes.{sizesFit};
 ghost use Rattle.state.specs.State.{isZero, isStored, soundExponents, soundWeights, soundPast, isSound, settings};
@@ -12,36 +13,24 @@ use super::equaliser::Equaliser;
 pub fn all_zero(xs: &[i16]) -> bool
     ensures { λ r. ⌜ r ≡ all isZero (now (xs .entry)) ⌝ }
 {
-    let mut i: usize = 0;
-    while i < xs.len() {
-        if xs[i] != 0 {
-            return false;
-        }
-        i += 1;
-    }
-    true
+    steps::side::longest(xs) == 0
 }
 
-// |A|·2^(B+S) < 2^(15+b) for each.
+// |A|·2^(B+S) < 2^(15+b) for each: it goes by the largest bit length.
 pub fn all_stored(xs: &[i16], s: u32, b: u32, big: u32) -> bool
-    requires { ⌜ (s ≤ 5) × (b ≤ 31) × (big ≤ 31) ⌝ }
+    requires { ⌜ (s ≤ scaleLimit) × (b ≤ lengthLimit) × (big ≤ lengthLimit) ⌝ }
     ensures { λ r. ⌜ r ≡ all (isStored s b big) (now (xs .entry)) ⌝ }
 {
-    let limit = 1u64 << (15 + b);
-    let scale = 1u64 << (big + s);
-    let mut i: usize = 0;
-    while i < xs.len() {
-        if limit <= numbers::bit_length::magnitude(xs[i] as i64) * scale {
-            return false;
-        }
-        i += 1;
+    if big + s < 15 + b {
+        steps::side::longest(xs) <= 15 + b - (big + s)
+    } else {
+        all_zero(xs)
     }
-    true
 }
 
 // 0, or odd and of magnitude below 2^(r+1).
 pub fn is_entry(v: i16, r: u32) -> bool
-    requires { ⌜ r ≤ 3 ⌝ }
+    requires { ⌜ r ≤ symbolLimit ⌝ }
     ensures { λ f. ⌜ f ≡ isEntry r v ⌝ }
 {
     let size = numbers::bit_length::magnitude(v as i64);
@@ -49,17 +38,16 @@ pub fn is_entry(v: i16, r: u32) -> bool
 }
 
 pub fn all_symbols(xs: &[i16], r: u32) -> bool
-    requires { ⌜ r ≤ 3 ⌝ }
+    requires { ⌜ r ≤ symbolLimit ⌝ }
     ensures { λ f. ⌜ f ≡ all (isEntry r) (now (xs .entry)) ⌝ }
 {
+    let mut fit = true;
     let mut i: usize = 0;
     while i < xs.len() {
-        if !is_entry(xs[i], r) {
-            return false;
-        }
+        fit = fit & is_entry(xs[i], r);
         i += 1;
     }
-    true
+    fit
 }
 
 fn sound_exponents(e: Equaliser) -> bool

@@ -5,6 +5,7 @@ use Prim.Native.Nat.{_+_, _^_, _<_}
 use native.Mathlib.Nat.{not-le-of-lt}
 use native.Mathlib.Omega.{arith}
 use borrow.Author.Tests.{ltb-true, ltb-false}
+use Rattle.steps.specs.Limits.{tapLimit, blockLimit, gainLimit}
 use Rattle.steps.specs.Settings.{Settings, Within}
 use Rattle.state.specs.Sizes.{given}
 use Rattle.state.proofs.SizesLaws.{fit-within, within-fit, refuted}
@@ -20,19 +21,19 @@ returns c =
     let a = c .before .args in
     let w = fit-within (sizes (c .before)) e in
     ⊎-elim (λ h. not-le-of-lt (h .taken) (w .p-least))
-    (⊎-elim (λ h. not-le-of-lt (ltb-true 16 (a .p) (h .1 .taken)) (w .p-most))
+    (⊎-elim (λ h. not-le-of-lt (ltb-true tapLimit (a .p) (h .1 .taken)) (w .p-most))
     (⊎-elim (λ h. not-le-of-lt (ltb-true (a .q) 1 (h .2 .taken)) (w .q-least))
-    (λ h. not-le-of-lt (ltb-true 16 (a .q) (h .3 .taken)) (w .q-most))))
+    (λ h. not-le-of-lt (ltb-true tapLimit (a .q) (h .3 .taken)) (w .q-most))))
     (c .if1 .came))
 
 returns-2 : tie.Need-returns-2
 returns-2 c =
     refuted _ (λ e.
     let w = fit-within (sizes (c .before .before .before .before .before)) e in
-    ⊎-elim (λ h. not-le-of-lt (h .taken) (w .N-least)) (λ h. not-le-of-lt (ltb-true 128 (c .before .before .before .before .before .args .n) (h .1 .taken)) (w .N-most)) (c .if5 .came))
+    ⊎-elim (λ h. not-le-of-lt (h .taken) (w .N-least)) (λ h. not-le-of-lt (ltb-true blockLimit (c .before .before .before .before .before .args .n) (h .1 .taken)) (w .N-most)) (c .if5 .came))
 
 next : (c : tie.Else6) → c .before .before .before .before .before .before .args .n + 1 < 2 ^ 8
-next c = let h = ltb-false 128 (c .before .before .before .before .before .before .args .n) (c .if6 .left) in omega arith
+next c = let h = ltb-false blockLimit (c .before .before .before .before .before .before .args .n) (c .if6 .left) in omega arith
 
 add-if7 : tie.Need-add-if7
 add-if7 c = record { fits = next c }
@@ -46,7 +47,7 @@ returns-4 : tie.Need-returns-4
 returns-4 c =
     refuted _ (λ e.
     let w = fit-within (sizes (c .before .before .before .before .before .before .before .before)) e in
-    ⊎-elim (λ h. not-le-of-lt (h .taken) (w .r-most)) (λ h. not-le-of-lt (ltb-true 15 (c .before .before .before .before .before .before .before .before .args .l) (h .1 .taken)) (w .L-most)) (c .if8 .came))
+    ⊎-elim (λ h. not-le-of-lt (h .taken) (w .r-most)) (λ h. not-le-of-lt (ltb-true gainLimit (c .before .before .before .before .before .before .before .before .args .l) (h .1 .taken)) (w .L-most)) (c .if8 .came))
 
 passed : (c : tie.Else9) → Within (sizes (c .before .before .before .before .before .before .before .before .before))
 passed c =
@@ -56,14 +57,14 @@ passed c =
     let p = q .before .before in
     record {
       p-least = p .before .if1 .left;
-      p-most = ltb-false 16 (a .p) (p .if2 .left);
+      p-most = ltb-false tapLimit (a .p) (p .if2 .left);
       q-least = ltb-false (a .q) 1 (q .before .if3 .left);
-      q-most = ltb-false 16 (a .q) (q .if4 .left);
+      q-most = ltb-false tapLimit (a .q) (q .if4 .left);
       N-least = n .before .before .if5 .left;
       N-window = n .if7 .left;
-      N-most = ltb-false 128 (a .n) (n .before .if6 .left);
+      N-most = ltb-false blockLimit (a .n) (n .before .if6 .left);
       r-most = c .before .if8 .left;
-      L-most = ltb-false 15 (a .l) (c .if9 .left);
+      L-most = ltb-false gainLimit (a .l) (c .if9 .left);
     }
 
 returns-5 : tie.Need-returns-5

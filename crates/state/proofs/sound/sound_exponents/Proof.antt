@@ -4,6 +4,7 @@ use mathlib.Core.Logic.{⊎-elim}
 use native.Mathlib.Nat.{not-le-of-lt}
 use borrow.Author.Needs.{needs}
 use borrow.Author.Tests.{ltb-true, ltb-false, le-leb}
+use Rattle.steps.specs.Limits.{exponentLimit}
 use Rattle.state.proofs.SizesLaws.{refuted}
 use Rattle.state.proofs.SoundLaws.{exponents-bound}
 use Rattle.state.proofs.sound.sound_exponents.Statement.{statement}
@@ -30,7 +31,7 @@ returns-2 c =
     let n = c .before .before in
     let m = n .before .before in
     let e = m .before .before .args .e in
-    sym (simp (le-leb (e .psi) 15 (m .if1 .left), le-leb (e .b) (e .big) (ltb-false (e .big) (e .b) (n .if2 .left))))
+    sym (simp (le-leb (e .psi) exponentLimit (m .if1 .left), le-leb (e .b) (e .big) (ltb-false (e .big) (e .b) (n .if2 .left))))
 
 pub sound-exponents-spec : {M : Type 1} → statement M
 sound-exponents-spec = tie.close (tie.spec returns cast-result cast-result-2 add-result returns-2)

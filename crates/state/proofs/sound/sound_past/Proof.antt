@@ -8,6 +8,7 @@ use borrow.Author.Needs.{needs, sfits-of}
 use borrow.Author.Tests.{not-true, not-false}
 use Rattle.laws.specs.Lists.{all}
 use Rattle.numbers.proofs.ScaleCountLaws.{scale-least}
+use Rattle.steps.specs.Limits.{places, scaleLimit}
 use Rattle.steps.specs.Settings.{Within, isEntry, scaleForward}
 use Rattle.state.specs.State.{settings, taps, samples, filler, symbols, isZero, isStored}
 use Rattle.state.proofs.ElementTests.{zero-passes, other-fails}
@@ -30,10 +31,10 @@ third c = c .before .before .before .before .before
 within : (c : tie.Start) → Within (settings (c .args .e))
 within c = fit-within (settings (c .args .e)) (c .pre .0)
 
-long : (c : tie.Start) → length (c .args .e .past) ≡ 32
+long : (c : tie.Start) → length (c .args .e .past) ≡ places
 long c = search needs
 
-reach : (c : tie.Start) → taps (c .args .e) ≤ 32
+reach : (c : tie.Start) → taps (c .args .e) ≤ places
 reach c = omega (arith, within c .p-most, within c .q-most)
 
 last-reach : (c : tie.Start) → c .args .e .p - 1 ≤ length (c .args .e .past)
@@ -71,7 +72,7 @@ cast-all-stored-2 c = search needs
 all-stored-requires : tie.Need-all-stored-requires
 all-stored-requires c κs =
     let t = c .before .before .before .before .before .before .before in
-    let s = scale-least (t .args .e .p) 5 (omega (arith, within t .p-most)) in
+    let s = scale-least (t .args .e .p) scaleLimit (omega (arith, within t .p-most)) in
     let x = exponents-bound (t .args .e) (t .pre .1) in
     (omega (arith, s, c .before .before .before .scale-count .ensures), omega (arith, x), omega (arith, x))
 

@@ -6,16 +6,17 @@ use lib.ListN.{length}
 use lib.Seq.{length-take-le}
 use borrow.Author.Needs.{needs}
 use Rattle.laws.specs.Lists.{all}
+use Rattle.steps.specs.Limits.{places}
 use Rattle.state.specs.State.{settings, taps, isZero}
 use Rattle.state.proofs.SizesLaws.{fit-within}
 use Rattle.state.proofs.StateTests.{rest-is, weights-fail, weights-end}
 use Rattle.state.proofs.sound.sound_weights.Statement.{statement}
 use Rattle.state.proofs.sound.sound_weights.Tie as tie
 
-long : (c : tie.Start) → length (c .args .e .weights) ≡ 32
+long : (c : tie.Start) → length (c .args .e .weights) ≡ places
 long c = search needs
 
-reach : (c : tie.Start) → taps (c .args .e) ≤ 32
+reach : (c : tie.Start) → taps (c .args .e) ≤ places
 reach c = let w = fit-within (settings (c .args .e)) (c .pre) in omega arith
 
 cast-taps : tie.Need-cast-taps
