@@ -63,9 +63,6 @@ within-fit k h =
 pub admits-admitted : (k : Settings) → admits k ≡ true → Admitted k
 admits-admitted k e = leb-true (k .M * stepBound k) (2 ^ (30 + k .L)) e
 
-pub admitted-admits : (k : Settings) → Admitted k → admits k ≡ true
-admitted-admits k h = le-leb (k .M * stepBound k) (2 ^ (30 + k .L)) h
-
 -- D·2^L at the limits
 abbrev pub stepMost : ℕ
 stepMost = stepBound (given tapLimit tapLimit blockLimit symbolLimit gainLimit 0)
