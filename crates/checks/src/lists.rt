@@ -37,7 +37,7 @@ pub fn all_gains(gains: &[u8], l: u8) -> bool
         }
         i += 1;
     }
-    l <= low && high <= Equaliser::GAIN
+    (l <= low) & (high <= Equaliser::GAIN)
 }
 
 // 3: whether every lent list is N long.
@@ -54,13 +54,14 @@ pub fn lengths_fit(
 ) -> bool
     ensures { λ r. ⌜ r ≡ lengthsFit n (lentOf (now (m .entry)) (now (gains .entry)) (now (entries .entry)) (now (y .entry)) (now (xi .entry)) (now (decision .entry)) (now (z .entry)) (now (theta .entry))) ⌝ }
 {
-    if m.len() != n || gains.len() != n || entries.len() != n {
-        return false;
-    }
-    if y.len() != n || xi.len() != n || decision.len() != n {
-        return false;
-    }
-    z.len() == n && theta.len() == n
+    (m.len() == n)
+        & (gains.len() == n)
+        & (entries.len() == n)
+        & (y.len() == n)
+        & (xi.len() == n)
+        & (decision.len() == n)
+        & (z.len() == n)
+        & (theta.len() == n)
 }
 
 // 1, 2, 9, then 3, 4, 5, or 0.

@@ -8,7 +8,7 @@ use native.Mathlib.Nat.{mod-eq-of-lt}
 use native.Mathlib.Numerals.{add-one}
 use lib.Dec.{leb, ltb→lt}
 use lib.ListN.{length, getD, take, drop, set, length-append, length-set, drop-of-length-le}
-use lib.Seq.{sets, sets-eq, lt-length-sets, length-take-le, take-suc, take-suc-set, take-all, take-at, drop-at, append-snoc}
+use lib.Seq.{sets, sets-eq, lt-length-sets, take-suc-set, take-all, take-at, drop-at, append-snoc}
 use lib.IntN.{ℤ, pos, negsuc, natAbs, _+ℤ_}
 use lib.Signed.{_≤ℤ_, _<ℤ_}
 use mir.Syntax.{w16}
@@ -18,7 +18,7 @@ use borrow.Rule.Slice.PartMut.{putMid, post-is}
 use Rattle.steps.specs.Limits.{places}
 use Rattle.state.specs.State.{settings, taps}
 use Rattle.state.specs.Answers.{examined}
-use Rattle.image.specs.Image.{bytes, width, words, header, headerLength, weightWord, datumWord, image, dataPlace, endPlace, imageLength, saveNumber, Save}
+use Rattle.image.specs.Image.{bytes, width, words, header, headerLength, weightWord, datumWord, image, dataPlace, imageLength, saveNumber, Save}
 use Rattle.state.specs.declared.equaliser.Equaliser.{Equaliser}
 use Rattle.state.proofs.SizesLaws.{fit-within}
 use Rattle.state.proofs.SoundLaws.{examined-tests}

@@ -2,14 +2,14 @@
 use mathlib.Core.Path.{_≡_, refl, sym, ap, _∙_}
 use mathlib.Core.Bool.{true}
 use mathlib.Core.List.{List, [], _∷_, _++_, append-assoc}
-use Prim.Native.Nat.{ℕ, _+_, _*_, _-_, _^_, _≤_}
+use Prim.Native.Nat.{ℕ, _+_, _*_, _-_, _^_}
 use native.Mathlib.Omega.{arith}
-use lib.ListN.{length, getD, take, drop, replicate, length-append}
+use lib.ListN.{length, getD, take, drop, length-append}
 use lib.Seq.{take-at, drop-at, getD-at, append-snoc}
 use lib.IntN.{ℤ, pos, natAbs}
 use borrow.Author.Tests.{le-leb, lt-ltb}
 use Rattle.laws.specs.Lists.{all}
-use Rattle.laws.specs.Sums.{Each, each-append}
+use Rattle.laws.specs.Sums.{each-append}
 use Rattle.steps.specs.Limits.{exponentLimit, halvingLimit, lengthLimit, places}
 use Rattle.steps.specs.Settings.{Settings, scaleForward, isEntry}
 use Rattle.steps.specs.Side.{allSmall, isSmall}

@@ -9,19 +9,15 @@ use super::equaliser::Equaliser;
 pub fn sizes_fit(p: u8, q: u8, n: u8, r: u8, l: u8) -> bool
     ensures { λ f. ⌜ f ≡ sizesFit (given p q n r l 0) ⌝ }
 {
-    if p < 1 || Equaliser::TAPS < p || q < 1 || Equaliser::TAPS < q {
-        return false;
-    }
-    if n < 1 || Equaliser::BLOCK < n {
-        return false;
-    }
-    if n + 1 < p {
-        return false;
-    }
-    if Equaliser::SYMBOLS < r || Equaliser::GAIN < l {
-        return false;
-    }
-    true
+    (1 <= p)
+        & (p <= Equaliser::TAPS)
+        & (1 <= q)
+        & (q <= Equaliser::TAPS)
+        & (1 <= n)
+        & ((p as u32) <= (n as u32) + 1)
+        & (n <= Equaliser::BLOCK)
+        & (r <= Equaliser::SYMBOLS)
+        & (l <= Equaliser::GAIN)
 }
 
 // Whether M·D ≤ 2^30, both sides times 2^L. N plays no part in it, so its limit may stand for it.

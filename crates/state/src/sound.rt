@@ -1,11 +1,9 @@
 // Soundness: tests over the parts of a state.
 ghost use mathlib.Core.Path.{_≡_};
-ghost use mathlib.Core.Bool.{true};
 ghost use Prim.Native.Nat.{_≤_};
 ghost use Rattle.laws.specs.Lists.{all};
-ghost use Rattle.steps.specs.Limits.{symbolLimit, scaleLimit, lengthLimit};
-ghost use Rattle.steps.specs.Settings.{isEntry};
-ghost use Rattle.state.specs.Sizes.{sizesFit};
+ghost use Rattle.steps.specs.Limits.{symbolLimit, scaleLimit};
+ghost use Rattle.steps.specs.Settings.{Within, isEntry};
 ghost use Rattle.state.specs.State.{isZero, isStored, soundExponents, soundWeights, soundPast, isSound, settings};
 ghost use Rattle.state.specs.Answers.{examined};
 use super::equaliser::Equaliser;
@@ -17,12 +15,14 @@ pub fn all_zero(xs: &[i16]) -> bool
 }
 
 // |A|·2^(B+S) < 2^(15+b) for each: it goes by the largest bit length.
-pub fn all_stored(xs: &[i16], s: u32, b: u32, big: u32) -> bool
-    requires { ⌜ (s ≤ scaleLimit) × (b ≤ lengthLimit) × (big ≤ lengthLimit) ⌝ }
+pub fn all_stored(xs: &[i16], s: u32, b: u8, big: u8) -> bool
+    requires { ⌜ s ≤ scaleLimit ⌝ }
     ensures { λ r. ⌜ r ≡ all (isStored s b big) (now (xs .entry)) ⌝ }
 {
-    if big + s < 15 + b {
-        steps::side::longest(xs) <= 15 + b - (big + s)
+    let scale = (big as u32) + s;
+    let room = 15 + (b as u32);
+    if scale < room {
+        steps::side::longest(xs) <= room - scale
     } else {
         all_zero(xs)
     }
@@ -34,7 +34,7 @@ pub fn is_entry(v: i16, r: u32) -> bool
     ensures { λ f. ⌜ f ≡ isEntry r v ⌝ }
 {
     let size = numbers::bit_length::magnitude(v as i64);
-    size == 0 || (size % 2 == 1 && size <= (1u64 << (r + 1)) - 1)
+    (size == 0) | ((size % 2 == 1) & (size <= (1u64 << (r + 1)) - 1))
 }
 
 pub fn all_symbols(xs: &[i16], r: u32) -> bool
@@ -53,27 +53,22 @@ pub fn all_symbols(xs: &[i16], r: u32) -> bool
 fn sound_exponents(e: Equaliser) -> bool
     ensures { λ f. ⌜ f ≡ soundExponents e ⌝ }
 {
-    if Equaliser::EXPONENT < e.psi || e.big < e.b {
-        return false;
-    }
-    (e.big as u32) + (e.l as u32) <= steps::limits::LENGTH
+    (e.psi <= Equaliser::EXPONENT)
+        & (e.b <= e.big)
+        & ((e.big as u32) + (e.l as u32) <= steps::limits::LENGTH)
 }
 
 fn sound_weights(e: Equaliser) -> bool
-    requires { ⌜ sizesFit (settings e) ≡ true ⌝ }
+    requires { ⌜ Within (settings e) ⌝ }
     ensures { λ f. ⌜ f ≡ soundWeights e ⌝ }
 {
     let weights = e.weights;
     let taps = (e.p as usize) + (e.q as usize);
-    if steps::side::all_small(&weights[..taps]) {
-        all_zero(&weights[taps..])
-    } else {
-        false
-    }
+    steps::side::all_small(&weights[0..taps]) & all_zero(&weights[taps..])
 }
 
 fn sound_past(e: Equaliser) -> bool
-    requires { ⌜ (sizesFit (settings e) ≡ true) × (soundExponents e ≡ true) ⌝ }
+    requires { ⌜ Within (settings e) ⌝ }
     ensures { λ f. ⌜ f ≡ soundPast e ⌝ }
 {
     let past = e.past;
@@ -81,31 +76,17 @@ fn sound_past(e: Equaliser) -> bool
     let taps = p + (e.q as usize);
     let s = numbers::scale_count::scale_count(p);
     let last = p - 1;
-    if !all_stored(&past[..last], s, e.b as u32, e.big as u32) {
-        return false;
-    }
-    if past[last] != 0 {
-        return false;
-    }
-    if all_symbols(&past[p..taps], e.r as u32) {
-        all_zero(&past[taps..])
-    } else {
-        false
-    }
+    all_stored(&past[0..last], s, e.b, e.big)
+        & (past[last] == 0)
+        & all_symbols(&past[p..taps], e.r as u32)
+        & all_zero(&past[taps..])
 }
 
 pub fn is_sound(e: Equaliser) -> bool
-    requires { ⌜ sizesFit (settings e) ≡ true ⌝ }
+    requires { ⌜ Within (settings e) ⌝ }
     ensures { λ f. ⌜ f ≡ isSound e ⌝ }
 {
-    if !sound_exponents(e) {
-        return false;
-    }
-    if sound_weights(e) {
-        sound_past(e)
-    } else {
-        false
-    }
+    sound_exponents(e) & sound_weights(e) & sound_past(e)
 }
 
 // 1, 2, 9, or 0.

@@ -1,15 +1,12 @@
 -- The lowest and the highest gain passed.
-use mathlib.Core.Path.{_≡_, sym, ap, _∙_, subst}
-use mathlib.Core.Bool.{Bool, _&&_}
+use mathlib.Core.Path.{_≡_, sym, subst}
 use mathlib.Core.Logic.{⊎-elim}
 use Prim.Native.Nat.{ℕ, _+_, _-_, min, max}
 use native.Mathlib.Omega.{arith}
-use lib.Dec.{leb}
 use lib.ListN.{length, getD}
 use borrow.Author.Needs.{needs}
-use borrow.Author.Tests.{le-leb, lt-leb}
+use borrow.Author.Tests.{le-leb}
 use Rattle.laws.specs.Lists.{tested-all}
-use Rattle.steps.specs.Limits.{gainLimit}
 use Rattle.checks.proofs.GainLaws.{Ranged, ranged-next}
 use Rattle.checks.proofs.lists.all_gains.Statement.{statement}
 use Rattle.checks.proofs.lists.all_gains.Tie as tie
@@ -52,16 +49,7 @@ loop-again c =
     (ranged-next (a .l) (a .gains .now) (l .low) (l .high) (l .i) (c .before .before .before .loop-test .taken) (l .inv)))
 
 returns : tie.Need-returns Inv-loop μ-loop
-returns c =
-    let l = c .before .before .loop in
-    ap (λ (b : Bool). b && leb (l .high) gainLimit) (sym (le-leb (c .before .before .before .args .l) (l .low) (c .if3 .taken)))
-    ∙ tested-all (l .inv) (c .before .loop-test .left)
-
-returns-2 : tie.Need-returns-2 Inv-loop μ-loop
-returns-2 c =
-    let l = c .before .before .loop in
-    let e = lt-leb (c .before .before .before .args .l) (l .low) (c .if3 .left) in
-    e ∙ ap (λ (b : Bool). b && leb (l .high) gainLimit) (sym e) ∙ tested-all (l .inv) (c .before .loop-test .left)
+returns c = tested-all (c .before .loop .inv) (c .loop-test .left)
 
 pub all-gains-spec : {M : Type 1} → statement M
 all-gains-spec =
@@ -74,5 +62,4 @@ all-gains-spec =
     add-i
     loop-less
     loop-again
-    returns
-    returns-2)
+    returns)

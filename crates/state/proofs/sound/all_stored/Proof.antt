@@ -8,23 +8,20 @@ use Rattle.state.proofs.LongestTests.{stored-longest, stored-zero}
 use Rattle.state.proofs.sound.all_stored.Statement.{statement}
 use Rattle.state.proofs.sound.all_stored.Tie as tie
 
-add-if1 : tie.Need-add-if1
-add-if1 c = search needs
+add-scale : tie.Need-add-scale
+add-scale c = search needs
 
-add-if1-2 : tie.Need-add-if1-2
-add-if1-2 c = search needs
+add-room : tie.Need-add-room
+add-room c = search needs
 
 longest-requires : tie.Need-longest-requires
 longest-requires c κs = search needs
 
-add-result : tie.Need-add-result
-add-result c = search needs
-
-add-result-2 : tie.Need-add-result-2
-add-result-2 c = search needs
-
 sub-result : tie.Need-sub-result
 sub-result c = search needs
+
+all-zero-requires : tie.Need-all-zero-requires
+all-zero-requires c κs = search needs
 
 returns : tie.Need-returns
 returns c =
@@ -32,22 +29,10 @@ returns c =
     ap (λ (n : ℕ). leb n (15 + a .b - (a .big + a .s))) (c .longest .ensures)
     ∙ stored-longest (a .s) (a .b) (a .big) (a .xs .now) (omega arith)
 
-all-zero-requires : tie.Need-all-zero-requires
-all-zero-requires c κs = search needs
-
 returns-2 : tie.Need-returns-2
 returns-2 c = let a = c .before .before .args in c .all-zero .ensures ∙ stored-zero (a .s) (a .b) (a .big) (a .xs .now) (c .before .if1 .left)
 
 pub all-stored-spec : {M : Type 1} → statement M
 all-stored-spec =
     tie.close
-    (tie.spec
-    add-if1
-    add-if1-2
-    longest-requires
-    add-result
-    add-result-2
-    sub-result
-    all-zero-requires
-    returns
-    returns-2)
+    (tie.spec add-scale add-room longest-requires sub-result all-zero-requires returns returns-2)
