@@ -7,13 +7,14 @@ use lib.Dec.{leb, eqb}
 use lib.ListN.{length}
 use borrow.Author.Tests.{leb-true, eqb-true, eqb-false, ne-eqb}
 use Rattle.laws.specs.Lists.{and-left, and-right, all}
+use Rattle.steps.specs.Limits.{gainLimit, places}
 use Rattle.steps.specs.Settings.{isEntry}
 use Rattle.checks.specs.Checks.{Lent, block, lengthsFit, gainFits, checkNumber}
 use Rattle.state.specs.Answers.{examined}
 use Rattle.checks.specs.Calls.{Sampled, Checked}
 use Rattle.state.specs.declared.equaliser.Equaliser.{Equaliser}
 use Rattle.state.proofs.ListTests.{each-tested}
-use Rattle.state.proofs.SoundLaws.{examined-tests, examined-sound}
+use Rattle.state.proofs.SoundLaws.{examined-tests, accepted-sound}
 
 -- the last of several comparisons, and those before it
 last-eq : (t : Bool) (a b : ℕ) → (t && eqb a b) ≡ true → (t ≡ true) × (a ≡ b)
@@ -42,6 +43,17 @@ module _ (e : Equaliser) (l : Lent) where
     pub checks-pass : lengthsFit (e .n) l ≡ true → all (gainFits (e .l)) (l .gains) ≡ true → all (isEntry (e .r)) (l .entries) ≡ true → 0 ≡ checkNumber e l
     unfolding checkNumber
     checks-pass h g f = simp (sound, h, g, f)
+
+-- of an accepted state: 0, 3, 4 or 5
+pub check-number : (e : Equaliser) (l : Lent) (P : ℕ → Type 0) → examined e ≡ 0 → P 0 → P 3 → P 4 → P 5 → P (checkNumber e l)
+unfolding checkNumber
+check-number e l P h pass lengths gains entries = rw h (go (lengthsFit (e .n) l) (all (gainFits (e .l)) (l .gains)) (all (isEntry (e .r)) (l .entries)))
+  where
+    go : (a b c : Bool) → P (cond a (cond b (cond c 0 5) 4) 3)
+    go true true true = pass
+    go true true false = entries
+    go true false c = gains
+    go false b c = lengths
 
 -- ---- what holds where it is 0
 
@@ -88,20 +100,20 @@ module _ (e : Equaliser) (l : Lent) (passed : checkNumber e l ≡ 0) where
         theta = theta .1;
       }
 
-  pub checked-is : length (e .weights) ≡ 32 → length (e .past) ≡ 32 → Sampled (l .m) → Checked e (block l)
+  pub checked-is : length (e .weights) ≡ places → length (e .past) ≡ places → Sampled (l .m) → Checked e (block l)
   checked-is w d m =
       let t = check-tests in
       record {
         sizes = examined-tests e (t .0) .0;
         sound-state = examined-tests e (t .0) .2;
-        sound = examined-sound e w d (t .0);
+        sound = accepted-sound (record { weights-long = w; past-long = d; number = t .0 });
         acceptable = record {
           samples-long = long .m;
           gains-long = long .gains;
           entries-long = long .entries;
           samples-are = m;
-          gains-least = each-tested (gainFits (e .l)) _ (λ g h. leb-true (e .l) g (and-left (leb (e .l) g) (leb g 15) h)) (l .gains) (t .2);
-          gains-most = each-tested (gainFits (e .l)) _ (λ g h. leb-true g 15 (and-right (leb (e .l) g) (leb g 15) h)) (l .gains) (t .2);
+          gains-least = each-tested (gainFits (e .l)) _ (λ g h. leb-true (e .l) g (and-left (leb (e .l) g) (leb g gainLimit) h)) (l .gains) (t .2);
+          gains-most = each-tested (gainFits (e .l)) _ (λ g h. leb-true g gainLimit (and-right (leb (e .l) g) (leb g gainLimit) h)) (l .gains) (t .2);
           entries-are = each-tested (isEntry (e .r)) _ (λ v h. h) (l .entries) (t .3);
         };
       }

@@ -1,15 +1,14 @@
 -- All gains fit where the lowest and the highest do.
-use mathlib.Core.Path.{_≡_, refl, sym, ap, ap₂, _∙_}
-use mathlib.Core.Bool.{Bool, true, false, _&&_, and-true, and-assoc}
+use mathlib.Core.Path.{_≡_, refl, sym, ap₂, _∙_, subst}
+use mathlib.Core.Bool.{Bool, true, false, _&&_}
 use mathlib.Core.List.{List}
-use Prim.Native.Nat.{ℕ, suc, _+_, _≤_, _<_, min, max}
+use Prim.Native.Nat.{ℕ, _+_, _<_, min, max}
 use native.Mathlib.Omega.{arith}
-use native.Mathlib.Numerals.{add-one}
 use lib.Dec.{leb}
-use lib.ListN.{length, getD, drop}
-use lib.Seq.{drop-cons}
+use lib.ListN.{length, getD}
 use borrow.Author.Tests.{le-leb, lt-leb, leb-true, leb-false}
-use Rattle.laws.specs.Lists.{all, all-end}
+use Rattle.laws.specs.Lists.{Tested, tested-next}
+use Rattle.steps.specs.Limits.{gainLimit}
 use Rattle.checks.specs.Checks.{gainFits}
 
 min-above : (k a b : ℕ) (x y : Bool) → leb k a ≡ x → leb k b ≡ y → leb k (min a b) ≡ (x && y)
@@ -31,26 +30,18 @@ exchange false b c d = refl
 module _ (L : ℕ) where
   -- whether gains from low to high fit
   abbrev pub between : ℕ → ℕ → Bool
-  between low high = leb L low && leb high 15
+  between low high = leb L low && leb high gainLimit
 
   between-next : (low high g : ℕ) → between (min low g) (max high g) ≡ (between low high && gainFits L g)
   between-next low high g =
-      ap₂ (λ (a b : Bool). a && b) (min-above L low g (leb L low) (leb L g) refl refl) (max-below 15 high g (leb high 15) (leb g 15) refl refl)
-      ∙ exchange (leb L low) (leb L g) (leb high 15) (leb g 15)
+      ap₂ (λ (a b : Bool). a && b) (min-above L low g (leb L low) (leb L g) refl refl) (max-below gainLimit high g (leb high gainLimit) (leb g gainLimit) refl refl)
+      ∙ exchange (leb L low) (leb L g) (leb high gainLimit) (leb g gainLimit)
 
   -- the first i gains are from low to high
   abbrev pub Ranged : List ℕ → ℕ → ℕ → ℕ → Type 0
-  Ranged gains low high i = all (gainFits L) gains ≡ (between low high && all (gainFits L) (drop i gains))
+  Ranged gains low high i = Tested (gainFits L) gains (between low high) i
 
   pub ranged-next : (gains : List ℕ) (low high i : ℕ) → i < length gains → Ranged gains low high i →
       Ranged gains (min low (getD gains i 0)) (max high (getD gains i 0)) (i + 1)
-  ranged-next gains low high i h e =
-      let g = getD gains i 0 in
-      let rest = all (gainFits L) (drop (suc i) gains) in
-      e ∙ ap (λ (xs : List ℕ). between low high && all (gainFits L) xs) (drop-cons gains i 0 h)
-      ∙ sym (and-assoc (between low high) (gainFits L g) rest)
-      ∙ ap₂ (λ (b : Bool) (j : ℕ). b && all (gainFits L) (drop j gains)) (sym (between-next low high g)) (sym (add-one i))
-
-  pub ranged-all : (gains : List ℕ) (low high i : ℕ) → length gains ≤ i → Ranged gains low high i → between low high ≡ all (gainFits L) gains
-  ranged-all gains low high i h e =
-      sym (e ∙ ap (λ (b : Bool). between low high && b) (all-end (gainFits L) gains i h) ∙ and-true (between low high))
+  ranged-next gains low high i h t =
+      subst (λ (b : Bool). Tested (gainFits L) gains b (i + 1)) (sym (between-next low high (getD gains i 0))) (tested-next t 0 h refl)

@@ -2,23 +2,23 @@
 ghost use mathlib.Core.Path.{_≡_};
 ghost use Prim.Native.Nat.{_≤_};
 ghost use Rattle.laws.specs.Lists.{all};
+ghost use Rattle.steps.specs.Limits.{symbolLimit};
 ghost use Rattle.steps.specs.Settings.{isEntry};
 ghost use Rattle.checks.specs.Checks.{gainFits, lengthsFit, checkNumber};
 ghost use Rattle.checks.specs.Calls.{lentOf, Sampled};
 use state::equaliser::Equaliser;
 
 pub fn all_entries(xs: &[i8], r: u32) -> bool
-    requires { ⌜ r ≤ 3 ⌝ }
+    requires { ⌜ r ≤ symbolLimit ⌝ }
     ensures { λ f. ⌜ f ≡ all (isEntry r) (now (xs .entry)) ⌝ }
 {
+    let mut fit = true;
     let mut i: usize = 0;
     while i < xs.len() {
-        if !state::sound::is_entry(xs[i] as i16, r) {
-            return false;
-        }
+        fit = fit & state::sound::is_entry(xs[i] as i16, r);
         i += 1;
     }
-    true
+    fit
 }
 
 pub fn all_gains(gains: &[u8], l: u8) -> bool
@@ -37,7 +37,7 @@ pub fn all_gains(gains: &[u8], l: u8) -> bool
         }
         i += 1;
     }
-    l <= low && high <= Equaliser::GAIN
+    (l <= low) & (high <= Equaliser::GAIN)
 }
 
 // 3: whether every lent list is N long.
@@ -54,13 +54,14 @@ pub fn lengths_fit(
 ) -> bool
     ensures { λ r. ⌜ r ≡ lengthsFit n (lentOf (now (m .entry)) (now (gains .entry)) (now (entries .entry)) (now (y .entry)) (now (xi .entry)) (now (decision .entry)) (now (z .entry)) (now (theta .entry))) ⌝ }
 {
-    if m.len() != n || gains.len() != n || entries.len() != n {
-        return false;
-    }
-    if y.len() != n || xi.len() != n || decision.len() != n {
-        return false;
-    }
-    z.len() == n && theta.len() == n
+    (m.len() == n)
+        & (gains.len() == n)
+        & (entries.len() == n)
+        & (y.len() == n)
+        & (xi.len() == n)
+        & (decision.len() == n)
+        & (z.len() == n)
+        & (theta.len() == n)
 }
 
 // 1, 2, 9, then 3, 4, 5, or 0.

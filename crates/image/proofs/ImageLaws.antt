@@ -1,25 +1,28 @@
 -- Laws of the saved image.
 use mathlib.Core.Path.{_≡_, refl, sym, ap, ap₂, _∙_}
+use mathlib.Core.Bool.{Bool, true, false, cond}
 use mathlib.Core.List.{List, [], _∷_, _++_, append-assoc}
 use Prim.Native.Nat.{ℕ, suc, _+_, _*_, _-_, _/_, _%_, _≤_, _<_}
 use native.Mathlib.Omega.{arith}
 use native.Mathlib.Nat.{mod-eq-of-lt}
 use native.Mathlib.Numerals.{add-one}
-use lib.Dec.{ltb→lt}
+use lib.Dec.{leb, ltb→lt}
 use lib.ListN.{length, getD, take, drop, set, length-append, length-set, drop-of-length-le}
-use lib.Seq.{sets, sets-eq, lt-length-sets, length-take-le, take-suc, take-suc-set, take-all, take-at, drop-at, append-snoc}
+use lib.Seq.{sets, sets-eq, lt-length-sets, take-suc-set, take-all, take-at, drop-at, append-snoc}
 use lib.IntN.{ℤ, pos, negsuc, natAbs, _+ℤ_}
 use lib.Signed.{_≤ℤ_, _<ℤ_}
 use mir.Syntax.{w16}
 use mir.Val.{SFits, ofZ}
 use borrow.Author.Tests.{le-ltb, le-leb, lt-leb, eq-eqb, ne-eqb, eqb-false}
 use borrow.Rule.Slice.PartMut.{putMid, post-is}
+use Rattle.steps.specs.Limits.{places}
 use Rattle.state.specs.State.{settings, taps}
 use Rattle.state.specs.Answers.{examined}
-use Rattle.image.specs.Image.{bytes, words, header, image, imageLength, saveNumber, Save}
+use Rattle.image.specs.Image.{bytes, width, words, header, headerLength, weightWord, datumWord, image, dataPlace, imageLength, saveNumber, Save}
 use Rattle.state.specs.declared.equaliser.Equaliser.{Equaliser}
 use Rattle.state.proofs.SizesLaws.{fit-within}
 use Rattle.state.proofs.SoundLaws.{examined-tests}
+use Rattle.image.proofs.ByteLaws.{words-long, words-next}
 
 -- ---- the bits of a signed number
 
@@ -32,24 +35,6 @@ bits-whole (pos n) h = refl
 bits-whole (negsuc n) h = absurd (h .le)
 
 -- ---- words
-
-pub words-append : (a b : List ℤ) → words (a ++ b) ≡ words a ++ words b
-unfolding words bytes
-words-append [] b = refl
-words-append (z ∷ a) b = ap (λ (l : List ℕ). bytes 2 (ofZ w16 z) ++ l) (words-append a b)
-
-pub words-length : (l : List ℤ) → length (words l) ≡ 2 * length l
-unfolding words bytes
-words-length [] = refl
-words-length (z ∷ l) = omega (arith, words-length l)
-
--- of the first n numbers
-pub words-long : (n : ℕ) (l : List ℤ) → n ≤ length l → length (words (take n l)) ≡ 2 * n
-words-long n l h = words-length (take n l) ∙ ap (λ (k : ℕ). 2 * k) (length-take-le n l h)
-
-pub words-next : (l : List ℤ) (i : ℕ) → i < length l → words (take (suc i) l) ≡ words (take i l) ++ bytes 2 (ofZ w16 (getD l i (pos 0)))
-unfolding words bytes
-words-next l i h = ap words (take-suc l i (pos 0) h) ∙ words-append (take i l) (getD l i (pos 0) ∷ [])
 
 pub word-bytes : (w : ℕ) → w < 65536 → bytes 2 w ≡ w % 256 ∷ w / 256 ∷ []
 unfolding bytes
@@ -65,10 +50,10 @@ two-stores l n a b h =
 -- the first i numbers are put at the front
 pub record Put (src : List ℤ) (i : ℕ) (out : List ℕ) : Type 0 where
   pub within : i ≤ length src
-  pub long : length out ≡ 2 * length src
-  pub front : take (2 * i) out ≡ words (take i src)
+  pub long : length out ≡ width w16 * length src
+  pub front : take (2 * i) out ≡ words w16 (take i src)
 
-pub put-none : (src : List ℤ) (out : List ℕ) → length out ≡ 2 * length src → Put src 0 out
+pub put-none : (src : List ℤ) (out : List ℕ) → length out ≡ width w16 * length src → Put src 0 out
 unfolding words
 put-none src out e = record { within = omega arith; long = e; front = refl }
 
@@ -81,35 +66,35 @@ module _ {src : List ℤ} {i : ℕ} {out : List ℕ} (p : Put src i out) where
         ap₂ (λ (n m : ℕ). take n (set (set out (2 * i) (w % 256)) m (w / 256))) {x = 2 * (i + 1)} {y = suc (suc (2 * i))} (omega arith) (add-one (2 * i))
         ∙ two-stores out (2 * i) (w % 256) (w / 256) (omega (arith, p .long))
         ∙ ap₂ (λ (f l : List ℕ). f ++ l) (p .front) (sym (word-bytes w b) ∙ ap (bytes 2) e)
-        ∙ sym (words-next src i h)
-        ∙ ap (λ (n : ℕ). words (take n src)) (sym (add-one i));
+        ∙ sym (words-next w16 src i h)
+        ∙ ap (λ (n : ℕ). words w16 (take n src)) (sym (add-one i));
   }
 
-  pub put-all : length src ≤ i → out ≡ words src
-  put-all h = sym (take-all (2 * i) out (omega (arith, p .long))) ∙ p .front ∙ ap words (take-all i src h)
+  pub put-all : length src ≤ i → out ≡ words w16 src
+  put-all h = sym (take-all (2 * i) out (omega (arith, p .long))) ∙ p .front ∙ ap (words w16) (take-all i src h)
 
 -- ---- the header
 
-pub header-length : (e : Equaliser) → length (header e) ≡ 12
+pub header-length : (e : Equaliser) → length (header e) ≡ headerLength
 unfolding bytes
 header-length e = refl
 
 -- a place of the header while the bytes before it are stored
-pub header-room : (e : Equaliser) (out : List ℕ) (k : ℕ) → length out ≡ 12 → k < 12 → k < length (sets out 0 (take k (header e)))
+pub header-room : (e : Equaliser) (out : List ℕ) (k : ℕ) → length out ≡ headerLength → k < headerLength → k < length (sets out 0 (take k (header e)))
 header-room e out k h b = lt-length-sets out 0 (take k (header e)) (omega arith)
 
-pub header-put : (e : Equaliser) (out : List ℕ) → length out ≡ 12 → sets out 0 (header e) ≡ header e
+pub header-put : (e : Equaliser) (out : List ℕ) → length out ≡ headerLength → sets out 0 (header e) ≡ header e
 unfolding bytes
-header-put e out h = sets-eq (header e) out 0 (omega arith) ∙ ap (λ (r : List ℕ). header e ++ r) (drop-of-length-le out {i = 12} (omega arith))
+header-put e out h = sets-eq (header e) out 0 (omega arith) ∙ ap (λ (r : List ℕ). header e ++ r) (drop-of-length-le out {i = headerLength} (omega arith))
 
 -- ---- the image
 
 pub image-length : (e : Equaliser) → taps e ≤ length (e .weights) → taps e ≤ length (e .past) → length (image e) ≡ imageLength e
 unfolding image
 image-length e w d =
-    length-append (header e) (words (take (taps e) (e .weights)) ++ words (take (taps e) (e .past)))
-    ∙ ap₂ (λ (a b : ℕ). a + b) (header-length e) (length-append (words (take (taps e) (e .weights))) (words (take (taps e) (e .past))))
-    ∙ omega (arith, words-long (taps e) (e .weights) w, words-long (taps e) (e .past) d)
+    length-append (header e) (words weightWord (take (taps e) (e .weights)) ++ words datumWord (take (taps e) (e .past)))
+    ∙ ap₂ (λ (a b : ℕ). a + b) (header-length e) (length-append (words weightWord (take (taps e) (e .weights))) (words datumWord (take (taps e) (e .past))))
+    ∙ omega (arith, words-long weightWord (taps e) (e .weights) w, words-long datumWord (taps e) (e .past) d)
 
 -- a list after its part from a to e is replaced, where all before it was replaced
 next-part : {A : Type 0} (p ys xs : List A) (a e : ℕ) → length p ≡ a → a + length ys ≡ e → putMid a (e - a) (p ++ drop a xs) ys ≡ (p ++ ys) ++ drop e xs
@@ -119,37 +104,44 @@ next-part p ys xs a e h k =
     ∙ sym (append-assoc p ys (drop e xs))
 
 -- the header and both lists of words at the front of a buffer
-pub image-put : (e : Equaliser) (before h u v : List ℕ) (mid end : ℕ) → taps e ≤ length (e .weights) → taps e ≤ length (e .past) →
-    mid ≡ 12 + 2 * taps e → end ≡ mid + 2 * taps e → h ≡ header e → u ≡ words (take (taps e) (e .weights)) → v ≡ words (take (taps e) (e .past)) →
-    putMid mid (end - mid) (putMid 12 (mid - 12) (h ++ drop 12 before) u) v ≡ image e ++ drop (imageLength e) before
+pub image-put : (e : Equaliser) (before h u v : List ℕ) → taps e ≤ length (e .weights) → taps e ≤ length (e .past) → h ≡ header e → u ≡ words weightWord (take (taps e) (e .weights)) → v ≡ words datumWord (take (taps e) (e .past)) →
+    putMid (dataPlace (taps e)) (imageLength e - dataPlace (taps e)) (putMid headerLength (dataPlace (taps e) - headerLength) (h ++ drop headerLength before) u) v
+    ≡ image e ++ drop (imageLength e) before
 unfolding image
-image-put e before h u v mid end w d m n hs us vs =
-    ap (λ (l : List ℕ). putMid mid (end - mid) l v) (next-part h u before 12 mid long-h (omega (arith, long-u)))
-    ∙ next-part (h ++ u) v before mid end (length-append h u ∙ omega (arith, long-h, long-u)) (omega (arith, long-v))
-    ∙ ap₂ (λ (l : List ℕ) (k : ℕ). l ++ drop k before) (append-assoc h u v ∙ all-is) whole
+image-put e before h u v w d hs us vs =
+    let mid = dataPlace (taps e) in
+    ap (λ (l : List ℕ). putMid mid (imageLength e - mid) l v) (next-part h u before headerLength mid long-h (omega (arith, long-u)))
+    ∙ next-part (h ++ u) v before mid (imageLength e) (length-append h u ∙ omega (arith, long-h, long-u)) (omega (arith, long-v))
+    ∙ ap (λ (l : List ℕ). l ++ drop (imageLength e) before) (append-assoc h u v ∙ all-is)
   where
-    whole : end ≡ imageLength e
-    whole = omega arith
-
-    long-h : length h ≡ 12
+    long-h : length h ≡ headerLength
     long-h = ap length hs ∙ header-length e
 
-    long-u : length u ≡ 2 * taps e
-    long-u = ap length us ∙ words-long (taps e) (e .weights) w
+    long-u : length u ≡ width weightWord * taps e
+    long-u = ap length us ∙ words-long weightWord (taps e) (e .weights) w
 
-    long-v : length v ≡ 2 * taps e
-    long-v = ap length vs ∙ words-long (taps e) (e .past) d
+    long-v : length v ≡ width datumWord * taps e
+    long-v = ap length vs ∙ words-long datumWord (taps e) (e .past) d
 
-    all-is : h ++ (u ++ v) ≡ header e ++ (words (take (taps e) (e .weights)) ++ words (take (taps e) (e .past)))
+    all-is : h ++ (u ++ v) ≡ header e ++ (words weightWord (take (taps e) (e .weights)) ++ words datumWord (take (taps e) (e .past)))
     all-is = ap₂ (λ (a b : List ℕ). a ++ b) hs (ap₂ (λ (a b : List ℕ). a ++ b) us vs)
 
 -- ---- a state that may be saved
 
-pub taps-most : (e : Equaliser) → examined e ≡ 0 → taps e ≤ 32
+pub taps-most : (e : Equaliser) → examined e ≡ 0 → taps e ≤ places
 taps-most e h = let w = fit-within (settings e) (examined-tests e h .0) in omega (arith, w .p-most, w .q-most)
 
 -- what saving answers
 module _ (e : Equaliser) (before : List ℕ) where
+  -- of an accepted state: 0 or 7
+  pub save-number : (P : ℕ → Type 0) → examined e ≡ 0 → P 0 → P 7 → P (saveNumber e before)
+  unfolding saveNumber
+  save-number P h done short = rw h (go (leb (imageLength e) (length before)))
+    where
+      go : (b : Bool) → P (cond b 0 7)
+      go true = done
+      go false = short
+
   refused : (n : ℕ) → saveNumber e before ≡ n → (n ≡ 0 → ⊥) → Save e before (record { number = n; length = 0 }) before
   refused n h k =
       let t = ne-eqb (saveNumber e before) 0 (λ z. k (sym h ∙ z)) in

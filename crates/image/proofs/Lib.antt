@@ -1,7 +1,7 @@
-pub mod ImageLaws
-pub mod StateBits
 pub mod ByteLaws
 pub mod WordLaws
+pub mod ImageLaws
+pub mod StateBits
 pub mod LoadLaws
 pub mod FrameLaws
 pub mod LoadAnswers

@@ -1,32 +1,35 @@
 -- A saved state loads as it was, and accepted bytes are the image of the state that they hold.
 use mathlib.Core.Path.{_≡_, refl, sym, ap, ap₂, _∙_}
 use mathlib.Core.Bool.{Bool, true, false, cond}
-use mathlib.Core.List.{List, [], _∷_, _++_}
-use Prim.Native.Nat.{ℕ, zero, suc, _+_, _*_, _-_, _≤_}
+use mathlib.Core.List.{List, _++_}
+use Prim.Native.Nat.{ℕ, _*_, _-_, _≤_}
 use native.Mathlib.Omega.{arith}
 use lib.Dec.{leb, eqb}
-use lib.ListN.{length, getD, take, drop, replicate, take-append-drop, length-drop}
-use lib.Seq.{length-take-le, take-at, drop-at, take-all, take-add, drop-drop, drop-cons}
-use lib.IntN.{pos}
+use lib.ListN.{length, take, drop, replicate, take-append-drop, length-drop}
+use lib.Seq.{length-take-le, take-at, drop-at, take-all, take-add, drop-drop}
+use lib.IntN.{ℤ, pos}
+use mir.Syntax.{Width}
+use mir.Val.{SFits}
 use borrow.Author.Tests.{le-leb, eq-eqb, eqb-true, eqb-false, leb-true}
+use Rattle.laws.specs.Lists.{all}
 use Rattle.laws.specs.Sums.{Each, each-take, each-drop}
 use Rattle.state.specs.Sizes.{sizesFit}
 use Rattle.steps.specs.Limits.{places}
-use Rattle.state.specs.State.{settings, taps, padded}
+use Rattle.state.specs.State.{settings, taps, padded, isZero, refused}
 use Rattle.state.specs.Answers.{examined}
-use Rattle.image.specs.Image.{Byte, bytes, words, header, image, imageLength}
+use Rattle.image.specs.Image.{Byte, bytes, width, words, header, headerLength, weightWord, datumWord, image, dataPlace, endPlace, imageLength}
 use Rattle.image.specs.Load.{number, wordsOf, tapsIn, weightBytes, pastBytes, stateIn, frameNumber, loadNumber, loadState}
 use Rattle.state.specs.declared.equaliser.Equaliser.{Equaliser}
-use Rattle.state.proofs.SoundLaws.{examined-tests}
+use Rattle.state.proofs.SoundLaws.{Accepted, refused-accepted, examined-tests}
 use Rattle.image.proofs.StateBits.{spare-zero, step-bits, weights-bits, past-bits}
-use Rattle.image.proofs.ImageLaws.{words-long, taps-most, image-length}
-use Rattle.image.proofs.ByteLaws.{number-bytes, bytes-number, words-back, words-forth}
+use Rattle.image.proofs.ImageLaws.{taps-most, image-length}
+use Rattle.image.proofs.ByteLaws.{take-each, number-bytes, bytes-number, words-long, words-count, words-back, words-forth}
 use Rattle.state.proofs.PaddedLaws.{padded-back, padded-long}
 
 -- ---- the tests of loading
 
 module _ (l : List ℕ) where
-  three : (a b c : Bool) → leb 12 (length l) ≡ a → sizesFit (settings (stateIn l)) ≡ b → eqb (length l) (imageLength (stateIn l)) ≡ c →
+  three : (a b c : Bool) → leb headerLength (length l) ≡ a → sizesFit (settings (stateIn l)) ≡ b → eqb (length l) (imageLength (stateIn l)) ≡ c →
       frameNumber l ≡ 0 → (a ≡ true) × (b ≡ true) × (c ≡ true)
   unfolding frameNumber
   three true true true x y z h = (refl, refl, refl)
@@ -35,11 +38,11 @@ module _ (l : List ℕ) where
   three true false false x y z h = absurd (omega (arith, simp (x, y, z) at h))
   three false b c x y z h = absurd (omega (arith, simp x at h))
 
-  pub frame-tests : frameNumber l ≡ 0 → (12 ≤ length l) × (sizesFit (settings (stateIn l)) ≡ true) × (length l ≡ imageLength (stateIn l))
+  pub frame-tests : frameNumber l ≡ 0 → (headerLength ≤ length l) × (sizesFit (settings (stateIn l)) ≡ true) × (length l ≡ imageLength (stateIn l))
   frame-tests h =
       let s = stateIn l in
-      let t = three (leb 12 (length l)) (sizesFit (settings s)) (eqb (length l) (imageLength s)) refl refl refl h in
-      (leb-true 12 (length l) (t .0), t .1, eqb-true (length l) (imageLength s) (t .2))
+      let t = three (leb headerLength (length l)) (sizesFit (settings s)) (eqb (length l) (imageLength s)) refl refl refl h in
+      (leb-true headerLength (length l) (t .0), t .1, eqb-true (length l) (imageLength s) (t .2))
 
 both-zero : (f x : ℕ) (t : Bool) → eqb f 0 ≡ t → cond t x f ≡ 0 → (f ≡ 0) × (x ≡ 0)
 both-zero f x true e h = (eqb-true f 0 e, h)
@@ -51,7 +54,7 @@ load-tests l h = both-zero (frameNumber l) (examined (stateIn l)) (eqb (frameNum
 
 framed : (l : List ℕ) (e : Equaliser) → stateIn l ≡ e → length l ≡ imageLength e → sizesFit (settings e) ≡ true → frameNumber l ≡ 0
 unfolding frameNumber
-framed l e h k f = rw (h, k, le-leb 12 (imageLength e) (omega arith), f, eq-eqb (imageLength e) (imageLength e) refl)
+framed l e h k f = rw (h, k, le-leb headerLength (imageLength e) (omega arith), f, eq-eqb (imageLength e) (imageLength e) refl)
 
 accepted : (l : List ℕ) (e : Equaliser) → stateIn l ≡ e → length l ≡ imageLength e → examined e ≡ 0 → loadNumber l ≡ 0
 unfolding loadNumber
@@ -59,32 +62,39 @@ accepted l e h k x = rw (framed l e h k (examined-tests e x .0), h, x)
 
 -- ---- a saved state loads as it was
 
-module _ (e : Equaliser) (weights : length (e .weights) ≡ 32) (past : length (e .past) ≡ 32) (ok : examined e ≡ 0) where
+module _ (e : Equaliser) (a : Accepted e) where
   weights-within : taps e ≤ length (e .weights)
-  weights-within = omega (arith, taps-most e ok)
+  weights-within = omega (arith, taps-most e (a .number), a .weights-long, a .past-long)
 
   past-within : taps e ≤ length (e .past)
-  past-within = omega (arith, taps-most e ok)
+  past-within = omega (arith, taps-most e (a .number), a .weights-long, a .past-long)
 
-  weights-in : padded (wordsOf (weightBytes (image e))) ≡ e .weights
+  -- an array from the words of its first places
+  array-in : (w : Width) (l : List ℤ) → length l ≡ places → Each (SFits w) (take (taps e) l) → all isZero (drop (taps e) l) ≡ true → padded (wordsOf w (taps e) (words w (take (taps e) l))) ≡ l
+  array-in w l long fit spare =
+      ap (λ (n : ℕ). padded (wordsOf w n (words w (take (taps e) l)))) (sym (length-take-le (taps e) l (omega (arith, taps-most e (a .number)))))
+      ∙ ap padded (words-back w (take (taps e) l) fit)
+      ∙ padded-back (taps e) l long (taps-most e (a .number)) spare
+
+  weights-in : padded (wordsOf weightWord (taps e) (weightBytes (image e))) ≡ e .weights
   unfolding image bytes
   weights-in =
-      ap (λ (l : List ℕ). padded (wordsOf l)) (take-at (words (take (taps e) (e .weights))) (words (take (taps e) (e .past))) (2 * taps e) (words-long (taps e) (e .weights) weights-within))
-      ∙ ap padded (words-back (take (taps e) (e .weights)) (weights-bits e weights past ok))
-      ∙ padded-back (taps e) (e .weights) weights (taps-most e ok) (spare-zero e ok .0)
+      ap (λ (l : List ℕ). padded (wordsOf weightWord (taps e) l))
+      (take-at (words weightWord (take (taps e) (e .weights))) (words datumWord (take (taps e) (e .past))) (width weightWord * taps e) (words-long weightWord (taps e) (e .weights) weights-within))
+      ∙ array-in weightWord (e .weights) (a .weights-long) (weights-bits e a) (spare-zero e (a .number) .0)
 
-  past-in : padded (wordsOf (pastBytes (image e))) ≡ e .past
+  past-in : padded (wordsOf datumWord (taps e) (pastBytes (image e))) ≡ e .past
   unfolding image bytes
   past-in =
-      let w = words (take (taps e) (e .weights)) in
-      let d = words (take (taps e) (e .past)) in
-      ap (λ (l : List ℕ). padded (wordsOf (take (2 * taps e) l))) (sym (drop-drop (2 * taps e) 12 (image e)) ∙ drop-at w d (2 * taps e) (words-long (taps e) (e .weights) weights-within))
-      ∙ ap (λ (l : List ℕ). padded (wordsOf l)) (take-all (2 * taps e) d (omega (arith, words-long (taps e) (e .past) past-within)))
-      ∙ ap padded (words-back (take (taps e) (e .past)) (past-bits e weights past ok))
-      ∙ padded-back (taps e) (e .past) past (taps-most e ok) (spare-zero e ok .1)
+      let w = words weightWord (take (taps e) (e .weights)) in
+      let d = words datumWord (take (taps e) (e .past)) in
+      ap (λ (l : List ℕ). padded (wordsOf datumWord (taps e) (take (width datumWord * taps e) l)))
+      (sym (drop-drop (width weightWord * taps e) headerLength (image e)) ∙ drop-at w d (width weightWord * taps e) (words-long weightWord (taps e) (e .weights) weights-within))
+      ∙ ap (λ (l : List ℕ). padded (wordsOf datumWord (taps e) l)) (take-all (width datumWord * taps e) d (omega (arith, words-long datumWord (taps e) (e .past) past-within)))
+      ∙ array-in datumWord (e .past) (a .past-long) (past-bits e a) (spare-zero e (a .number) .1)
 
   step-in : number (bytes 4 (e .m)) ≡ e .m
-  step-in = number-bytes 4 (e .m) (step-bits e weights past ok)
+  step-in = number-bytes 4 (e .m) (step-bits e a)
 
   state-in : stateIn (image e) ≡ e
   unfolding stateIn image bytes
@@ -105,21 +115,12 @@ module _ (e : Equaliser) (weights : length (e .weights) ≡ 32) (past : length (
   pub load-image : (loadNumber (image e) ≡ 0) × (loadState (image e) ≡ e)
   unfolding loadState
   load-image =
-      let n = accepted (image e) e state-in (image-length e weights-within past-within) ok in
+      let n = accepted (image e) e state-in (image-length e weights-within past-within) (a .number) in
       (n, rw n state-in)
 
 -- ---- accepted bytes are an image
 
--- the elements from i on, one by one
-abbrev pub each : ℕ → ℕ → List ℕ → List ℕ
-each i zero l = []
-each i (suc n) l = getD l i 0 ∷ each (suc i) n l
-
-pub take-each : (n i : ℕ) (l : List ℕ) → i + n ≤ length l → take n (drop i l) ≡ each i n l
-take-each zero i l h = refl
-take-each (suc n) i l h = ap (take (suc n)) (drop-cons l i 0 (omega arith)) ∙ ap (λ (r : List ℕ). getD l i 0 ∷ r) (take-each n (suc i) l (omega arith))
-
-header-in : (l : List ℕ) → 12 ≤ length l → Each Byte l → header (stateIn l) ≡ take 12 l
+header-in : (l : List ℕ) → headerLength ≤ length l → Each Byte l → header (stateIn l) ≡ take headerLength l
 unfolding stateIn
 header-in l h b =
     let m = take 4 (drop 8 l) in
@@ -127,51 +128,66 @@ header-in l h b =
     (ap (λ (k : ℕ). bytes k (number m)) (sym (length-take-le 4 (drop 8 l) (omega (arith, length-drop 8 l)))) ∙ bytes-number m (each-take Byte 4 (drop 8 l) (each-drop Byte 8 l b)))
     ∙ sym (take-add 8 4 l)
 
--- 2n bytes as n of the 32 places
-part-in : (n : ℕ) (l : List ℕ) → length l ≡ 2 * n → Each Byte l → words (take n (padded (wordsOf l))) ≡ l
-part-in n l e h = let r = words-forth n l e h in ap words (take-at (wordsOf l) (replicate (places - length (wordsOf l)) (pos 0)) n (r .1)) ∙ r .0
+-- the bytes of n numbers, at the front of the places
+part-in : (w : Width) (n : ℕ) (l : List ℕ) → length l ≡ width w * n → Each Byte l → words w (take n (padded (wordsOf w n l))) ≡ l
+part-in w n l e h = ap (words w) (take-at (wordsOf w n l) (replicate (places - length (wordsOf w n l)) (pos 0)) n (words-count w n l)) ∙ words-forth w n l e h
 
 module _ (l : List ℕ) (b : Each Byte l) (ok : loadNumber l ≡ 0) where
-  pub loaded-sound : examined (stateIn l) ≡ 0
+  loaded-sound : examined (stateIn l) ≡ 0
   loaded-sound = load-tests l ok .1
 
-  long : length l ≡ 12 + 4 * tapsIn l
+  long : length l ≡ endPlace (tapsIn l)
   unfolding stateIn
   long = frame-tests l (load-tests l ok .0) .2
 
-  few : tapsIn l ≤ 32
+  few : tapsIn l ≤ places
   unfolding stateIn
   few = taps-most (stateIn l) loaded-sound
 
-  weights-size : length (weightBytes l) ≡ 2 * tapsIn l
-  weights-size = length-take-le (2 * tapsIn l) (drop 12 l) (omega (arith, length-drop 12 l, long))
+  weights-size : length (weightBytes l) ≡ width weightWord * tapsIn l
+  weights-size = length-take-le (width weightWord * tapsIn l) (drop headerLength l) (omega (arith, length-drop headerLength l, long))
 
-  past-size : length (pastBytes l) ≡ 2 * tapsIn l
-  past-size = length-take-le (2 * tapsIn l) (drop (12 + 2 * tapsIn l) l) (omega (arith, length-drop (12 + 2 * tapsIn l) l, long))
+  past-size : length (pastBytes l) ≡ width datumWord * tapsIn l
+  past-size = length-take-le (width datumWord * tapsIn l) (drop (dataPlace (tapsIn l)) l) (omega (arith, length-drop (dataPlace (tapsIn l)) l, long))
 
   weights-are : Each Byte (weightBytes l)
-  weights-are = each-take Byte (2 * tapsIn l) (drop 12 l) (each-drop Byte 12 l b)
+  weights-are = each-take Byte (width weightWord * tapsIn l) (drop headerLength l) (each-drop Byte headerLength l b)
 
   past-are : Each Byte (pastBytes l)
-  past-are = each-take Byte (2 * tapsIn l) (drop (12 + 2 * tapsIn l) l) (each-drop Byte (12 + 2 * tapsIn l) l b)
+  past-are = each-take Byte (width datumWord * tapsIn l) (drop (dataPlace (tapsIn l)) l) (each-drop Byte (dataPlace (tapsIn l)) l b)
 
   -- both parts are all that follows the header
-  rest : weightBytes l ++ pastBytes l ≡ drop 12 l
+  rest : weightBytes l ++ pastBytes l ≡ drop headerLength l
   rest =
       ap (λ (r : List ℕ). weightBytes l ++ r)
-      (take-all (2 * tapsIn l) (drop (12 + 2 * tapsIn l) l) (omega (arith, length-drop (12 + 2 * tapsIn l) l, long)) ∙ sym (drop-drop (2 * tapsIn l) 12 l))
-      ∙ take-append-drop (2 * tapsIn l) (drop 12 l)
+      (take-all (width datumWord * tapsIn l) (drop (dataPlace (tapsIn l)) l) (omega (arith, length-drop (dataPlace (tapsIn l)) l, long)) ∙ sym (drop-drop (width weightWord * tapsIn l) headerLength l))
+      ∙ take-append-drop (width weightWord * tapsIn l) (drop headerLength l)
 
-  pub loaded-long : (length (stateIn l .weights) ≡ 32) × (length (stateIn l .past) ≡ 32)
+  loaded-accepted : Accepted (stateIn l)
   unfolding stateIn
-  loaded-long = (
-    padded-long (wordsOf (weightBytes l)) (omega (arith, few, words-forth (tapsIn l) (weightBytes l) weights-size weights-are .1)),
-    padded-long (wordsOf (pastBytes l)) (omega (arith, few, words-forth (tapsIn l) (pastBytes l) past-size past-are .1)),
-  )
+  loaded-accepted = record {
+    weights-long = padded-long (wordsOf weightWord (tapsIn l) (weightBytes l)) (omega (arith, few, words-count weightWord (tapsIn l) (weightBytes l)));
+    past-long = padded-long (wordsOf datumWord (tapsIn l) (pastBytes l)) (omega (arith, few, words-count datumWord (tapsIn l) (pastBytes l)));
+    number = loaded-sound;
+  }
 
-  pub image-loaded : image (stateIn l) ≡ l
+  image-in : image (stateIn l) ≡ l
   unfolding image stateIn
-  image-loaded =
+  image-in =
       ap₂ (λ (x y : List ℕ). x ++ y) (header-in l (frame-tests l (load-tests l ok .0) .0) b)
-      (ap₂ (λ (x y : List ℕ). x ++ y) (part-in (tapsIn l) (weightBytes l) weights-size weights-are) (part-in (tapsIn l) (pastBytes l) past-size past-are) ∙ rest)
-      ∙ take-append-drop 12 l
+      (ap₂ (λ (x y : List ℕ). x ++ y) (part-in weightWord (tapsIn l) (weightBytes l) weights-size weights-are) (part-in datumWord (tapsIn l) (pastBytes l) past-size past-are) ∙ rest)
+      ∙ take-append-drop headerLength l
+
+-- whatever bytes are loaded
+pub load-accepted : (l : List ℕ) → Each Byte l → Accepted (loadState l)
+unfolding loadState
+load-accepted l b = go (eqb (loadNumber l) 0) refl
+  where
+    go : (t : Bool) → eqb (loadNumber l) 0 ≡ t → Accepted (cond t (stateIn l) refused)
+    go true e = loaded-accepted l b (eqb-true (loadNumber l) 0 e)
+    go false e = refused-accepted
+
+-- what was loaded saves to the same bytes
+pub image-loaded : (l : List ℕ) → Each Byte l → loadNumber l ≡ 0 → image (loadState l) ≡ l
+unfolding loadState
+image-loaded l b ok = rw ok (image-in l b ok)

@@ -1,29 +1,30 @@
 -- What a sound state holds fits its bytes: M in 32 bits, each weight and datum in 16.
 use mathlib.Core.Path.{_≡_, refl, sym, ap, _∙_, subst}
-use mathlib.Core.Bool.{true, _&&_}
+use mathlib.Core.Bool.{true}
 use mathlib.Core.List.{List, [], _∷_, _++_}
 use Prim.Native.Nat.{ℕ, suc, _+_, _*_, _-_, _^_, _≤_, _<_}
 use native.Mathlib.Omega.{arith}
 use native.Mathlib.Nat.{mul-le-mul-left, lt-of-le-of-lt, lt-of-lt-of-le}
-use lib.ListN.{length, take, drop}
+use lib.ListN.{take, drop}
 use lib.Seq.{take-add, take-suc}
 use lib.IntN.{ℤ, pos, natAbs}
-use mir.Syntax.{w16}
 use mir.Val.{SFits}
 use borrow.Author.Tests.{eqb-true}
-use Rattle.laws.specs.Lists.{all, and-left, and-right}
+use Rattle.laws.specs.Lists.{all, and-right}
 use Rattle.laws.specs.Machine.{fits-abs}
 use Rattle.laws.specs.Powers.{split, rises, lower, cancel-le}
 use Rattle.laws.specs.Sums.{Each, each-append, each-weaken}
+use Rattle.steps.specs.Limits.{symbolLimit}
 use Rattle.steps.specs.Settings.{scaleForward, stepBound, isEntry}
 use Rattle.steps.specs.Side.{allSmall}
 use Rattle.steps.specs.Sound.{Small}
 use Rattle.block.specs.Sound.{Sound}
 use Rattle.steps.proofs.SymbolLaws.{entry-below}
-use Rattle.state.specs.State.{settings, memory, taps, forward, back, samples, filler, symbols, isZero, isStored, soundPast}
+use Rattle.state.specs.State.{settings, memory, taps, forward, back, samples, filler, symbols, isZero}
 use Rattle.state.specs.Answers.{examined}
 use Rattle.state.specs.declared.equaliser.Equaliser.{Equaliser}
-use Rattle.state.proofs.SoundLaws.{examined-tests, examined-sound, sound-tests}
+use Rattle.image.specs.Image.{weightWord, datumWord}
+use Rattle.state.proofs.SoundLaws.{Accepted, accepted-sound, examined-tests, sound-tests, past-tests}
 
 -- M·D ≤ 2^30, both sides times 2^L
 step-most : (m d L : ℕ) → 2 ^ L ≤ d → m * d ≤ 2 ^ (30 + L) → m ≤ 2 ^ 30
@@ -35,43 +36,34 @@ stored-fits n B s b h k =
     lower n (15 + B) 15 B refl
     (lt-of-le-of-lt (mul-le-mul-left n (rises {a = B} {b = B + s} (omega arith))) (lt-of-lt-of-le k (rises {a = 15 + b} {b = 15 + B} (omega arith))))
 
-entry-fits : (r : ℕ) (v : ℤ) → r ≤ 3 → isEntry r v ≡ true → natAbs v < 2 ^ 15
+entry-fits : (r : ℕ) (v : ℤ) → r ≤ symbolLimit → isEntry r v ≡ true → natAbs v < 2 ^ 15
 entry-fits r v h e = lt-of-lt-of-le (entry-below r v e) (rises {a = r + 1} {b = 15} (omega arith))
 
--- the filler is 0, and so is every spare place
-past-tests : (e : Equaliser) → soundPast e ≡ true → (isZero (filler e) ≡ true) × (all isZero (drop (taps e) (e .past)) ≡ true)
-past-tests e h =
-    let stored = all (isStored (scaleForward (settings e)) (e .b) (e .big)) (samples e) in
-    let entries = all (isEntry (e .r)) (symbols e) in
-    let spare = all isZero (drop (taps e) (e .past)) in (
-      and-right stored (isZero (filler e)) (and-left (stored && isZero (filler e)) entries (and-left (stored && isZero (filler e) && entries) spare h)),
-      and-right (stored && isZero (filler e) && entries) spare h,
-    )
-
+-- every spare place is 0
 pub spare-zero : (e : Equaliser) → examined e ≡ 0 → (all isZero (drop (taps e) (e .weights)) ≡ true) × (all isZero (drop (taps e) (e .past)) ≡ true)
 spare-zero e ok =
     let t = sound-tests e (examined-tests e ok .2) in
-    (and-right (allSmall (take (taps e) (e .weights))) (all isZero (drop (taps e) (e .weights))) (t .1), past-tests e (t .2) .1)
+    (and-right (allSmall (take (taps e) (e .weights))) (all isZero (drop (taps e) (e .weights))) (t .1), past-tests e (t .2) .3)
 
-module _ (e : Equaliser) (weights : length (e .weights) ≡ 32) (past : length (e .past) ≡ 32) (ok : examined e ≡ 0) where
+module _ (e : Equaliser) (a : Accepted e) where
   sound : Sound (settings e) (memory e)
-  sound = examined-sound e weights past ok
+  sound = accepted-sound a
 
   pub step-bits : e .m < 2 ^ 32
   step-bits =
       let k = settings e in
       omega (arith, step-most (e .m) (stepBound k) (e .l) (omega (arith, rises {a = e .l} {b = 2 * e .r + 3 + e .l} (omega arith))) (sound .admitted))
 
-  pub weights-bits : Each (SFits w16) (take (taps e) (e .weights))
+  pub weights-bits : Each (SFits weightWord) (take (taps e) (e .weights))
   weights-bits =
-      subst (Each (SFits w16)) (sym (take-add (e .p) (e .q) (e .weights)))
-      (each-append (SFits w16) (forward e) (back e) (small (forward e) (sound .forward-small)) (small (back e) (sound .back-small)))
+      subst (Each (SFits weightWord)) (sym (take-add (e .p) (e .q) (e .weights)))
+      (each-append (SFits weightWord) (forward e) (back e) (small (forward e) (sound .forward-small)) (small (back e) (sound .back-small)))
     where
-      small : (l : List ℤ) → Each Small l → Each (SFits w16) l
-      small l h = each-weaken Small (SFits w16) (λ z f. fits-abs z (omega arith)) l h
+      small : (l : List ℤ) → Each Small l → Each (SFits weightWord) l
+      small l h = each-weaken Small (SFits weightWord) (λ z f. fits-abs z (omega arith)) l h
 
   filler-zero : natAbs (filler e) ≡ 0
-  filler-zero = eqb-true (natAbs (filler e)) 0 (past-tests e (sound-tests e (examined-tests e ok .2) .2) .0)
+  filler-zero = eqb-true (natAbs (filler e)) 0 (past-tests e (sound-tests e (examined-tests e (a .number) .2) .2) .1)
 
   -- the samples and the filler
   front : take (e .p) (e .past) ≡ samples e ++ filler e ∷ []
@@ -80,11 +72,11 @@ module _ (e : Equaliser) (weights : length (e .weights) ≡ 32) (past : length (
       last : e .p ≡ suc (e .p - 1)
       last = omega (arith, sound .within .p-least)
 
-  pub past-bits : Each (SFits w16) (take (taps e) (e .past))
+  pub past-bits : Each (SFits datumWord) (take (taps e) (e .past))
   past-bits =
-      subst (Each (SFits w16)) (sym (take-add (e .p) (e .q) (e .past) ∙ ap (λ (l : List ℤ). l ++ symbols e) front))
-      (each-append (SFits w16) (samples e ++ filler e ∷ []) (symbols e)
-      (each-append (SFits w16) (samples e) (filler e ∷ [])
-      (each-weaken _ (SFits w16) (λ a h. fits-abs a (stored-fits (natAbs a) (e .big) (scaleForward (settings e)) (e .b) (sound .b-most) h)) (samples e) (sound .samples-small))
+      subst (Each (SFits datumWord)) (sym (take-add (e .p) (e .q) (e .past) ∙ ap (λ (l : List ℤ). l ++ symbols e) front))
+      (each-append (SFits datumWord) (samples e ++ filler e ∷ []) (symbols e)
+      (each-append (SFits datumWord) (samples e) (filler e ∷ [])
+      (each-weaken _ (SFits datumWord) (λ a h. fits-abs a (stored-fits (natAbs a) (e .big) (scaleForward (settings e)) (e .b) (sound .b-most) h)) (samples e) (sound .samples-small))
       (fits-abs (filler e) (omega (arith, filler-zero)), tt))
-      (each-weaken _ (SFits w16) (λ v h. fits-abs v (entry-fits (e .r) v (sound .within .r-most) h)) (symbols e) (sound .symbols-are)))
+      (each-weaken _ (SFits datumWord) (λ v h. fits-abs v (entry-fits (e .r) v (sound .within .r-most) h)) (symbols e) (sound .symbols-are)))

@@ -1,39 +1,32 @@
--- Words in bytes, and thirty-two places that a loop fills with them.
-use mathlib.Core.Path.{_≡_, refl, sym, ap, ap₂, _∙_}
+-- Words of two bytes, and the places that a loop fills with them.
+use mathlib.Core.Path.{_≡_, sym, ap, _∙_}
 use mathlib.Core.List.{List, [], _∷_, _++_}
-use Prim.Native.Nat.{ℕ, zero, suc, _+_, _*_, _-_, _/_, _≤_, _<_}
+use Prim.Native.Nat.{ℕ, zero, suc, _+_, _*_, _-_, _≤_, _<_}
 use native.Mathlib.Omega.{arith}
-use lib.ListN.{length, getD, set, replicate}
+use native.Mathlib.Numerals.{add-one}
+use lib.ListN.{length, getD, set, replicate, length-replicate}
 use lib.IntN.{ℤ, pos}
 use mir.Syntax.{w16}
 use mir.Val.{toZ}
 use Rattle.laws.specs.Lists.{overlay, Written, written-none, written-next}
 use Rattle.steps.specs.Limits.{places}
 use Rattle.state.specs.State.{padded}
-use Rattle.image.specs.Load.{wordsOf}
+use Rattle.image.specs.Image.{width}
+use Rattle.image.specs.Load.{number, wordsOf}
+use Rattle.image.proofs.ByteLaws.{take-each, words-count, word-at}
 
--- ---- the words of any bytes
+-- ---- a word of two bytes
 
-words-count : (l : List ℕ) → length (wordsOf l) ≡ length l / 2
-unfolding wordsOf
-words-count [] = refl
-words-count (a ∷ []) = refl
-words-count (a ∷ b ∷ l) = omega (arith, words-count l)
-
-word-at : (l : List ℕ) (i : ℕ) → i < length l / 2 → getD (wordsOf l) i (pos 0) ≡ toZ w16 (getD l (2 * i) 0 + 256 * getD l (2 * i + 1) 0)
-unfolding wordsOf
-word-at [] i h = absurd (omega arith)
-word-at (a ∷ []) i h = absurd (omega arith)
-word-at (a ∷ b ∷ l) zero h = refl
-word-at (a ∷ b ∷ l) (suc i) h =
-    word-at l i (omega arith)
-    ∙ ap₂ (λ (j k : ℕ). toZ w16 (getD (a ∷ b ∷ l) j 0 + 256 * getD (a ∷ b ∷ l) k 0)) first second
+word-pair : (n i : ℕ) (l : List ℕ) → length l ≡ width w16 * n → i < n → getD (wordsOf w16 n l) i (pos 0) ≡ toZ w16 (getD l (2 * i) 0 + 256 * getD l (2 * i + 1) 0)
+unfolding number
+word-pair n i l e h =
+    word-at w16 n i l h
+    ∙ ap (λ (b : List ℕ). toZ w16 (number b)) (take-each 2 (2 * i) l (omega arith))
+    ∙ ap (toZ w16) (two (getD l (2 * i) 0) (getD l (suc (2 * i)) 0))
+    ∙ ap (λ (j : ℕ). toZ w16 (getD l (2 * i) 0 + 256 * getD l j 0)) (sym (add-one (2 * i)))
   where
-    first : suc (suc (2 * i)) ≡ 2 * suc i
-    first = omega arith
-
-    second : suc (suc (2 * i + 1)) ≡ 2 * suc i + 1
-    second = omega arith
+    two : (a b : ℕ) → number (a ∷ b ∷ []) ≡ a + 256 * b
+    two a b = omega arith
 
 -- ---- the places
 
@@ -45,15 +38,15 @@ overlay-zeros (suc i) zero m (x ∷ new) h e = absurd (omega arith)
 overlay-zeros (suc i) (suc k) m (x ∷ new) h e = ap (λ (r : List ℤ). x ∷ r) (overlay-zeros i k m new (omega arith) (omega arith))
 
 -- the first i words of l are at their places
-abbrev pub Worded : List ℕ → ℕ → List ℤ → Type 0
-Worded l i out = Written (wordsOf l) (replicate places (pos 0)) i out
+abbrev pub Worded : ℕ → List ℕ → ℕ → List ℤ → Type 0
+Worded n l i out = Written (wordsOf w16 n l) (replicate places (pos 0)) i out
 
-module _ (l : List ℕ) (few : length l ≤ 64) where
-  pub worded-none : Worded l 0 (replicate places (pos 0))
-  worded-none = written-none (wordsOf l) (replicate places (pos 0))
+module _ (n : ℕ) (l : List ℕ) (e : length l ≡ width w16 * n) (few : n ≤ places) where
+  pub worded-none : Worded n l 0 (replicate places (pos 0))
+  worded-none = written-none (wordsOf w16 n l) (replicate places (pos 0))
 
-  pub worded-next : (i : ℕ) (out : List ℤ) (x : ℤ) → i < length l / 2 → Worded l i out → x ≡ toZ w16 (getD l (2 * i) 0 + 256 * getD l (2 * i + 1) 0) → Worded l (i + 1) (set out i x)
-  worded-next i out x h w e = written-next w (pos 0) x (omega (arith, words-count l)) (omega arith) (e ∙ sym (word-at l i h))
+  pub worded-next : (i : ℕ) (out : List ℤ) (x : ℤ) → i < n → Worded n l i out → x ≡ toZ w16 (getD l (2 * i) 0 + 256 * getD l (2 * i + 1) 0) → Worded n l (i + 1) (set out i x)
+  worded-next i out x h w f = written-next w (pos 0) x (omega (arith, words-count w16 n l)) (omega (arith, length-replicate places (pos 0))) (f ∙ sym (word-pair n i l e h))
 
-  pub worded-all : (i : ℕ) (out : List ℤ) → length l / 2 ≤ i → Worded l i out → out ≡ padded (wordsOf l)
-  worded-all i out h w = w .is ∙ overlay-zeros i places (places - length (wordsOf l)) (wordsOf l) (omega (arith, words-count l)) (omega (arith, words-count l))
+  pub worded-all : (i : ℕ) (out : List ℤ) → n ≤ i → Worded n l i out → out ≡ padded (wordsOf w16 n l)
+  worded-all i out h w = w .is ∙ overlay-zeros i places (places - length (wordsOf w16 n l)) (wordsOf w16 n l) (omega (arith, words-count w16 n l)) (omega (arith, words-count w16 n l))

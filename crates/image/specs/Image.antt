@@ -6,12 +6,15 @@ use Prim.Native.Nat.{ℕ, zero, suc, _+_, _*_, _/_, _%_, _<_}
 use lib.Dec.{leb, eqb}
 use lib.ListN.{length, take, drop}
 use lib.IntN.{ℤ}
-use mir.Syntax.{w16}
+use mir.Syntax.{Width, w16}
 use mir.Val.{ofZ}
+use mir.Val as Val
 use Rattle.state.specs.State.{taps}
 use Rattle.state.specs.Answers.{examined}
 use Rattle.state.specs.declared.equaliser.Equaliser.{Equaliser}
 use Rattle.image.specs.declared.save.Saved.{Saved}
+
+-- ---- bytes
 
 abbrev pub Byte : ℕ → Type 0
 Byte b = b < 256
@@ -21,10 +24,16 @@ unfoldable pub bytes : ℕ → ℕ → List ℕ
 bytes zero n = []
 bytes (suc k) n = n % 256 ∷ bytes k (n / 256)
 
--- signed 16-bit numbers, two bytes each
-unfoldable pub words : List ℤ → List ℕ
-words [] = []
-words (z ∷ l) = bytes 2 (ofZ w16 z) ++ words l
+-- the bytes of a signed number of 8, 16, 32 or more bits
+abbrev pub width : Width → ℕ
+width w = Val.bytes w
+
+-- signed numbers of one width, one after another
+unfoldable pub words : Width → List ℤ → List ℕ
+words w [] = []
+words w (z ∷ l) = bytes (width w) (ofZ w z) ++ words w l
+
+-- ---- the layout
 
 -- p, q, N, r, L, ψ, b, B and M
 abbrev pub header : Equaliser → List ℕ
@@ -33,11 +42,25 @@ header e = e .p ∷ e .q ∷ e .n ∷ e .r ∷ e .l ∷ e .psi ∷ e .b ∷ e .b
 abbrev pub headerLength : ℕ
 headerLength = 12
 
+-- a weight has 16 bits, and so has a datum
+abbrev pub weightWord : Width
+weightWord = w16
+
+abbrev pub datumWord : Width
+datumWord = w16
+
 unfoldable pub image : Equaliser → List ℕ
-image e = header e ++ (words (take (taps e) (e .weights)) ++ words (take (taps e) (e .past)))
+image e = header e ++ (words weightWord (take (taps e) (e .weights)) ++ words datumWord (take (taps e) (e .past)))
+
+-- where the data begin, and where an image ends, from the number of taps
+abbrev pub dataPlace : ℕ → ℕ
+dataPlace t = headerLength + width weightWord * t
+
+abbrev pub endPlace : ℕ → ℕ
+endPlace t = dataPlace t + width datumWord * t
 
 abbrev pub imageLength : Equaliser → ℕ
-imageLength e = headerLength + 4 * taps e
+imageLength e = endPlace (taps e)
 
 -- ---- saving
 

@@ -2,16 +2,16 @@
 use mathlib.Core.Bool.{cond}
 use mathlib.Core.List.{List, [], _∷_}
 use mathlib.Core.Path.{_≡_}
-use Prim.Native.Nat.{ℕ, _+_, _*_}
+use Prim.Native.Nat.{ℕ, zero, suc, _+_, _*_}
 use lib.Dec.{leb, eqb}
 use lib.ListN.{length, getD, take, drop}
 use lib.IntN.{ℤ}
-use mir.Syntax.{w16}
+use mir.Syntax.{Width}
 use mir.Val.{toZ}
 use Rattle.state.specs.Sizes.{sizesFit}
 use Rattle.state.specs.State.{settings, padded, refused}
 use Rattle.state.specs.Answers.{examined}
-use Rattle.image.specs.Image.{headerLength, imageLength}
+use Rattle.image.specs.Image.{width, headerLength, weightWord, datumWord, dataPlace, imageLength}
 use Rattle.state.specs.declared.equaliser.Equaliser.{Equaliser}
 use Rattle.state.specs.declared.equaliser.Answer.{Answer}
 
@@ -21,15 +21,10 @@ unfoldable pub number : List ℕ → ℕ
 number [] = 0
 number (b ∷ l) = b + 256 * number l
 
--- sixteen bits as a signed number
-abbrev pub signed : ℕ → ℤ
-signed n = toZ w16 n
-
--- a signed 16-bit number for every two bytes
-unfoldable pub wordsOf : List ℕ → List ℤ
-wordsOf [] = []
-wordsOf (a ∷ []) = []
-wordsOf (a ∷ b ∷ l) = signed (a + 256 * b) ∷ wordsOf l
+-- the first n signed numbers of one width
+unfoldable pub wordsOf : Width → ℕ → List ℕ → List ℤ
+wordsOf w zero l = []
+wordsOf w (suc n) l = toZ w (number (take (width w) l)) ∷ wordsOf w n (drop (width w) l)
 
 -- ---- the parts of an image
 
@@ -40,10 +35,10 @@ abbrev pub tapsIn : List ℕ → ℕ
 tapsIn l = byteAt l 0 + byteAt l 1
 
 abbrev pub weightBytes : List ℕ → List ℕ
-weightBytes l = take (2 * tapsIn l) (drop headerLength l)
+weightBytes l = take (width weightWord * tapsIn l) (drop headerLength l)
 
 abbrev pub pastBytes : List ℕ → List ℕ
-pastBytes l = take (2 * tapsIn l) (drop (headerLength + 2 * tapsIn l) l)
+pastBytes l = take (width datumWord * tapsIn l) (drop (dataPlace (tapsIn l)) l)
 
 unfoldable pub stateIn : List ℕ → Equaliser
 stateIn l = record {
@@ -56,13 +51,13 @@ stateIn l = record {
   b = byteAt l 6;
   big = byteAt l 7;
   m = number (take 4 (drop 8 l));
-  weights = padded (wordsOf (weightBytes l));
-  past = padded (wordsOf (pastBytes l));
+  weights = padded (wordsOf weightWord (tapsIn l) (weightBytes l));
+  past = padded (wordsOf datumWord (tapsIn l) (pastBytes l));
 }
 
 -- ---- loading
 
--- the checks of the bytes alone: 8 below 12 of them, 1 on the sizes, 8 if the length isn't exact
+-- the checks of the bytes alone: 8 below the header's length, 1 on the sizes, 8 if the length isn't exact
 unfoldable pub frameNumber : List ℕ → ℕ
 frameNumber l =
     cond (leb headerLength (length l)) (cond (sizesFit (settings (stateIn l))) (cond (eqb (length l) (imageLength (stateIn l))) 0 8) 1) 8

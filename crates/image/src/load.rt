@@ -2,20 +2,23 @@
 ghost use mathlib.Core.Path.{_≡_};
 ghost use Prim.Native.Nat.{_+_, _*_, _≤_};
 ghost use lib.ListN.{length};
+ghost use mir.Syntax.{w16};
+ghost use Rattle.steps.specs.Limits.{places};
 ghost use Rattle.state.specs.State.{padded};
+ghost use Rattle.image.specs.Image.{width, endPlace};
 ghost use Rattle.image.specs.Load.{wordsOf, tapsIn, stateIn, frameNumber, Load};
 use super::bytes::number32;
 use super::bytes::signed16;
 use state::equaliser::Answer;
 use state::equaliser::Equaliser;
+use steps::limits::PLACES;
 
-// Signed numbers of two bytes each, at the front of thirty-two places.
-pub fn words_in(bytes: &[u8]) -> [i16; 32]
-    requires { ⌜ length (now bytes) ≤ 64 ⌝ }
-    ensures { λ r. ⌜ r ≡ padded (wordsOf (now (bytes .entry))) ⌝ }
+// Signed numbers of two bytes each, at the front of the places.
+pub fn words_in(bytes: &[u8], n: usize) -> [i16; PLACES]
+    requires { ⌜ (length (now bytes) ≡ width w16 * n) × (n ≤ places) ⌝ }
+    ensures { λ r. ⌜ r ≡ padded (wordsOf w16 n (now (bytes .entry))) ⌝ }
 {
-    let mut out = [0i16; 32];
-    let n = bytes.len() / 2;
+    let mut out = [0i16; PLACES];
     let mut i: usize = 0;
     while i < n {
         out[i] = signed16(bytes[2 * i], bytes[2 * i + 1]);
@@ -24,30 +27,35 @@ pub fn words_in(bytes: &[u8]) -> [i16; 32]
     out
 }
 
-// 8 below 12 bytes, 1 on the sizes, 8 if the length isn't exact, or 0.
+// 8 below the header's length, 1 on the sizes, 8 if the length isn't exact, or 0.
 pub fn frame_number(bytes: &[u8]) -> u8
     ensures { λ r. ⌜ r ≡ frameNumber (now (bytes .entry)) ⌝ }
 {
-    if bytes.len() < 12 {
+    if bytes.len() < Equaliser::HEADER {
         return 8;
     }
     if !state::sizes::sizes_fit(bytes[0], bytes[1], bytes[2], bytes[3], bytes[4]) {
         return 1;
     }
     let taps = (bytes[0] as usize) + (bytes[1] as usize);
-    if bytes.len() == 12 + 4 * taps { 0 } else { 8 }
+    if bytes.len() == Equaliser::HEADER + Equaliser::WEIGHT * taps + Equaliser::DATUM * taps {
+        0
+    } else {
+        8
+    }
 }
 
 // The state in bytes of the right length.
 pub fn state_in(bytes: &[u8]) -> Equaliser
-    requires { ⌜ (length (now bytes) ≡ 12 + 4 * tapsIn (now bytes)) × (tapsIn (now bytes) ≤ 32) ⌝ }
+    requires { ⌜ (length (now bytes) ≡ endPlace (tapsIn (now bytes))) × (tapsIn (now bytes) ≤ places) ⌝ }
     ensures { λ e. ⌜ e ≡ stateIn (now (bytes .entry)) ⌝ }
 {
     let taps = (bytes[0] as usize) + (bytes[1] as usize);
-    let mid = 12 + 2 * taps;
-    let end = mid + 2 * taps;
-    let weights = words_in(&bytes[12..mid]);
-    let past = words_in(&bytes[mid..end]);
+    let start = Equaliser::HEADER;
+    let mid = start + Equaliser::WEIGHT * taps;
+    let end = mid + Equaliser::DATUM * taps;
+    let weights = words_in(&bytes[start..mid], taps);
+    let past = words_in(&bytes[mid..end], taps);
     Equaliser {
         p: bytes[0],
         q: bytes[1],

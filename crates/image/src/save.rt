@@ -4,7 +4,7 @@ ghost use Prim.Native.Nat.{_*_};
 ghost use lib.ListN.{length};
 ghost use mir.Syntax.{w16};
 ghost use mir.Val.{ofZ};
-ghost use Rattle.image.specs.Image.{words, header, Save};
+ghost use Rattle.image.specs.Image.{width, words, header, headerLength, Save};
 use state::equaliser::Equaliser;
 
 // A number beside the length of an image.
@@ -27,8 +27,8 @@ fn word(z: i16) -> u16
 
 // Signed numbers, two bytes each, lowest first.
 pub fn put_words(src: &[i16], out: &mut [u8])
-    requires { ⌜ length (now out) ≡ 2 * length (now src) ⌝ }
-    ensures { λ _. ⌜ now (out .exit) ≡ words (now (src .entry)) ⌝ }
+    requires { ⌜ length (now out) ≡ width w16 * length (now src) ⌝ }
+    ensures { λ _. ⌜ now (out .exit) ≡ words w16 (now (src .entry)) ⌝ }
 {
     let mut i: usize = 0;
     while i < src.len() {
@@ -39,9 +39,9 @@ pub fn put_words(src: &[i16], out: &mut [u8])
     }
 }
 
-// The first twelve bytes.
+// What stands before the weights.
 pub fn put_header(e: Equaliser, out: &mut [u8])
-    requires { ⌜ length (now out) ≡ 12 ⌝ }
+    requires { ⌜ length (now out) ≡ headerLength ⌝ }
     ensures { λ _. ⌜ now (out .exit) ≡ header e ⌝ }
 {
     let m = e.m;
@@ -74,8 +74,9 @@ pub fn save(e: Equaliser, buffer: &mut [u8]) -> Saved
         };
     }
     let taps = (e.p as usize) + (e.q as usize);
-    let mid = 12 + 2 * taps;
-    let end = mid + 2 * taps;
+    let start = Equaliser::HEADER;
+    let mid = start + Equaliser::WEIGHT * taps;
+    let end = mid + Equaliser::DATUM * taps;
     if buffer.len() < end {
         return Saved {
             number: 7,
@@ -84,8 +85,8 @@ pub fn save(e: Equaliser, buffer: &mut [u8]) -> Saved
     }
     let weights = e.weights;
     let past = e.past;
-    put_header(e, &mut buffer[..12]);
-    put_words(&weights[..taps], &mut buffer[12..mid]);
+    put_header(e, &mut buffer[..start]);
+    put_words(&weights[..taps], &mut buffer[start..mid]);
     put_words(&past[..taps], &mut buffer[mid..end]);
     Saved {
         number: 0,

@@ -1,6 +1,6 @@
 -- Lists that a loop has gone through in part.
 use mathlib.Core.Path.{_≡_, refl, sym, ap, ap₂, _∙_, subst}
-use mathlib.Core.Bool.{Bool, true, false, _&&_}
+use mathlib.Core.Bool.{Bool, true, false, _&&_, and-true, and-assoc}
 use mathlib.Core.List.{List, [], _∷_, map}
 use Prim.Native.Nat.{ℕ, zero, suc, _+_, _≤_, _<_}
 use native.Mathlib.Omega.{arith}
@@ -124,3 +124,25 @@ module _ {ℓ} {A : Type ℓ} where
 
   pub overlay-all : (n : ℕ) (new old : List A) → length new ≡ n → length old ≡ n → overlay n new old ≡ new
   overlay-all n new old h k = written-all {old = old} {i = n} (record { long = overlay-length n new old; is = refl }) (omega arith) (omega arith)
+
+-- ---- a test of every element, in a loop
+
+-- what was found of the first i elements, and what is left
+pub record Tested {ℓ} {A : Type ℓ} (p : A → Bool) (xs : List A) (found : Bool) (i : ℕ) : Type 0 where
+  pub is : all p xs ≡ (found && all p (drop i xs))
+
+pub tested-none {ℓ} : {A : Type ℓ} (p : A → Bool) (xs : List A) → Tested p xs true 0
+tested-none p xs = record { is = refl }
+
+module _ {ℓ} {A : Type ℓ} {p : A → Bool} {xs : List A} {found : Bool} {i : ℕ} (t : Tested p xs found i) where
+  -- one element more
+  pub tested-next : (d : A) {one : Bool} → i < length xs → one ≡ p (getD xs i d) → Tested p xs (found && one) (i + 1)
+  tested-next d h e = record {
+    is =
+        t .is ∙ ap (λ l. found && all p l) (drop-cons xs i d h)
+        ∙ sym (and-assoc found (p (getD xs i d)) (all p (drop (suc i) xs)))
+        ∙ ap₂ (λ b j. (found && b) && all p (drop j xs)) (sym e) (sym (add-one i));
+  }
+
+  pub tested-all : length xs ≤ i → found ≡ all p xs
+  tested-all h = sym (t .is ∙ ap (λ b. found && b) (all-end p xs i h) ∙ and-true found)

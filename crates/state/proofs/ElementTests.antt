@@ -1,56 +1,17 @@
--- The tests of one element, by what the code compares.
-use mathlib.Core.Path.{_≡_, sym, ap, ap₂, _∙_}
-use mathlib.Core.Bool.{true, false, _&&_, _||_, and-false}
-use Prim.Native.Nat.{ℕ, _+_, _*_, _-_, _%_, _^_, _≤_, _<_}
-use native.Mathlib.Omega.{arith}
-use native.Mathlib.Nat.{mul-le-mul}
-use lib.Dec.{leb, ltb, eqb}
+-- A number of 16 bits is 0 where its bits are.
+use mathlib.Core.Path.{_≡_, refl, sym, ap}
+use mathlib.Core.Bool.{Bool, true, false}
+use lib.Dec.{eqb}
 use lib.IntN.{ℤ, natAbs}
 use mir.Syntax.{w16}
 use mir.Val.{SFits, ofZ}
-use borrow.Author.Tests.{lt-ltb, le-ltb, le-leb, lt-leb, eq-eqb, ne-eqb}
-use Rattle.laws.specs.Machine.{zero-bits, zero-of-bits, abs-fits}
-use Rattle.laws.specs.Powers.{rises}
-use Rattle.steps.specs.Settings.{isEntry}
-use Rattle.state.specs.State.{isZero, isStored}
+use borrow.Author.Tests.{eqb-true, eqb-false, ne-eqb}
+use Rattle.laws.specs.Machine.{zero-bits, zero-of-bits}
+use Rattle.state.specs.State.{isZero}
 
--- ---- zeros
-
-pub zero-passes : {z : ℤ} → SFits w16 z → ofZ w16 z ≡ 0 → isZero z ≡ true
-zero-passes f e = ap isZero (zero-of-bits f e)
-
-pub other-fails : (z : ℤ) → (ofZ w16 z ≡ 0 → ⊥) → isZero z ≡ false
-other-fails z h = ne-eqb (natAbs z) 0 (λ e. h (zero-bits w16 z e))
-
--- ---- entries, from the magnitude
-
-module _ (r : ℕ) (v : ℤ) (n : ℕ) (e : n ≡ natAbs v) where
-  entry : isEntry r v ≡ (eqb n 0 || (eqb (n % 2) 1 && leb n (2 ^ (r + 1) - 1)))
-  entry = ap (λ (n : ℕ). eqb n 0 || (eqb (n % 2) 1 && leb n (2 ^ (r + 1) - 1))) (sym e)
-
-  pub zero-entry : n ≡ 0 → eqb n 0 ≡ isEntry r v
-  zero-entry z = eq-eqb n 0 z ∙ sym (entry ∙ simp (eq-eqb n 0 z))
-
-  pub even-entry : (n ≡ 0 → ⊥) → (n % 2 ≡ 1 → ⊥) → eqb (n % 2) 1 ≡ isEntry r v
-  even-entry z o = ne-eqb (n % 2) 1 o ∙ sym (entry ∙ simp (ne-eqb n 0 z, ne-eqb (n % 2) 1 o))
-
-  pub odd-entry : (n ≡ 0 → ⊥) → n % 2 ≡ 1 → leb n (2 ^ (r + 1) - 1) ≡ isEntry r v
-  odd-entry z o = sym (entry ∙ simp (ne-eqb n 0 z, eq-eqb (n % 2) 1 o))
-
--- ---- stored samples, from the magnitude and both powers
-
-module _ (s b B : ℕ) (z : ℤ) (n limit scale : ℕ) (e : n ≡ natAbs z) (l : limit ≡ 2 ^ (15 + b)) (m : scale ≡ 2 ^ (B + s)) where
-  stored : isStored s b B z ≡ ltb (n * scale) limit
-  stored = sym (ap₂ ltb (ap₂ (λ (x y : ℕ). x * y) e m) l)
-
-  pub stored-passes : n * scale < limit → isStored s b B z ≡ true
-  stored-passes h = stored ∙ lt-ltb (n * scale) limit h
-
-  pub stored-fails : limit ≤ n * scale → isStored s b B z ≡ false
-  stored-fails h = stored ∙ le-ltb (n * scale) limit h
-
-  pub stored-room : SFits w16 z → s ≤ 5 → B ≤ 31 → n * scale < 2 ^ 64
-  stored-room f h k =
-      let a : n ≤ 2 ^ 15 = omega (arith, abs-fits f) in
-      let c : scale ≤ 2 ^ 36 = omega (arith, rises {a = B + s} {b = 36} (omega arith)) in
-      omega (arith, mul-le-mul a c)
+pub zero-test : {z : ℤ} → SFits w16 z → eqb (ofZ w16 z) 0 ≡ isZero z
+zero-test {z} f = go (eqb (ofZ w16 z) 0) refl
+  where
+    go : (b : Bool) → eqb (ofZ w16 z) 0 ≡ b → b ≡ isZero z
+    go true e = sym (ap isZero (zero-of-bits f (eqb-true (ofZ w16 z) 0 e)))
+    go false e = sym (ne-eqb (natAbs z) 0 (λ h. eqb-false (ofZ w16 z) 0 e (zero-bits w16 z h)))

@@ -1,28 +1,26 @@
--- The state that holds given settings and a memory: its parts are those of the memory, and it is sound where they are.
+-- The state that holds given settings and a memory: its parts are those of the memory, and it is accepted where they are sound.
 use mathlib.Core.Path.{_≡_, refl, sym, ap, _∙_}
 use mathlib.Core.Bool.{true}
 use mathlib.Core.List.{List, [], _∷_, _++_, append-assoc}
-use Prim.Native.Nat.{ℕ, _+_, _*_, _-_, _^_, _≤_}
+use Prim.Native.Nat.{ℕ, _+_, _*_, _-_, _^_}
 use native.Mathlib.Omega.{arith}
-use lib.ListN.{length, getD, take, drop, replicate, length-append}
+use lib.ListN.{length, getD, take, drop, length-append}
 use lib.Seq.{take-at, drop-at, getD-at, append-snoc}
 use lib.IntN.{ℤ, pos, natAbs}
 use borrow.Author.Tests.{le-leb, lt-ltb}
 use Rattle.laws.specs.Lists.{all}
-use Rattle.laws.specs.Sums.{Each, each-append}
-use Rattle.steps.specs.Limits.{halvingLimit}
+use Rattle.laws.specs.Sums.{each-append}
+use Rattle.steps.specs.Limits.{exponentLimit, halvingLimit, lengthLimit, places}
 use Rattle.steps.specs.Settings.{Settings, scaleForward, isEntry}
 use Rattle.steps.specs.Side.{allSmall, isSmall}
 use Rattle.steps.specs.Sound.{Small}
 use Rattle.block.specs.Block.{Memory}
 use Rattle.block.specs.Sound.{Sound}
 use Rattle.state.specs.Sizes.{sizesFit, admits}
-use Rattle.steps.specs.Limits.{places}
-use Rattle.state.specs.State.{memory, isZero, isStored, soundExponents, soundWeights, soundPast, isSound, padded, stateOf}
-use Rattle.state.specs.Answers.{examined}
+use Rattle.state.specs.State.{settings, memory, isZero, isStored, soundExponents, soundWeights, soundPast, isSound, padded, stateOf}
 use Rattle.state.proofs.ListTests.{tested-each, all-replicate}
 use Rattle.state.proofs.PaddedLaws.{padded-long}
-use Rattle.state.proofs.SoundLaws.{both, tests-examined}
+use Rattle.state.proofs.SoundLaws.{both, tests-examined, Accepted}
 
 -- ---- parts of a padded list
 
@@ -40,6 +38,10 @@ whole l n e = take-at l _ n e
 
 spare : (l : List ℤ) (n : ℕ) → length l ≡ n → all isZero (drop n (padded l)) ≡ true
 spare l n e = ap (all isZero) (drop-at l _ n e) ∙ all-replicate isZero (places - length l) (pos 0) refl
+
+pub settings-is : (k : Settings) (o : Memory) → settings (stateOf k o) ≡ k
+unfolding stateOf
+settings-is k o = refl
 
 module _ (k : Settings) (o : Memory) (s : Sound k o) where
   abbrev weights : List ℤ
@@ -81,7 +83,7 @@ module _ (k : Settings) (o : Memory) (s : Sound k o) where
 
   exponents-pass : soundExponents (stateOf k o) ≡ true
   unfolding stateOf
-  exponents-pass = both _ _ (both _ _ (le-leb (o .ψ) 15 (s .ψ-most)) (le-leb (o .b) (o .B) (s .b-most))) (le-leb (o .B + k .L) 31 (s .B-most))
+  exponents-pass = both _ _ (both _ _ (le-leb (o .ψ) exponentLimit (s .ψ-most)) (le-leb (o .b) (o .B) (s .b-most))) (le-leb (o .B + k .L) lengthLimit (s .B-most))
 
   weights-pass : soundWeights (stateOf k o) ≡ true
   unfolding stateOf
@@ -103,15 +105,14 @@ module _ (k : Settings) (o : Memory) (s : Sound k o) where
       entries : all (isEntry (k .r)) (o .symbols) ≡ true
       entries = tested-each _ _ (λ v h. h) (o .symbols) (s .symbols-are)
 
-  pub kept-sound : isSound (stateOf k o) ≡ true
+  kept-sound : isSound (stateOf k o) ≡ true
   unfolding isSound
   kept-sound = both _ _ (both _ _ exponents-pass weights-pass) past-pass
 
-  -- both arrays have their places
-  pub kept-long : (length (stateOf k o .weights) ≡ places) × (length (stateOf k o .past) ≡ places)
+  pub kept-accepted : sizesFit k ≡ true → admits k ≡ true → Accepted (stateOf k o)
   unfolding stateOf
-  kept-long = (padded-long weights (omega (arith, weights-size, s .within .p-most, s .within .q-most)), padded-long past (omega (arith, past-size, s .within .p-most, s .within .q-most)))
-
-  pub kept-examined : sizesFit k ≡ true → admits k ≡ true → examined (stateOf k o) ≡ 0
-  unfolding stateOf
-  kept-examined f a = tests-examined (stateOf k o) f a kept-sound
+  kept-accepted f a = record {
+    weights-long = padded-long weights (omega (arith, weights-size, s .within .p-most, s .within .q-most));
+    past-long = padded-long past (omega (arith, past-size, s .within .p-most, s .within .q-most));
+    number = tests-examined (stateOf k o) f a kept-sound;
+  }

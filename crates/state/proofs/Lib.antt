@@ -3,6 +3,7 @@ pub mod ListTests
 pub mod ElementTests
 pub mod SizesLaws
 pub mod SoundLaws
+pub mod LongestTests
 pub mod StateTests
 pub mod SetUpLaws
 pub mod KeptLaws

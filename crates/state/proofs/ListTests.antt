@@ -1,11 +1,10 @@
--- A test over a list: as a fact of each element, over parts of the list, and along a loop.
-use mathlib.Core.Path.{_≡_, refl, sym, ap, ap₂, _∙_}
-use mathlib.Core.Bool.{Bool, true, false, _&&_}
+-- A test over a list: as a fact of each element, and over parts of the list.
+use mathlib.Core.Path.{_≡_, refl, ap₂}
+use mathlib.Core.Bool.{Bool, true, _&&_}
 use mathlib.Core.List.{List, [], _∷_, _++_}
-use Prim.Native.Nat.{ℕ, zero, suc, _+_, _≤_, _<_}
-use native.Mathlib.Numerals.{add-one}
-use lib.ListN.{length, getD, take, drop, replicate}
-use Rattle.laws.specs.Lists.{and-left, and-right, all, all-pass, all-fail, all-end}
+use Prim.Native.Nat.{ℕ, zero, suc}
+use lib.ListN.{take, drop, replicate}
+use Rattle.laws.specs.Lists.{and-left, and-right, all}
 use Rattle.laws.specs.Sums.{Each}
 
 -- ---- each element
@@ -38,18 +37,3 @@ module _ {ℓ} {A : Type ℓ} (p : A → Bool) where
   pub all-replicate : (n : ℕ) (a : A) → p a ≡ true → all p (replicate n a) ≡ true
   all-replicate zero a e = refl
   all-replicate (suc n) a e = ap₂ (λ (a b : Bool). a && b) e (all-replicate n a e)
-
-  -- ---- a loop that stops at the first element that fails
-
-  -- the first i elements have passed
-  abbrev pub Passed : List A → ℕ → Type 0
-  Passed xs i = all p xs ≡ all p (drop i xs)
-
-  pub passed-next : (xs : List A) (i : ℕ) (d : A) → Passed xs i → i < length xs → p (getD xs i d) ≡ true → Passed xs (i + 1)
-  passed-next xs i d h k e = h ∙ all-pass p xs i d k e ∙ ap (λ (j : ℕ). all p (drop j xs)) (sym (add-one i))
-
-  pub passed-fails : (xs : List A) (i : ℕ) (d : A) → Passed xs i → i < length xs → p (getD xs i d) ≡ false → false ≡ all p xs
-  passed-fails xs i d h k e = sym (h ∙ all-fail p xs i d k e)
-
-  pub passed-all : (xs : List A) (i : ℕ) → Passed xs i → length xs ≤ i → true ≡ all p xs
-  passed-all xs i h k = sym (h ∙ all-end p xs i k)

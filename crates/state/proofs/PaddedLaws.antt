@@ -29,6 +29,5 @@ padded-back n l e h z =
     rest : places - length (take n l) ≡ length (drop n l)
     rest = omega (arith, length-take-le n l (omega arith), length-drop n l)
 
--- a list of at most 32 numbers
 pub padded-long : (l : List ℤ) → length l ≤ places → length (padded l) ≡ places
 padded-long l h = length-append l (replicate (places - length l) (pos 0)) ∙ omega (arith, length-replicate (places - length l) (pos 0))

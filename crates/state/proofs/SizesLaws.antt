@@ -8,8 +8,9 @@ use lib.Dec.{leb}
 use borrow.Author.Tests.{leb-true, le-leb}
 use Rattle.laws.specs.Lists.{and-left, and-right}
 use Rattle.laws.specs.Powers.{rises}
+use Rattle.steps.specs.Limits.{tapLimit, blockLimit, symbolLimit, gainLimit}
 use Rattle.steps.specs.Settings.{Settings, Within, Admitted, stepBound}
-use Rattle.state.specs.Sizes.{sizesFit, admits, settingsNumber}
+use Rattle.state.specs.Sizes.{sizesFit, admits, settingsNumber, given}
 
 -- the last of several tests, and those before it
 pub last-le : (t : Bool) (a b : ℕ) → (t && leb a b) ≡ true → (t ≡ true) × (a ≤ b)
@@ -23,14 +24,14 @@ refuted false h = refl
 
 pub fit-within : (k : Settings) → sizesFit k ≡ true → Within k
 fit-within k e =
-    let L = last-le _ (k .L) 15 e in
-    let r = last-le _ (k .r) 3 (L .0) in
-    let N = last-le _ (k .N) 128 (r .0) in
+    let L = last-le _ (k .L) gainLimit e in
+    let r = last-le _ (k .r) symbolLimit (L .0) in
+    let N = last-le _ (k .N) blockLimit (r .0) in
     let w = last-le _ (k .p) (k .N + 1) (N .0) in
     let n = last-le _ 1 (k .N) (w .0) in
-    let Q = last-le _ (k .q) 16 (n .0) in
+    let Q = last-le _ (k .q) tapLimit (n .0) in
     let q = last-le _ 1 (k .q) (Q .0) in
-    let p = last-le _ (k .p) 16 (q .0) in
+    let p = last-le _ (k .p) tapLimit (q .0) in
     record {
       p-least = leb-true 1 (k .p) (p .0);
       p-most = p .1;
@@ -47,14 +48,14 @@ pub within-fit : (k : Settings) → Within k → sizesFit k ≡ true
 within-fit k h =
     simp (
       le-leb 1 (k .p) (h .p-least),
-      le-leb (k .p) 16 (h .p-most),
+      le-leb (k .p) tapLimit (h .p-most),
       le-leb 1 (k .q) (h .q-least),
-      le-leb (k .q) 16 (h .q-most),
+      le-leb (k .q) tapLimit (h .q-most),
       le-leb 1 (k .N) (h .N-least),
       le-leb (k .p) (k .N + 1) (h .N-window),
-      le-leb (k .N) 128 (h .N-most),
-      le-leb (k .r) 3 (h .r-most),
-      le-leb (k .L) 15 (h .L-most),
+      le-leb (k .N) blockLimit (h .N-most),
+      le-leb (k .r) symbolLimit (h .r-most),
+      le-leb (k .L) gainLimit (h .L-most),
     )
 
 -- ---- the step admission
@@ -62,26 +63,25 @@ within-fit k h =
 pub admits-admitted : (k : Settings) → admits k ≡ true → Admitted k
 admits-admitted k e = leb-true (k .M * stepBound k) (2 ^ (30 + k .L)) e
 
-pub admitted-admits : (k : Settings) → Admitted k → admits k ≡ true
-admitted-admits k h = le-leb (k .M * stepBound k) (2 ^ (30 + k .L)) h
+-- D·2^L at the limits
+abbrev pub stepMost : ℕ
+stepMost = stepBound (given tapLimit tapLimit blockLimit symbolLimit gainLimit 0)
 
--- the powers of D·2^L, its products, and the product with an M of 32 bits
+-- the terms of D·2^L, their sum, and its product with an M of 32 bits
 module _ (k : Settings) (h : Within k) where
-  pub powers-small : (2 ^ (2 * k .r + 2) ≤ 2 ^ 8) × (2 ^ (2 * k .r + 2 + k .L) ≤ 2 ^ 23) × (2 ^ (2 * k .r + 3 + k .L) ≤ 2 ^ 24)
-  powers-small = (
-    rises {a = 2 * k .r + 2} {b = 8} (omega arith),
-    rises {a = 2 * k .r + 2 + k .L} {b = 23} (omega arith),
-    rises {a = 2 * k .r + 3 + k .L} {b = 24} (omega arith),
+  pub terms-most : (2 ^ (2 * k .r + 3 + k .L) ≤ 2 ^ (2 * symbolLimit + 3 + gainLimit)) × (k .p * 2 ^ (2 * k .r + 2) ≤ tapLimit * 2 ^ (2 * symbolLimit + 2))
+      × (k .q * 2 ^ (2 * k .r + 2 + k .L) ≤ tapLimit * 2 ^ (2 * symbolLimit + 2 + gainLimit))
+  terms-most = (
+    rises {a = 2 * k .r + 3 + k .L} {b = 2 * symbolLimit + 3 + gainLimit} (omega arith),
+    mul-le-mul (h .p-most) (rises {a = 2 * k .r + 2} {b = 2 * symbolLimit + 2} (omega arith)),
+    mul-le-mul (h .q-most) (rises {a = 2 * k .r + 2 + k .L} {b = 2 * symbolLimit + 2 + gainLimit} (omega arith)),
   )
 
-  pub products-small : (k .p * 2 ^ (2 * k .r + 2) ≤ 2 ^ 12) × (k .q * 2 ^ (2 * k .r + 2 + k .L) ≤ 2 ^ 27)
-  products-small = (mul-le-mul (h .p-most) (powers-small .0), mul-le-mul (h .q-most) (powers-small .1))
+  pub bound-most : stepBound k ≤ stepMost
+  bound-most = omega (arith, terms-most)
 
-  pub bound-small : stepBound k ≤ 2 ^ 28
-  bound-small = omega (arith, powers-small, products-small)
-
-  pub product-small : k .M < 2 ^ 32 → k .M * stepBound k ≤ 2 ^ 60
-  product-small m = mul-le-mul (le-of-lt m) bound-small
+  pub product-most : k .M < 2 ^ 32 → k .M * stepBound k ≤ 2 ^ 32 * stepMost
+  product-most m = mul-le-mul (le-of-lt m) bound-most
 
 -- ---- the number of a refusal
 

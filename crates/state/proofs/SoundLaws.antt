@@ -1,27 +1,28 @@
--- A state that passes the tests is sound, and a fresh state passes them.
+-- A state that passes the tests is sound, and what set-up returns passes them.
 use mathlib.Core.Path.{_≡_, refl, ap, ap₂}
 use mathlib.Core.Bool.{Bool, true, false, cond, _&&_}
 use mathlib.Core.List.{List}
 use Prim.Native.Nat.{ℕ, _+_, _*_, _-_, _^_, _≤_}
 use native.Mathlib.Omega.{arith}
 use native.Mathlib.Nat.{le-refl, sub-le}
-use lib.Dec.{ltb}
-use lib.ListN.{length, take, drop, replicate, length-drop, getD-replicate}
+use lib.Dec.{eqb}
+use lib.ListN.{length, take, drop, replicate, length-drop, length-replicate, getD-replicate}
 use lib.Seq.{length-take-le, take-add}
-use lib.IntN.{ℤ, pos, natAbs}
-use borrow.Author.Tests.{leb-true, le-leb, ltb-true, lt-ltb}
+use lib.IntN.{ℤ, pos}
+use borrow.Author.Tests.{leb-true, le-leb, ltb-true, lt-ltb, eqb-true}
 use Rattle.laws.specs.Lists.{all, and-left, and-right}
+use Rattle.steps.specs.Limits.{exponentLimit, lengthLimit, places}
 use Rattle.steps.specs.Settings.{Settings, Within, scaleForward, isEntry}
+use Rattle.steps.specs.Side.{isSmall}
 use Rattle.steps.specs.Sound.{Small}
 use Rattle.block.specs.Sound.{Sound}
 use Rattle.filter.proofs.SideBounds.{all-small}
-use Rattle.state.specs.Sizes.{sizesFit, admits}
-use Rattle.steps.specs.Limits.{places}
-use Rattle.state.specs.State.{settings, memory, taps, samples, filler, symbols, isZero, isStored, soundExponents, soundWeights, soundPast, isSound, fresh}
-use Rattle.state.specs.Answers.{examined}
+use Rattle.state.specs.Sizes.{sizesFit, admits, settingsNumber, given}
+use Rattle.state.specs.State.{settings, memory, taps, samples, filler, symbols, isZero, isStored, soundExponents, soundWeights, soundPast, isSound, fresh, refused}
+use Rattle.state.specs.Answers.{setUpState, examined}
 use Rattle.state.specs.declared.equaliser.Equaliser.{Equaliser}
 use Rattle.state.proofs.ListTests.{each-tested, each-parts, all-take, all-drop, all-replicate}
-use Rattle.state.proofs.SizesLaws.{last-le, fit-within, admits-admitted}
+use Rattle.state.proofs.SizesLaws.{last-le, fit-within, admits-admitted, settings-tests}
 
 -- ---- the three tests of a state
 
@@ -34,23 +35,38 @@ sound-tests e h =
       and-right (soundExponents e && soundWeights e) (soundPast e) h,
     )
 
--- ψ ≤ 15, b ≤ B and B + L ≤ 31
-pub exponents-bound : (e : Equaliser) → soundExponents e ≡ true → (e .psi ≤ 15) × (e .b ≤ e .big) × (e .big + e .l ≤ 31)
+-- the four tests of the data
+pub past-tests : (e : Equaliser) → soundPast e ≡ true →
+    (all (isStored (scaleForward (settings e)) (e .b) (e .big)) (samples e) ≡ true) × (isZero (filler e) ≡ true) × (all (isEntry (e .r)) (symbols e) ≡ true) × (all isZero (drop (taps e) (e .past)) ≡ true)
+past-tests e h =
+    let stored = all (isStored (scaleForward (settings e)) (e .b) (e .big)) (samples e) in
+    let entries = all (isEntry (e .r)) (symbols e) in
+    let spare = all isZero (drop (taps e) (e .past)) in
+    let three = and-left (stored && isZero (filler e) && entries) spare h in
+    let two = and-left (stored && isZero (filler e)) entries three in (
+      and-left stored (isZero (filler e)) two,
+      and-right stored (isZero (filler e)) two,
+      and-right (stored && isZero (filler e)) entries three,
+      and-right (stored && isZero (filler e) && entries) spare h,
+    )
+
+-- ψ, b, and B with L
+pub exponents-bound : (e : Equaliser) → soundExponents e ≡ true → (e .psi ≤ exponentLimit) × (e .b ≤ e .big) × (e .big + e .l ≤ lengthLimit)
 exponents-bound e h =
-    let big = last-le _ (e .big + e .l) 31 h in
+    let big = last-le _ (e .big + e .l) lengthLimit h in
     let b = last-le _ (e .b) (e .big) (big .0) in
-    (leb-true (e .psi) 15 (b .0), b .1, big .1)
+    (leb-true (e .psi) exponentLimit (b .0), b .1, big .1)
 
 -- ---- what is sound
 
-module _ (e : Equaliser) (sizes : sizesFit (settings e) ≡ true) (weights : length (e .weights) ≡ 32) (past : length (e .past) ≡ 32) where
+module _ (e : Equaliser) (sizes : sizesFit (settings e) ≡ true) (weights : length (e .weights) ≡ places) (past : length (e .past) ≡ places) where
   within : Within (settings e)
   within = fit-within (settings e) sizes
 
-  front-long : (i : ℕ) (xs : List ℤ) → length xs ≡ 32 → i ≤ e .p → length (take i xs) ≡ i
+  front-long : (i : ℕ) (xs : List ℤ) → length xs ≡ places → i ≤ e .p → length (take i xs) ≡ i
   front-long i xs l h = length-take-le i xs (omega (arith, within .p-most))
 
-  back-long : (xs : List ℤ) → length xs ≡ 32 → length (take (e .q) (drop (e .p) xs)) ≡ e .q
+  back-long : (xs : List ℤ) → length xs ≡ places → length (take (e .q) (drop (e .p) xs)) ≡ e .q
   back-long xs l = length-take-le (e .q) (drop (e .p) xs) (omega (arith, length-drop (e .p) xs, within .p-most, within .q-most))
 
   pub sound-state : admits (settings e) ≡ true → isSound e ≡ true → Sound (settings e) (memory e)
@@ -59,8 +75,7 @@ module _ (e : Equaliser) (sizes : sizesFit (settings e) ≡ true) (weights : len
       let x = exponents-bound e (t .0) in
       let w = each-parts Small (take (e .p) (e .weights)) (take (e .q) (drop (e .p) (e .weights)))
       (rw (take-add (e .p) (e .q) (e .weights)) at (all-small (take (taps e) (e .weights)) (and-left _ _ (t .1)))) in
-      let d = and-left _ (all isZero (drop (taps e) (e .past))) (t .2) in
-      let stored = all (isStored (scaleForward (settings e)) (e .b) (e .big)) (samples e) in
+      let d = past-tests e (t .2) in
       record {
         within = within;
         admitted = admits-admitted (settings e) admitted;
@@ -70,8 +85,8 @@ module _ (e : Equaliser) (sizes : sizesFit (settings e) ≡ true) (weights : len
         symbols-long = back-long (e .past) past;
         forward-small = w .0;
         back-small = w .1;
-        samples-small = each-tested _ _ (λ a h. ltb-true _ _ h) (samples e) (and-left stored (isZero (filler e)) (and-left _ _ d));
-        symbols-are = each-tested _ _ (λ v h. h) (symbols e) (and-right (stored && isZero (filler e)) _ d);
+        samples-small = each-tested _ _ (λ a h. ltb-true _ _ h) (samples e) (d .0);
+        symbols-are = each-tested _ _ (λ v h. h) (symbols e) (d .2);
         ψ-most = x .0;
         b-most = x .1;
         B-most = x .2;
@@ -93,8 +108,14 @@ pub tests-examined : (e : Equaliser) → sizesFit (settings e) ≡ true → admi
 unfolding examined
 tests-examined e f a s = rw (f, a, s)
 
-pub examined-sound : (e : Equaliser) → length (e .weights) ≡ 32 → length (e .past) ≡ 32 → examined e ≡ 0 → Sound (settings e) (memory e)
-examined-sound e w d h = let t = examined-tests e h in sound-state e (t .0) w d (t .1) (t .2)
+-- a state that no operation turns down, whose arrays have all their places
+pub record Accepted (e : Equaliser) : Type 0 where
+  pub weights-long : length (e .weights) ≡ places
+  pub past-long : length (e .past) ≡ places
+  pub number : examined e ≡ 0
+
+pub accepted-sound : {e : Equaliser} → Accepted e → Sound (settings e) (memory e)
+accepted-sound {e} a = let t = examined-tests e (a .number) in sound-state e (t .0) (a .weights-long) (a .past-long) (t .1) (t .2)
 
 -- ---- a fresh state
 
@@ -117,11 +138,11 @@ module _ (p : ℤ → Bool) (e : p (pos 0) ≡ true) where
 
 fresh-exponents : (k : Settings) → Within k → soundExponents (fresh k) ≡ true
 unfolding fresh
-fresh-exponents k w = le-leb (0 + k .L) 31 (omega (arith, w .L-most))
+fresh-exponents k w = le-leb (0 + k .L) lengthLimit (omega (arith, w .L-most))
 
 fresh-weights : (k : Settings) → soundWeights (fresh k) ≡ true
 unfolding fresh
-fresh-weights k = both _ _ (front-passes (λ x. ltb (natAbs x) (2 ^ 14)) refl (k .p + k .q)) (rest-passes isZero refl (k .p + k .q))
+fresh-weights k = both _ _ (front-passes isSmall refl (k .p + k .q)) (rest-passes isZero refl (k .p + k .q))
 
 fresh-past : (k : Settings) → Within k → soundPast (fresh k) ≡ true
 unfolding fresh
@@ -133,10 +154,26 @@ fresh-past k w =
     (all-take (isEntry (k .r)) (k .q) (drop (k .p) zeros) (rest-passes (isEntry (k .r)) refl (k .p))))
     (rest-passes isZero refl (k .p + k .q))
 
-pub fresh-sound : (k : Settings) → Within k → isSound (fresh k) ≡ true
+fresh-sound : (k : Settings) → Within k → isSound (fresh k) ≡ true
 unfolding isSound
 fresh-sound k w = both _ _ (both _ _ (fresh-exponents k w) (fresh-weights k)) (fresh-past k w)
 
-pub fresh-examined : (k : Settings) → sizesFit k ≡ true → admits k ≡ true → examined (fresh k) ≡ 0
+fresh-accepted : (k : Settings) → sizesFit k ≡ true → admits k ≡ true → Accepted (fresh k)
 unfolding fresh
-fresh-examined k f a = tests-examined (fresh k) f a (fresh-sound k (fit-within k f))
+fresh-accepted k f a = record {
+  weights-long = length-replicate places (pos 0);
+  past-long = length-replicate places (pos 0);
+  number = tests-examined (fresh k) f a (fresh-sound k (fit-within k f));
+}
+
+pub refused-accepted : Accepted refused
+unfolding refused
+refused-accepted = fresh-accepted (given 1 1 1 0 0 0) refl refl
+
+-- whatever set-up is given
+pub set-up-accepted : (k : Settings) → Accepted (setUpState k)
+set-up-accepted k = go (eqb (settingsNumber k) 0) refl
+  where
+    go : (b : Bool) → eqb (settingsNumber k) 0 ≡ b → Accepted (cond b (fresh k) refused)
+    go true e = let t = settings-tests k (eqb-true (settingsNumber k) 0 e) in fresh-accepted k (t .0) (t .1)
+    go false e = refused-accepted

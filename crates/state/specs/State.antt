@@ -1,6 +1,6 @@
 -- The state of a station, in the image's order, and when it is sound.
-use mathlib.Core.Bool.{Bool, _&&_, cond}
-use mathlib.Core.List.{List, [], _∷_, _++_}
+use mathlib.Core.Bool.{Bool, _&&_}
+use mathlib.Core.List.{List, _∷_, _++_}
 use Prim.Native.Nat.{ℕ, _+_, _-_, _*_, _^_}
 use lib.Dec.{leb, ltb, eqb}
 use lib.ListN.{length, take, drop, getD, replicate}
@@ -10,7 +10,6 @@ use Rattle.steps.specs.Limits.{exponentLimit, lengthLimit, places}
 use Rattle.steps.specs.Settings.{Settings, scaleForward, isEntry}
 use Rattle.steps.specs.Side.{allSmall}
 use Rattle.block.specs.Block.{Memory}
-use Rattle.state.specs.Sizes.{sizesFit, admits}
 use Rattle.state.specs.declared.equaliser.Equaliser.{Equaliser}
 
 -- ---- the parts of a state

@@ -58,7 +58,15 @@ impl Equaliser {
 
     pub const EXPONENT: u8 = limits::EXPONENT as u8;
 
-    pub const IMAGE: usize = 12 + 4 * limits::PLACES;
+    // The bytes of an image: of what stands before the weights, of a weight, of a datum, and of the longest image.
+    pub const HEADER: usize = 12;
+
+    pub const WEIGHT: usize = 2;
+
+    pub const DATUM: usize = 2;
+
+    pub const IMAGE: usize = Equaliser::HEADER
+        + (Equaliser::WEIGHT + Equaliser::DATUM) * limits::PLACES;
 
     // A fresh state, or the number of the refusal beside the smallest one.
     pub fn set_up(p: u8, q: u8, n: u8, r: u8, l: u8, m: u32) -> Answer

@@ -1,6 +1,7 @@
 // The sizes and the step admission.
 ghost use mathlib.Core.Path.{_≡_};
 ghost use mathlib.Core.Bool.{true};
+ghost use Rattle.steps.specs.Limits.{blockLimit};
 ghost use Rattle.state.specs.Sizes.{sizesFit, admits, settingsNumber, given};
 use super::equaliser::Equaliser;
 
@@ -8,25 +9,21 @@ use super::equaliser::Equaliser;
 pub fn sizes_fit(p: u8, q: u8, n: u8, r: u8, l: u8) -> bool
     ensures { λ f. ⌜ f ≡ sizesFit (given p q n r l 0) ⌝ }
 {
-    if p < 1 || Equaliser::TAPS < p || q < 1 || Equaliser::TAPS < q {
-        return false;
-    }
-    if n < 1 || Equaliser::BLOCK < n {
-        return false;
-    }
-    if n + 1 < p {
-        return false;
-    }
-    if Equaliser::SYMBOLS < r || Equaliser::GAIN < l {
-        return false;
-    }
-    true
+    (1 <= p)
+        & (p <= Equaliser::TAPS)
+        & (1 <= q)
+        & (q <= Equaliser::TAPS)
+        & (1 <= n)
+        & ((p as u32) <= (n as u32) + 1)
+        & (n <= Equaliser::BLOCK)
+        & (r <= Equaliser::SYMBOLS)
+        & (l <= Equaliser::GAIN)
 }
 
-// Whether M·D ≤ 2^30, both sides times 2^L.
+// Whether M·D ≤ 2^30, both sides times 2^L. N plays no part in it, so its limit may stand for it.
 pub fn admits(p: u8, q: u8, r: u8, l: u8, m: u32) -> bool
-    requires { ⌜ sizesFit (given p q 128 r l 0) ≡ true ⌝ }
-    ensures { λ f. ⌜ f ≡ admits (given p q 128 r l m) ⌝ }
+    requires { ⌜ sizesFit (given p q blockLimit r l 0) ≡ true ⌝ }
+    ensures { λ f. ⌜ f ≡ admits (given p q blockLimit r l m) ⌝ }
 {
     let e = 2 * (r as u64);
     let d = (1u64 << (e + 3 + (l as u64)))

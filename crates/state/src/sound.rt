@@ -1,10 +1,9 @@
 // Soundness: tests over the parts of a state.
 ghost use mathlib.Core.Path.{_≡_};
-ghost use mathlib.Core.Bool.{true};
 ghost use Prim.Native.Nat.{_≤_};
 ghost use Rattle.laws.specs.Lists.{all};
-ghost use Rattle.steps.specs.Settings.{isEntry};
-ghost use Rattle.state.specs.Sizes.{sizesFit};
+ghost use Rattle.steps.specs.Limits.{symbolLimit, scaleLimit};
+ghost use Rattle.steps.specs.Settings.{Within, isEntry};
 ghost use Rattle.state.specs.State.{isZero, isStored, soundExponents, soundWeights, soundPast, isSound, settings};
 ghost use Rattle.state.specs.Answers.{examined};
 use super::equaliser::Equaliser;
@@ -12,80 +11,64 @@ use super::equaliser::Equaliser;
 pub fn all_zero(xs: &[i16]) -> bool
     ensures { λ r. ⌜ r ≡ all isZero (now (xs .entry)) ⌝ }
 {
-    let mut i: usize = 0;
-    while i < xs.len() {
-        if xs[i] != 0 {
-            return false;
-        }
-        i += 1;
-    }
-    true
+    steps::side::longest(xs) == 0
 }
 
-// |A|·2^(B+S) < 2^(15+b) for each.
-pub fn all_stored(xs: &[i16], s: u32, b: u32, big: u32) -> bool
-    requires { ⌜ (s ≤ 5) × (b ≤ 31) × (big ≤ 31) ⌝ }
+// |A|·2^(B+S) < 2^(15+b) for each: it goes by the largest bit length.
+pub fn all_stored(xs: &[i16], s: u32, b: u8, big: u8) -> bool
+    requires { ⌜ s ≤ scaleLimit ⌝ }
     ensures { λ r. ⌜ r ≡ all (isStored s b big) (now (xs .entry)) ⌝ }
 {
-    let limit = 1u64 << (15 + b);
-    let scale = 1u64 << (big + s);
-    let mut i: usize = 0;
-    while i < xs.len() {
-        if limit <= numbers::bit_length::magnitude(xs[i] as i64) * scale {
-            return false;
-        }
-        i += 1;
+    let scale = (big as u32) + s;
+    let room = 15 + (b as u32);
+    if scale < room {
+        steps::side::longest(xs) <= room - scale
+    } else {
+        all_zero(xs)
     }
-    true
 }
 
 // 0, or odd and of magnitude below 2^(r+1).
 pub fn is_entry(v: i16, r: u32) -> bool
-    requires { ⌜ r ≤ 3 ⌝ }
+    requires { ⌜ r ≤ symbolLimit ⌝ }
     ensures { λ f. ⌜ f ≡ isEntry r v ⌝ }
 {
     let size = numbers::bit_length::magnitude(v as i64);
-    size == 0 || (size % 2 == 1 && size <= (1u64 << (r + 1)) - 1)
+    (size == 0) | ((size % 2 == 1) & (size <= (1u64 << (r + 1)) - 1))
 }
 
 pub fn all_symbols(xs: &[i16], r: u32) -> bool
-    requires { ⌜ r ≤ 3 ⌝ }
+    requires { ⌜ r ≤ symbolLimit ⌝ }
     ensures { λ f. ⌜ f ≡ all (isEntry r) (now (xs .entry)) ⌝ }
 {
+    let mut fit = true;
     let mut i: usize = 0;
     while i < xs.len() {
-        if !is_entry(xs[i], r) {
-            return false;
-        }
+        fit = fit & is_entry(xs[i], r);
         i += 1;
     }
-    true
+    fit
 }
 
 fn sound_exponents(e: Equaliser) -> bool
     ensures { λ f. ⌜ f ≡ soundExponents e ⌝ }
 {
-    if Equaliser::EXPONENT < e.psi || e.big < e.b {
-        return false;
-    }
-    (e.big as u32) + (e.l as u32) <= steps::limits::LENGTH
+    (e.psi <= Equaliser::EXPONENT)
+        & (e.b <= e.big)
+        & ((e.big as u32) + (e.l as u32) <= steps::limits::LENGTH)
 }
 
 fn sound_weights(e: Equaliser) -> bool
-    requires { ⌜ sizesFit (settings e) ≡ true ⌝ }
+    requires { ⌜ Within (settings e) ⌝ }
     ensures { λ f. ⌜ f ≡ soundWeights e ⌝ }
 {
     let weights = e.weights;
     let taps = (e.p as usize) + (e.q as usize);
-    if steps::side::all_small(&weights[..taps]) {
-        all_zero(&weights[taps..])
-    } else {
-        false
-    }
+    steps::side::all_small(&weights[0..taps]) & all_zero(&weights[taps..])
 }
 
 fn sound_past(e: Equaliser) -> bool
-    requires { ⌜ (sizesFit (settings e) ≡ true) × (soundExponents e ≡ true) ⌝ }
+    requires { ⌜ Within (settings e) ⌝ }
     ensures { λ f. ⌜ f ≡ soundPast e ⌝ }
 {
     let past = e.past;
@@ -93,31 +76,17 @@ fn sound_past(e: Equaliser) -> bool
     let taps = p + (e.q as usize);
     let s = numbers::scale_count::scale_count(p);
     let last = p - 1;
-    if !all_stored(&past[..last], s, e.b as u32, e.big as u32) {
-        return false;
-    }
-    if past[last] != 0 {
-        return false;
-    }
-    if all_symbols(&past[p..taps], e.r as u32) {
-        all_zero(&past[taps..])
-    } else {
-        false
-    }
+    all_stored(&past[0..last], s, e.b, e.big)
+        & (past[last] == 0)
+        & all_symbols(&past[p..taps], e.r as u32)
+        & all_zero(&past[taps..])
 }
 
 pub fn is_sound(e: Equaliser) -> bool
-    requires { ⌜ sizesFit (settings e) ≡ true ⌝ }
+    requires { ⌜ Within (settings e) ⌝ }
     ensures { λ f. ⌜ f ≡ isSound e ⌝ }
 {
-    if !sound_exponents(e) {
-        return false;
-    }
-    if sound_weights(e) {
-        sound_past(e)
-    } else {
-        false
-    }
+    sound_exponents(e) & sound_weights(e) & sound_past(e)
 }
 
 // 1, 2, 9, or 0.

@@ -1,5 +1,5 @@
--- Each element passed is an entry.
-use mathlib.Core.Path.{_≡_, refl, sym, _∙_}
+-- Each element is tested, as one of 16 bits.
+use mathlib.Core.Path.{_∙_}
 use Prim.Native.Nat.{_-_}
 use native.Mathlib.Omega.{arith}
 use lib.ListN.{length, getD}
@@ -8,20 +8,19 @@ use mir.Syntax.{w8, w16}
 use mir.Val.{SFits}
 use mir.Facts.{toZ-ofZ, sfits-widen}
 use borrow.Author.Needs.{needs, sfits-of}
-use borrow.Author.Tests.{not-true, not-false}
+use Rattle.laws.specs.Lists.{Tested, tested-none, tested-next, tested-all}
 use Rattle.steps.specs.Settings.{isEntry}
-use Rattle.state.proofs.ListTests.{Passed, passed-next, passed-fails, passed-all}
 use Rattle.checks.proofs.lists.all_entries.Statement.{statement}
 use Rattle.checks.proofs.lists.all_entries.Tie as tie
 
 abbrev Inv-loop : tie.InvT-loop
-Inv-loop xs r i₀ i = Passed (isEntry r) xs i
+Inv-loop xs r fit₀ i₀ fit i = Tested (isEntry r) xs fit i
 
 abbrev μ-loop : tie.MeasureT-loop
-μ-loop xs r i₀ i = length xs - i
+μ-loop xs r fit₀ i₀ fit i = length xs - i
 
 loop-holds : tie.Need-loop-holds Inv-loop μ-loop
-loop-holds c = refl
+loop-holds c = tested-none _ _
 
 shared-slice-copy-out-is-entry : tie.Need-shared-slice-copy-out-is-entry Inv-loop μ-loop
 shared-slice-copy-out-is-entry c = search needs
@@ -29,25 +28,11 @@ shared-slice-copy-out-is-entry c = search needs
 element : (c : tie.After-is-entry-arg Inv-loop μ-loop) → SFits w8 (getD (c .before .before .before .args .xs .now) (c .before .before .loop .i) (pos 0))
 element c = sfits-of (c .is-entry-arg .given)
 
-wide : (c : tie.After-is-entry-arg Inv-loop μ-loop) → SFits w16 (getD (c .before .before .before .args .xs .now) (c .before .before .loop .i) (pos 0))
-wide c = sfits-widen tt (element c)
-
 cast-is-entry : tie.Need-cast-is-entry Inv-loop μ-loop
-cast-is-entry c = simp (toZ-ofZ (element c)) (wide c)
+cast-is-entry c = simp (toZ-ofZ (element c)) (sfits-widen tt (element c))
 
 is-entry-requires : tie.Need-is-entry-requires Inv-loop μ-loop
 is-entry-requires c κs = c .before .before .before .pre
-
-answer : (c : tie.After-is-entry Inv-loop μ-loop) →
-    let a = c .before .before .before .before .args in
-    c .is-entry .result ≡ isEntry (a .r) (getD (a .xs .now) (c .before .before .before .loop .i) (pos 0))
-answer c = c .is-entry .ensures ∙ simp (toZ-ofZ (element (c .before)), toZ-ofZ (wide (c .before)))
-
-returns : tie.Need-returns Inv-loop μ-loop
-returns c =
-    let a = c .before .before .before .before .before .args in
-    let o = c .before .before .before .before .loop in
-    passed-fails (isEntry (a .r)) (a .xs .now) (o .i) (pos 0) (o .inv) (c .before .before .before .loop-test .taken) (sym (answer (c .before)) ∙ not-true (c .before .is-entry .result) (c .if1 .taken))
 
 add-i : tie.Need-add-i Inv-loop μ-loop
 add-i c = search needs
@@ -57,14 +42,12 @@ loop-less c = omega arith
 
 loop-again : tie.Need-loop-again Inv-loop μ-loop
 loop-again c =
-    let a = c .before .before .before .before .before .args in
-    let o = c .before .before .before .before .loop in
-    passed-next (isEntry (a .r)) (a .xs .now) (o .i) (pos 0) (o .inv) (c .before .before .before .loop-test .taken) (sym (answer (c .before)) ∙ not-false (c .before .is-entry .result) (c .if1 .left))
+    let e = element (c .before) in
+    tested-next (c .before .before .before .loop .inv) (pos 0) (c .before .before .loop-test .taken)
+    (c .is-entry .ensures ∙ simp (toZ-ofZ e, toZ-ofZ {w = w16} (sfits-widen tt e)))
 
-returns-2 : tie.Need-returns-2 Inv-loop μ-loop
-returns-2 c =
-    let a = c .before .before .args in
-    passed-all (isEntry (a .r)) (a .xs .now) (c .before .loop .i) (c .before .loop .inv) (c .loop-test .left)
+returns : tie.Need-returns Inv-loop μ-loop
+returns c = tested-all (c .before .loop .inv) (c .loop-test .left)
 
 pub all-entries-spec : {M : Type 1} → statement M
 all-entries-spec =
@@ -76,8 +59,7 @@ all-entries-spec =
     shared-slice-copy-out-is-entry
     cast-is-entry
     is-entry-requires
-    returns
     add-i
     loop-less
     loop-again
-    returns-2)
+    returns)

@@ -1,16 +1,13 @@
 -- The lowest and the highest gain passed.
-use mathlib.Core.Path.{_≡_, sym, ap, _∙_, subst}
-use mathlib.Core.Bool.{Bool, _&&_}
+use mathlib.Core.Path.{_≡_, sym, subst}
 use mathlib.Core.Logic.{⊎-elim}
 use Prim.Native.Nat.{ℕ, _+_, _-_, min, max}
 use native.Mathlib.Omega.{arith}
-use lib.Dec.{leb}
 use lib.ListN.{length, getD}
 use borrow.Author.Needs.{needs}
-use borrow.Author.Tests.{le-leb, lt-leb}
-use Rattle.laws.specs.Lists.{all}
-use Rattle.checks.specs.Checks.{gainFits}
-use Rattle.checks.proofs.GainLaws.{Ranged, ranged-next, ranged-all}
+use borrow.Author.Tests.{le-leb}
+use Rattle.laws.specs.Lists.{tested-all}
+use Rattle.checks.proofs.GainLaws.{Ranged, ranged-next}
 use Rattle.checks.proofs.lists.all_gains.Statement.{statement}
 use Rattle.checks.proofs.lists.all_gains.Tie as tie
 
@@ -21,7 +18,7 @@ abbrev μ-loop : tie.MeasureT-loop
 μ-loop gains l low₀ high₀ i₀ low high i = length gains - i
 
 loop-holds : tie.Need-loop-holds Inv-loop μ-loop
-loop-holds c = simp (le-leb (c .args .l) 255 (omega arith))
+loop-holds c = record { is = simp (le-leb (c .args .l) 255 (omega arith)) }
 
 shared-slice-read-g : tie.Need-shared-slice-read-g Inv-loop μ-loop
 shared-slice-read-g c = search needs
@@ -51,24 +48,8 @@ loop-again c =
     (subst (λ (n : ℕ). Ranged (a .l) (a .gains .now) (min (l .low) g) n (l .i + 1)) (sym (high-is c))
     (ranged-next (a .l) (a .gains .now) (l .low) (l .high) (l .i) (c .before .before .before .loop-test .taken) (l .inv)))
 
-ranged : (c : tie.After-loop Inv-loop μ-loop) →
-    let a = c .before .before .args in
-    (leb (a .l) (c .before .loop .low) && leb (c .before .loop .high) 15) ≡ all (gainFits (a .l)) (a .gains .now)
-ranged c =
-    let a = c .before .before .args in
-    let l = c .before .loop in
-    ranged-all (a .l) (a .gains .now) (l .low) (l .high) (l .i) (c .loop-test .left) (l .inv)
-
 returns : tie.Need-returns Inv-loop μ-loop
-returns c =
-    let l = c .before .before .loop in
-    ap (λ (b : Bool). b && leb (l .high) 15) (sym (le-leb (c .before .before .before .args .l) (l .low) (c .if3 .taken))) ∙ ranged (c .before)
-
-returns-2 : tie.Need-returns-2 Inv-loop μ-loop
-returns-2 c =
-    let l = c .before .before .loop in
-    let e = lt-leb (c .before .before .before .args .l) (l .low) (c .if3 .left) in
-    e ∙ ap (λ (b : Bool). b && leb (l .high) 15) (sym e) ∙ ranged (c .before)
+returns c = tested-all (c .before .loop .inv) (c .loop-test .left)
 
 pub all-gains-spec : {M : Type 1} → statement M
 all-gains-spec =
@@ -81,5 +62,4 @@ all-gains-spec =
     add-i
     loop-less
     loop-again
-    returns
-    returns-2)
+    returns)

@@ -7,6 +7,7 @@ use lib.ListN.{length}
 use borrow.Author.Needs.{needs}
 use borrow.Author.Tests.{not-true, not-false}
 use Rattle.state.specs.Sizes.{sizesFit, given}
+use Rattle.image.specs.Image.{headerLength}
 use Rattle.image.specs.Load.{byteAt, tapsIn}
 use Rattle.image.proofs.FrameLaws.{frame-short, frame-sizes, frame-exact, frame-other}
 use Rattle.image.proofs.load.frame_number.Statement.{statement}
@@ -18,7 +19,7 @@ start c = c .before .before .before .before .before .before .before .before
 abbrev bytes : tie.After-sizes-fit → List ℕ
 bytes c = start c .args .bytes .now
 
-long : (c : tie.After-sizes-fit) → 12 ≤ length (bytes c)
+long : (c : tie.After-sizes-fit) → headerLength ≤ length (bytes c)
 long c = c .before .before .before .before .before .before .if1 .left
 
 fitting : (c : tie.After-sizes-fit) →
@@ -77,6 +78,12 @@ mul-if3 c = omega (arith, few c)
 add-if3 : tie.Need-add-if3
 add-if3 c = omega (arith, few c)
 
+mul-if3-2 : tie.Need-mul-if3-2
+mul-if3-2 c = omega (arith, few c)
+
+add-if3-2 : tie.Need-add-if3-2
+add-if3-2 c = omega (arith, few c)
+
 returns-3 : tie.Need-returns-3
 returns-3 c =
     let e = c .before .before .before in
@@ -108,5 +115,7 @@ frame-number-spec =
     add-taps
     mul-if3
     add-if3
+    mul-if3-2
+    add-if3-2
     returns-3
     returns-4)

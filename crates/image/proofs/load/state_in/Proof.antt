@@ -1,9 +1,6 @@
 -- The bytes one by one, then the words of both parts.
-use mathlib.Core.Path.{refl}
-use Prim.Native.Nat.{_+_, _*_}
 use native.Mathlib.Omega.{arith}
 use borrow.Author.Needs.{needs}
-use Rattle.image.specs.Load.{tapsIn}
 use Rattle.image.proofs.FrameLaws.{state-made}
 use Rattle.image.proofs.load.state_in.Statement.{statement}
 use Rattle.image.proofs.load.state_in.Tie as tie
@@ -59,29 +56,29 @@ part-words-in-end-2 c = search needs
 words-in-requires-2 : tie.Need-words-in-requires-2
 words-in-requires-2 c κs = search needs
 
-shared-slice-read-t8 : tie.Need-shared-slice-read-t8
-shared-slice-read-t8 c = search needs
+shared-slice-read-t9 : tie.Need-shared-slice-read-t9
+shared-slice-read-t9 c = search needs
 
-shared-slice-read-t11 : tie.Need-shared-slice-read-t11
-shared-slice-read-t11 c = search needs
+shared-slice-read-t12 : tie.Need-shared-slice-read-t12
+shared-slice-read-t12 c = search needs
 
-shared-slice-read-t22 : tie.Need-shared-slice-read-t22
-shared-slice-read-t22 c = search needs
+shared-slice-read-t23 : tie.Need-shared-slice-read-t23
+shared-slice-read-t23 c = search needs
 
-shared-slice-read-t24 : tie.Need-shared-slice-read-t24
-shared-slice-read-t24 c = search needs
+shared-slice-read-t25 : tie.Need-shared-slice-read-t25
+shared-slice-read-t25 c = search needs
 
-shared-slice-read-t26 : tie.Need-shared-slice-read-t26
-shared-slice-read-t26 c = search needs
+shared-slice-read-t27 : tie.Need-shared-slice-read-t27
+shared-slice-read-t27 c = search needs
 
-shared-slice-read-t28 : tie.Need-shared-slice-read-t28
-shared-slice-read-t28 c = search needs
+shared-slice-read-t29 : tie.Need-shared-slice-read-t29
+shared-slice-read-t29 c = search needs
 
-shared-slice-read-t30 : tie.Need-shared-slice-read-t30
-shared-slice-read-t30 c = search needs
+shared-slice-read-t31 : tie.Need-shared-slice-read-t31
+shared-slice-read-t31 c = search needs
 
-shared-slice-read-t32 : tie.Need-shared-slice-read-t32
-shared-slice-read-t32 c = search needs
+shared-slice-read-t33 : tie.Need-shared-slice-read-t33
+shared-slice-read-t33 c = search needs
 
 shared-slice-read-number32 : tie.Need-shared-slice-read-number32
 shared-slice-read-number32 c = search needs
@@ -102,9 +99,8 @@ returns : tie.Need-returns
 returns c =
     let w = c .before .before .before .before .before .before .before .before .before .before .before .before .before in
     let s = w .before .before .before .before .before .before .before in
-    let t = tapsIn (s .args .bytes .now) in
-    state-made (s .args .bytes .now) (omega arith) (12 + 2 * t) (12 + 2 * t + 2 * t) (c .number32 .result) (w .before .before .words-in .result) (w .words-in2 .result) refl refl
-    (c .number32 .ensures) (w .before .before .words-in .ensures) (w .words-in2 .ensures)
+    state-made (s .args .bytes .now) (omega arith) (c .number32 .result) (w .before .before .words-in .result) (w .words-in2 .result) (c .number32 .ensures) (w .before .before .words-in .ensures)
+    (w .words-in2 .ensures)
 
 pub state-in-spec : {M : Type 1} → statement M
 state-in-spec =
@@ -127,14 +123,14 @@ state-in-spec =
     part-words-in-start-2
     part-words-in-end-2
     words-in-requires-2
-    shared-slice-read-t8
-    shared-slice-read-t11
-    shared-slice-read-t22
-    shared-slice-read-t24
-    shared-slice-read-t26
-    shared-slice-read-t28
-    shared-slice-read-t30
-    shared-slice-read-t32
+    shared-slice-read-t9
+    shared-slice-read-t12
+    shared-slice-read-t23
+    shared-slice-read-t25
+    shared-slice-read-t27
+    shared-slice-read-t29
+    shared-slice-read-t31
+    shared-slice-read-t33
     shared-slice-read-number32
     shared-slice-read-number32-2
     shared-slice-read-number32-3

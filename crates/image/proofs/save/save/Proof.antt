@@ -1,14 +1,15 @@
 -- The header, the weights and the data, each in its part of the buffer.
-use mathlib.Core.Path.{_≡_, refl, sym, _∙_}
-use Prim.Native.Nat.{_+_, _*_, _-_, _≤_}
+use mathlib.Core.Path.{_≡_, sym, _∙_}
+use Prim.Native.Nat.{_-_, _≤_}
 use native.Mathlib.Omega.{arith}
 use mathlib.Core.List.{_++_}
 use lib.ListN.{length, take, drop}
 use lib.Seq.{length-take-le, length-front}
 use borrow.Rule.Slice.PartMut.{putMid, mid-len, same-len-mid}
+use Rattle.steps.specs.Limits.{places}
 use Rattle.state.specs.State.{taps}
 use Rattle.state.specs.Answers.{examined}
-use Rattle.image.specs.Image.{imageLength}
+use Rattle.image.specs.Image.{headerLength, dataPlace, endPlace, imageLength}
 use Rattle.image.proofs.ImageLaws.{taps-most, image-put, save-refused, save-short, save-done}
 use borrow.Author.Needs.{needs}
 use Rattle.image.proofs.save.save.Statement.{statement}
@@ -34,13 +35,13 @@ start c = c .before .before .before .before .before .before
 sound : (c : tie.After-struct-known2) → examined (c .before .before .before .before .before .args .e) ≡ 0
 sound c = sym (c .before .before .before .examined .ensures) ∙ c .before .before .if1 .left
 
-weights-long : (c : tie.After-past) → length (start (long-enough c) .args .e .weights) ≡ 32
+weights-long : (c : tie.After-past) → length (start (long-enough c) .args .e .weights) ≡ places
 weights-long c = search needs
 
-past-long : (c : tie.After-past) → length (start (long-enough c) .args .e .past) ≡ 32
+past-long : (c : tie.After-past) → length (start (long-enough c) .args .e .past) ≡ places
 past-long c = search needs
 
-taps-within : (c : tie.Else2) → taps (start c .args .e) ≤ 32
+taps-within : (c : tie.Else2) → taps (start c .args .e) ≤ places
 taps-within c = taps-most (start c .args .e) (sound (c .before))
 
 -- the image fits the buffer
@@ -61,8 +62,8 @@ past-taken c = let e = start (long-enough c) .args .e in length-take-le (taps e)
 
 -- the buffer is as long when a part is back
 headed-long : (c : tie.After-put-header) → let b = start (long-enough (lent c)) .args .buffer .now in
-    length (c .put-header .last .1 .0 ++ drop 12 b) ≡ length b
-headed-long c = length-front (start (long-enough (lent c)) .args .buffer .now) (c .put-header .last .1 .0) 12 (c .put-header .kept .1 .0)
+    length (c .put-header .last .1 .0 ++ drop headerLength b) ≡ length b
+headed-long c = length-front (start (long-enough (lent c)) .args .buffer .now) (c .put-header .last .1 .0) headerLength (c .put-header .kept .1 .0)
 
 -- ---- the needs
 
@@ -103,11 +104,11 @@ slice-relend-prefix-put-header c = search needs
 
 slice-aggregate-put-header : tie.Need-slice-aggregate-put-header
 slice-aggregate-put-header c =
-    sym (length-take-le 12 (start (long-enough (c .before)) .args .buffer .now) (omega (arith, room (long-enough (c .before)))))
+    sym (length-take-le headerLength (start (long-enough (c .before)) .args .buffer .now) (omega (arith, room (long-enough (c .before)))))
 
 put-header-requires : tie.Need-put-header-requires
 put-header-requires c κs =
-    length-take-le 12 (start (long-enough (c .before)) .args .buffer .now) (omega (arith, room (long-enough (c .before))))
+    length-take-le headerLength (start (long-enough (c .before)) .args .buffer .now) (omega (arith, room (long-enough (c .before))))
 
 array-share-prefix-weights : tie.Need-array-share-prefix-weights
 array-share-prefix-weights c = weights-within (lent (c .before .before))
@@ -128,7 +129,7 @@ put-words-requires : tie.Need-put-words-requires
 put-words-requires c κs =
     let h = c .before .before .before .before in
     let s = start (long-enough (lent h)) in
-    mid-len 12 (12 + 2 * taps (s .args .e)) (h .put-header .last .1 .0 ++ drop 12 (s .args .buffer .now)) (omega (arith, headed-long h, room (long-enough (lent h))))
+    mid-len headerLength (dataPlace (taps (s .args .e))) (h .put-header .last .1 .0 ++ drop headerLength (s .args .buffer .now)) (omega (arith, headed-long h, room (long-enough (lent h))))
     ∙ omega (arith, weights-taken (lent h))
 
 array-share-prefix-past : tie.Need-array-share-prefix-past
@@ -152,9 +153,9 @@ put-words-requires-2 c κs =
     let h = headed w in
     let s = start (long-enough (lent h)) in
     let t = taps (s .args .e) in
-    let b = h .put-header .last .1 .0 ++ drop 12 (s .args .buffer .now) in
-    mid-len (12 + 2 * t) (12 + 2 * t + 2 * t) (putMid 12 (12 + 2 * t - 12) b (w .put-words .last .1 .0))
-    (omega (arith, same-len-mid 12 (12 + 2 * t - 12) b (w .put-words .last .1 .0) (w .put-words .kept .1 .0), headed-long h, room (long-enough (lent h))))
+    let b = h .put-header .last .1 .0 ++ drop headerLength (s .args .buffer .now) in
+    mid-len (dataPlace t) (endPlace t) (putMid headerLength (dataPlace t - headerLength) b (w .put-words .last .1 .0))
+    (omega (arith, same-len-mid headerLength (dataPlace t - headerLength) b (w .put-words .last .1 .0) (w .put-words .kept .1 .0), headed-long h, room (long-enough (lent h))))
     ∙ omega (arith, past-taken (lent h))
 
 same-length : tie.Need-same-length
@@ -168,9 +169,9 @@ returns-3 c =
     let l = long-enough (lent h) in
     let s = start l in
     let t = taps (s .args .e) in
-    save-done (s .args .e) (s .args .buffer .now) (12 + 2 * t + 2 * t) _ (sound (l .before)) (room l) (omega arith)
-    (image-put (s .args .e) (s .args .buffer .now) (h .put-header .last .1 .0) (w .put-words .last .1 .0) (p .put-words2 .last .1 .0) (12 + 2 * t) (12 + 2 * t + 2 * t)
-    (weights-within (lent h)) (past-within (lent h)) refl refl (h .put-header .ensures) (w .put-words .ensures) (p .put-words2 .ensures))
+    save-done (s .args .e) (s .args .buffer .now) (endPlace t) _ (sound (l .before)) (room l) (omega arith)
+    (image-put (s .args .e) (s .args .buffer .now) (h .put-header .last .1 .0) (w .put-words .last .1 .0) (p .put-words2 .last .1 .0)
+    (weights-within (lent h)) (past-within (lent h)) (h .put-header .ensures) (w .put-words .ensures) (p .put-words2 .ensures))
 
 pub save-spec : {M : Type 1} → statement M
 save-spec =

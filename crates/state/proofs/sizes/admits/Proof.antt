@@ -5,14 +5,15 @@ use native.Mathlib.Omega.{arith}
 use mir.Syntax.{w64}
 use borrow.Author.Needs.{needs}
 use Rattle.laws.specs.Machine.{one-shifted}
+use Rattle.steps.specs.Limits.{blockLimit}
 use Rattle.steps.specs.Settings.{Settings, Within}
 use Rattle.state.specs.Sizes.{given}
-use Rattle.state.proofs.SizesLaws.{fit-within, powers-small, products-small, bound-small, product-small}
+use Rattle.state.proofs.SizesLaws.{fit-within, terms-most, bound-most, product-most}
 use Rattle.state.proofs.sizes.admits.Statement.{statement}
 use Rattle.state.proofs.sizes.admits.Tie as tie
 
 abbrev sizes : tie.Start → Settings
-sizes c = let a = c .args in given (a .p) (a .q) 128 (a .r) (a .l) (a .m)
+sizes c = let a = c .args in given (a .p) (a .q) blockLimit (a .r) (a .l) (a .m)
 
 within : (c : tie.Start) → Within (sizes c)
 within c = fit-within (sizes c) (c .pre)
@@ -49,10 +50,10 @@ shl-d-2 : tie.Need-shl-d-2
 shl-d-2 c = omega (arith, within c)
 
 mul-d : tie.Need-mul-d
-mul-d c = simp (two c) (record { fits = omega (arith, products-small (sizes c) (within c) .0) })
+mul-d c = simp (two c) (record { fits = omega (arith, terms-most (sizes c) (within c)) })
 
 add-d-4 : tie.Need-add-d-4
-add-d-4 c = simp (one c, two c) (record { fits = omega (arith, powers-small (sizes c) (within c) .2, products-small (sizes c) (within c) .0) })
+add-d-4 c = simp (one c, two c) (record { fits = omega (arith, terms-most (sizes c) (within c)) })
 
 add-d-5 : tie.Need-add-d-5
 add-d-5 c = search needs
@@ -64,13 +65,13 @@ shl-d-3 : tie.Need-shl-d-3
 shl-d-3 c = omega (arith, within c)
 
 mul-d-2 : tie.Need-mul-d-2
-mul-d-2 c = simp (three c) (record { fits = omega (arith, products-small (sizes c) (within c) .1) })
+mul-d-2 c = simp (three c) (record { fits = omega (arith, terms-most (sizes c) (within c)) })
 
 add-d-7 : tie.Need-add-d-7
-add-d-7 c = simp (one c, two c, three c) (record { fits = omega (arith, bound-small (sizes c) (within c)) })
+add-d-7 c = simp (one c, two c, three c) (record { fits = omega (arith, bound-most (sizes c) (within c)) })
 
 mul-result : tie.Need-mul-result
-mul-result c = simp (one c, two c, three c) (record { fits = omega (arith, product-small (sizes c) (within c) (c .fits .m .fits)) })
+mul-result c = simp (one c, two c, three c) (record { fits = omega (arith, product-most (sizes c) (within c) (c .fits .m .fits)) })
 
 add-result : tie.Need-add-result
 add-result c = search needs

@@ -4,6 +4,7 @@ use mathlib.Core.Bool.{true, cond}
 use Prim.Native.Nat.{ℕ}
 use native.Mathlib.Omega.{arith}
 use borrow.Author.Needs.{needs}
+use Rattle.steps.specs.Limits.{blockLimit}
 use Rattle.steps.specs.Settings.{Settings}
 use Rattle.state.specs.Sizes.{given, sizesFit, settingsNumber}
 use Rattle.state.proofs.SizesLaws.{fit-within, within-fit, settings-refused, settings-number}
@@ -23,7 +24,7 @@ admits-requires : tie.Need-admits-requires
 admits-requires c κs =
     let a = c .before .before .args in
     let w = fit-within (sizes (c .before .before)) (fit c) in
-    within-fit (given (a .p) (a .q) 128 (a .r) (a .l) 0) (omega arith)
+    within-fit (given (a .p) (a .q) blockLimit (a .r) (a .l) 0) (omega arith)
 
 number : (c : tie.After-admits) → _≡_ {A = ℕ} (cond (c .admits .result) 0 2) (settingsNumber (sizes (c .before .before .before)))
 number c = ap (λ b. cond b 0 2) (c .admits .ensures) ∙ sym (settings-number (sizes (c .before .before .before)) (fit (c .before)))

@@ -6,7 +6,7 @@ use borrow.Author.Needs.{needs}
 use Rattle.state.specs.Sizes.{sizesFit, admits}
 use Rattle.state.specs.State.{settings}
 use Rattle.state.specs.Answers.{examined}
-use Rattle.state.proofs.SizesLaws.{settings-tests}
+use Rattle.state.proofs.SizesLaws.{fit-within, settings-tests}
 use Rattle.state.proofs.StateTests.{examined-settings, examined-state}
 use Rattle.state.proofs.sound.examined.Statement.{statement}
 use Rattle.state.proofs.sound.examined.Tie as tie
@@ -21,7 +21,7 @@ tests : (c : tie.Else1) → (sizesFit (settings (c .before .before .args .e)) �
 tests c = settings-tests (settings (c .before .before .args .e)) (sym (c .before .settings-number .ensures) ∙ c .if1 .left)
 
 is-sound-requires : tie.Need-is-sound-requires
-is-sound-requires c κs = tests c .0
+is-sound-requires c κs = fit-within _ (tests c .0)
 
 number : (c : tie.After-is-sound) → _≡_ {A = ℕ} (cond (c .is-sound .result) 0 9) (examined (c .before .before .before .args .e))
 number c =

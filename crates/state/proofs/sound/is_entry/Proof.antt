@@ -1,8 +1,9 @@
--- The three ways through the tests of the magnitude.
-use mathlib.Core.Path.{_≡_, ap, _∙_}
+-- The tests of the magnitude.
+use mathlib.Core.Path.{_≡_, ap₂, _∙_}
+use mathlib.Core.Bool.{_&&_, _||_}
 use Prim.Native.Nat.{ℕ, _+_, _*_, _-_, _%_, _^_}
 use native.Mathlib.Omega.{arith}
-use lib.Dec.{leb}
+use lib.Dec.{leb, eqb}
 use lib.IntN.{natAbs}
 use mir.Syntax.{w64}
 use mir.Facts.{toZ-ofZ}
@@ -10,7 +11,6 @@ use borrow.Author.Needs.{needs}
 use Rattle.laws.specs.Machine.{one-shifted}
 use Rattle.laws.specs.Powers.{positive}
 use Rattle.steps.proofs.SideLaws.{fits-64}
-use Rattle.state.proofs.ElementTests.{zero-entry, even-entry, odd-entry}
 use Rattle.state.proofs.sound.is_entry.Statement.{statement}
 use Rattle.state.proofs.sound.is_entry.Tie as tie
 
@@ -33,27 +33,13 @@ shifted : (c : tie.Start) → 1 * 2 ^ (c .args .r + 1) % 2 ^ 64 ≡ 2 ^ (c .args
 shifted c = one-shifted w64 (c .args .r + 1) (omega (arith, c .pre))
 
 sub-result : tie.Need-sub-result
-sub-result c = omega (arith, shifted (c .before .before .before), positive (c .before .before .before .args .r + 1))
+sub-result c = omega (arith, shifted (c .before), positive (c .before .args .r + 1))
 
 size : (c : tie.After-magnitude) → c .magnitude .result ≡ natAbs (c .before .args .v)
 size c = c .magnitude .ensures ∙ simp (toZ-ofZ (c .before .fits .v), toZ-ofZ (fits-64 (c .before .fits .v)))
 
 returns : tie.Need-returns
-returns c =
-    let a = c .before .before .args in
-    zero-entry (a .r) (a .v) (c .before .magnitude .result) (size (c .before)) (c .if1 .taken)
-
-returns-2 : tie.Need-returns-2
-returns-2 c =
-    let a = c .before .before .before .args in
-    let n = c .before .before .magnitude .result in
-    ap (λ (m : ℕ). leb n (m - 1)) (shifted (c .before .before .before))
-    ∙ odd-entry (a .r) (a .v) n (size (c .before .before)) (c .before .if1 .left) (c .if2 .taken)
-
-returns-3 : tie.Need-returns-3
-returns-3 c =
-    let a = c .before .before .before .args in
-    even-entry (a .r) (a .v) (c .before .before .magnitude .result) (size (c .before .before)) (c .before .if1 .left) (c .if2 .left)
+returns c = ap₂ (λ (n m : ℕ). eqb n 0 || (eqb (n % 2) 1 && leb n (m - 1))) (size c) (shifted (c .before))
 
 pub is-entry-spec : {M : Type 1} → statement M
 is-entry-spec =
@@ -65,6 +51,4 @@ is-entry-spec =
     cast-result
     shl-result
     sub-result
-    returns
-    returns-2
-    returns-3)
+    returns)

@@ -1,0 +1,52 @@
+-- Tests of every element of a list that go by its largest bit length.
+use mathlib.Core.Path.{_≡_, refl, sym, ap, _∙_}
+use mathlib.Core.Bool.{Bool, true, false}
+use mathlib.Core.List.{List}
+use Prim.Native.Nat.{ℕ, zero, suc, _+_, _*_, _-_, _^_, _≤_, _<_}
+use native.Mathlib.Omega.{arith}
+use native.Mathlib.Nat.{lt-of-lt-of-le}
+use lib.Dec.{leb, eqb}
+use lib.IntN.{ℤ, natAbs}
+use borrow.Author.Tests.{ltb-true, lt-ltb, leb-true, leb-false, lt-leb, eqb-true, eq-eqb, ne-eqb}
+use Rattle.laws.specs.Lists.{all}
+use Rattle.laws.specs.Powers.{positive, rises, lower, raise}
+use Rattle.numbers.proofs.BitLengthLaws.{bit-length-le}
+use Rattle.steps.specs.Side.{longest, largest, magnitudes}
+use Rattle.steps.proofs.LargestLaws.{largest-magnitude, longest-is, longest-above}
+use Rattle.state.specs.State.{isZero, isStored}
+use Rattle.state.proofs.ListTests.{each-tested, tested-each}
+use Rattle.state.proofs.SizesLaws.{refuted}
+
+-- a test that an element passes exactly where its magnitude is below 2^k
+by-longest : (p : ℤ → Bool) (k : ℕ) → ((z : ℤ) → p z ≡ true → natAbs z < 2 ^ k) → ((z : ℤ) → natAbs z < 2 ^ k → p z ≡ true) → (xs : List ℤ) → leb (longest xs) k ≡ all p xs
+by-longest p k below passes xs = go (leb (longest xs) k) refl
+  where
+    shorter : all p xs ≡ true → longest xs ≤ k
+    shorter t = rw longest-is (bit-length-le (largest (magnitudes xs)) k (largest-magnitude (λ (n : ℕ). n < 2 ^ k) (positive k) xs (each-tested p _ below xs t)))
+
+    go : (b : Bool) → leb (longest xs) k ≡ b → b ≡ all p xs
+    go true e = sym (tested-each p _ (λ z h. passes z (lt-of-lt-of-le h (rises (leb-true (longest xs) k e)))) xs (longest-above xs))
+    go false e = refuted (all p xs) (λ t. omega (arith, leb-false (longest xs) k e, shorter t))
+
+zero-longest : (xs : List ℤ) → leb (longest xs) 0 ≡ all isZero xs
+zero-longest xs = by-longest isZero 0 (λ z e. omega (arith, eqb-true (natAbs z) 0 e)) (λ z h. eq-eqb (natAbs z) 0 (omega arith)) xs
+
+pub zeros-pass : (xs : List ℤ) → eqb (longest xs) 0 ≡ all isZero xs
+zeros-pass xs = none (longest xs) ∙ zero-longest xs
+  where
+    none : (n : ℕ) → eqb n 0 ≡ leb n 0
+    none zero = refl
+    none (suc n) = ne-eqb (suc n) 0 (λ e. omega arith) ∙ sym (lt-leb (suc n) 0 (omega arith))
+
+-- |A|·2^(B+s) < 2^(15+b) as a bound on |A|, or as A = 0 where B + s is no less than 15 + b
+module _ (s b B : ℕ) (xs : List ℤ) where
+  pub stored-longest : B + s ≤ 15 + b → leb (longest xs) (15 + b - (B + s)) ≡ all (isStored s b B) xs
+  stored-longest h =
+      let e : 15 + b ≡ 15 + b - (B + s) + (B + s) = omega arith in
+      by-longest (isStored s b B) (15 + b - (B + s)) (λ z t. lower (natAbs z) (15 + b) _ (B + s) e (ltb-true _ _ t)) (λ z k. lt-ltb _ _ (raise (natAbs z) (15 + b) _ (B + s) e k)) xs
+
+  pub stored-zero : 15 + b ≤ B + s → all isZero xs ≡ all (isStored s b B) xs
+  stored-zero h =
+      sym (zero-longest xs)
+      ∙ by-longest (isStored s b B) 0 (λ z t. lower (natAbs z) (B + s) 0 (B + s) (omega arith) (lt-of-lt-of-le (ltb-true _ _ t) (rises h)))
+      (λ z k. let e : natAbs z ≡ 0 = omega arith in lt-ltb (natAbs z * 2 ^ (B + s)) (2 ^ (15 + b)) (omega (arith, ap (λ (n : ℕ). n * 2 ^ (B + s)) e, positive (15 + b)))) xs
