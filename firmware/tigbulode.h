@@ -2,10 +2,15 @@
  *
  * Link target/staticlib/libfirmware.a, which `rt staticlib firmware` writes.
  *
- * What a caller owes, and nothing else: a pointer is not null, even beside a length of 0; it is aligned for its type and
- * valid for as many elements as its length says; what is written (the record, the five lists, the buffer) overlaps
- * nothing else that is lent to the same call. Every value is taken, also that of a record with anything in it. What
- * can't be used is turned down with a number, and the record and all lent memory are then as they were. */
+ * What a caller owes: a pointer is not null, even beside a length of 0; it is aligned for its type and valid for as many
+ * elements as its length says; what is written (the record, the five lists, the buffer) overlaps nothing else that is
+ * lent to the same call; until the call returns, nothing else writes to what is lent, no interrupt, no DMA transfer and
+ * no thread, and nothing else reads what is written; the stack has room (docs/PERFORMANCE.md has the bytes). Every value
+ * is taken, also that of a record with anything in it. What can't be used is turned down with a number, and the record
+ * and all lent memory are then as they were.
+ *
+ * The archive is code for x86-64. docs/CLAIMS.md, "What the proof does not cover", says what a station on another
+ * processor would need. */
 #ifndef TIGBULODE_H
 #define TIGBULODE_H
 
