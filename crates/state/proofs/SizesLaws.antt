@@ -4,7 +4,7 @@ use mathlib.Core.Bool.{Bool, true, false, cond}
 use Prim.Native.Nat.{ℕ, _+_, _*_, _^_, _≤_, _<_}
 use native.Mathlib.Omega.{arith}
 use native.Mathlib.Nat.{mul-le-mul, le-of-lt}
-use borrow.Author.Tests.{leb-true, le-leb}
+use borrow.Author.Tests.{leb-true}
 use Rattle.laws.specs.Powers.{rises}
 use Rattle.laws.specs.Tests.{last-le}
 use Rattle.steps.specs.Limits.{tapLimit, blockLimit, symbolLimit, gainLimit}
@@ -34,20 +34,6 @@ fit-within k e =
       r-most = r .1;
       L-most = L .1;
     }
-
-pub within-fit : (k : Settings) → Within k → sizesFit k ≡ true
-within-fit k h =
-    simp (
-      le-leb 1 (k .p) (h .p-least),
-      le-leb (k .p) tapLimit (h .p-most),
-      le-leb 1 (k .q) (h .q-least),
-      le-leb (k .q) tapLimit (h .q-most),
-      le-leb 1 (k .N) (h .N-least),
-      le-leb (k .p) (k .N + 1) (h .N-window),
-      le-leb (k .N) blockLimit (h .N-most),
-      le-leb (k .r) symbolLimit (h .r-most),
-      le-leb (k .L) gainLimit (h .L-most),
-    )
 
 -- ---- the step admission
 
