@@ -1,24 +1,20 @@
 -- The checks before a block is run: their number, and what holds where it is 0.
 use mathlib.Core.Path.{_≡_, refl, _∙_}
-use mathlib.Core.Bool.{Bool, true, false, cond, _&&_}
+use mathlib.Core.Bool.{Bool, true, false, cond}
 use Prim.Native.Nat.{ℕ}
 use native.Mathlib.Omega.{arith}
 use lib.Dec.{leb, eqb}
 use lib.ListN.{length}
 use borrow.Author.Tests.{leb-true, eqb-true, eqb-false, ne-eqb}
 use Rattle.laws.specs.Lists.{and-left, and-right, all}
+use Rattle.laws.specs.Tests.{last-eq, each-tested}
 use Rattle.steps.specs.Limits.{gainLimit, places}
 use Rattle.steps.specs.Settings.{isEntry}
 use Rattle.checks.specs.Checks.{Lent, block, lengthsFit, gainFits, checkNumber}
 use Rattle.state.specs.Answers.{examined}
 use Rattle.checks.specs.Calls.{Sampled, Checked}
 use Rattle.state.specs.declared.equaliser.Equaliser.{Equaliser}
-use Rattle.state.proofs.ListTests.{each-tested}
 use Rattle.state.proofs.SoundLaws.{examined-tests, accepted-sound}
-
--- the last of several comparisons, and those before it
-last-eq : (t : Bool) (a b : ℕ) → (t && eqb a b) ≡ true → (t ≡ true) × (a ≡ b)
-last-eq t a b e = (and-left t (eqb a b) e, eqb-true a b (and-right t (eqb a b) e))
 
 -- ---- the number, check by check
 

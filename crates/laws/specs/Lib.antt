@@ -8,3 +8,4 @@ pub mod Lists
 pub mod Tables
 pub mod Sums
 pub mod Machine
+pub mod Tests

@@ -96,15 +96,6 @@ module _ {ℓ} {A : Type ℓ} (p : A → Bool) where
   all [] = true
   all (x ∷ xs) = p x && all xs
 
-  all-step : (xs : List A) (i : ℕ) (d : A) → i < length xs → all (drop i xs) ≡ (p (getD xs i d) && all (drop (suc i) xs))
-  all-step xs i d h = rw (drop-cons xs i d)
-
-  pub all-pass : (xs : List A) (i : ℕ) (d : A) → i < length xs → p (getD xs i d) ≡ true → all (drop i xs) ≡ all (drop (suc i) xs)
-  all-pass xs i d h e = all-step xs i d h ∙ ap (λ b. b && all (drop (suc i) xs)) e
-
-  pub all-fail : (xs : List A) (i : ℕ) (d : A) → i < length xs → p (getD xs i d) ≡ false → all (drop i xs) ≡ false
-  all-fail xs i d h e = all-step xs i d h ∙ ap (λ b. b && all (drop (suc i) xs)) e
-
   pub all-end : (xs : List A) (i : ℕ) → length xs ≤ i → all (drop i xs) ≡ true
   all-end xs i h = ap all (drop-of-length-le xs h)
 

@@ -1,17 +1,37 @@
--- A number of 16 bits is 0 where its bits are.
-use mathlib.Core.Path.{_≡_, refl, sym, ap}
-use mathlib.Core.Bool.{Bool, true, false}
-use lib.Dec.{eqb}
+-- Zeros and stored samples are tested by the largest bit length.
+use mathlib.Core.Path.{_≡_, refl, sym, ap, _∙_}
+use mathlib.Core.List.{List}
+use Prim.Native.Nat.{ℕ, zero, suc, _+_, _*_, _-_, _^_, _≤_}
+use native.Mathlib.Omega.{arith}
+use native.Mathlib.Nat.{lt-of-lt-of-le}
+use lib.Dec.{leb, eqb}
 use lib.IntN.{ℤ, natAbs}
-use mir.Syntax.{w16}
-use mir.Val.{SFits, ofZ}
-use borrow.Author.Tests.{eqb-true, eqb-false, ne-eqb}
-use Rattle.laws.specs.Machine.{zero-bits, zero-of-bits}
-use Rattle.state.specs.State.{isZero}
+use borrow.Author.Tests.{ltb-true, lt-ltb, lt-leb, eqb-true, eq-eqb, ne-eqb}
+use Rattle.laws.specs.Lists.{all}
+use Rattle.laws.specs.Powers.{positive, rises, lower, raise}
+use Rattle.steps.specs.Side.{longest}
+use Rattle.steps.proofs.LongestTests.{by-longest}
+use Rattle.state.specs.State.{isZero, isStored}
 
-pub zero-test : {z : ℤ} → SFits w16 z → eqb (ofZ w16 z) 0 ≡ isZero z
-zero-test {z} f = go (eqb (ofZ w16 z) 0) refl
+zero-longest : (xs : List ℤ) → leb (longest xs) 0 ≡ all isZero xs
+zero-longest xs = by-longest isZero 0 (λ z e. omega (arith, eqb-true (natAbs z) 0 e)) (λ z h. eq-eqb (natAbs z) 0 (omega arith)) xs
+
+pub zeros-pass : (xs : List ℤ) → eqb (longest xs) 0 ≡ all isZero xs
+zeros-pass xs = none (longest xs) ∙ zero-longest xs
   where
-    go : (b : Bool) → eqb (ofZ w16 z) 0 ≡ b → b ≡ isZero z
-    go true e = sym (ap isZero (zero-of-bits f (eqb-true (ofZ w16 z) 0 e)))
-    go false e = sym (ne-eqb (natAbs z) 0 (λ h. eqb-false (ofZ w16 z) 0 e (zero-bits w16 z h)))
+    none : (n : ℕ) → eqb n 0 ≡ leb n 0
+    none zero = refl
+    none (suc n) = ne-eqb (suc n) 0 (λ e. omega arith) ∙ sym (lt-leb (suc n) 0 (omega arith))
+
+-- |A|·2^(B+s) < 2^(15+b) as a bound on |A|, or as A = 0 where B + s is no less than 15 + b
+module _ (s b B : ℕ) (xs : List ℤ) where
+  pub stored-longest : B + s ≤ 15 + b → leb (longest xs) (15 + b - (B + s)) ≡ all (isStored s b B) xs
+  stored-longest h =
+      let e : 15 + b ≡ 15 + b - (B + s) + (B + s) = omega arith in
+      by-longest (isStored s b B) (15 + b - (B + s)) (λ z t. lower (natAbs z) (15 + b) _ (B + s) e (ltb-true _ _ t)) (λ z k. lt-ltb _ _ (raise (natAbs z) (15 + b) _ (B + s) e k)) xs
+
+  pub stored-zero : 15 + b ≤ B + s → all isZero xs ≡ all (isStored s b B) xs
+  stored-zero h =
+      sym (zero-longest xs)
+      ∙ by-longest (isStored s b B) 0 (λ z t. lower (natAbs z) (B + s) 0 (B + s) (omega arith) (lt-of-lt-of-le (ltb-true _ _ t) (rises h)))
+      (λ z k. let e : natAbs z ≡ 0 = omega arith in lt-ltb (natAbs z * 2 ^ (B + s)) (2 ^ (15 + b)) (omega (arith, ap (λ (n : ℕ). n * 2 ^ (B + s)) e, positive (15 + b)))) xs

@@ -9,6 +9,7 @@ use lib.Seq.{take-at, drop-at, getD-at, append-snoc}
 use lib.IntN.{ℤ, pos, natAbs}
 use borrow.Author.Tests.{le-leb, lt-ltb}
 use Rattle.laws.specs.Lists.{all}
+use Rattle.laws.specs.Tests.{both, tested-each, all-replicate}
 use Rattle.laws.specs.Sums.{each-append}
 use Rattle.steps.specs.Limits.{exponentLimit, halvingLimit, lengthLimit, places}
 use Rattle.steps.specs.Settings.{Settings, scaleForward, isEntry}
@@ -18,9 +19,8 @@ use Rattle.block.specs.Block.{Memory}
 use Rattle.block.specs.Sound.{Sound}
 use Rattle.state.specs.Sizes.{sizesFit, admits}
 use Rattle.state.specs.State.{settings, memory, isZero, isStored, soundExponents, soundWeights, soundPast, isSound, padded, stateOf}
-use Rattle.state.proofs.ListTests.{tested-each, all-replicate}
 use Rattle.state.proofs.PaddedLaws.{padded-long}
-use Rattle.state.proofs.SoundLaws.{both, tests-examined, Accepted}
+use Rattle.state.proofs.SoundLaws.{tests-examined, Accepted}
 
 -- ---- parts of a padded list
 

@@ -1,9 +1,6 @@
 pub mod PaddedLaws
-pub mod ListTests
-pub mod ElementTests
 pub mod SizesLaws
+pub mod ElementTests
 pub mod SoundLaws
-pub mod LongestTests
-pub mod StateTests
 pub mod SetUpLaws
 pub mod KeptLaws

@@ -1,24 +1,15 @@
 -- The tests of the sizes and of the step admission, as bounds.
 use mathlib.Core.Path.{_≡_, refl}
-use mathlib.Core.Bool.{Bool, true, false, _&&_, cond}
+use mathlib.Core.Bool.{Bool, true, false, cond}
 use Prim.Native.Nat.{ℕ, _+_, _*_, _^_, _≤_, _<_}
 use native.Mathlib.Omega.{arith}
 use native.Mathlib.Nat.{mul-le-mul, le-of-lt}
-use lib.Dec.{leb}
-use borrow.Author.Tests.{leb-true, le-leb}
-use Rattle.laws.specs.Lists.{and-left, and-right}
+use borrow.Author.Tests.{leb-true}
 use Rattle.laws.specs.Powers.{rises}
+use Rattle.laws.specs.Tests.{last-le}
 use Rattle.steps.specs.Limits.{tapLimit, blockLimit, symbolLimit, gainLimit}
 use Rattle.steps.specs.Settings.{Settings, Within, Admitted, stepBound}
 use Rattle.state.specs.Sizes.{sizesFit, admits, settingsNumber, given}
-
--- the last of several tests, and those before it
-pub last-le : (t : Bool) (a b : ℕ) → (t && leb a b) ≡ true → (t ≡ true) × (a ≤ b)
-last-le t a b e = (and-left t (leb a b) e, leb-true a b (and-right t (leb a b) e))
-
-pub refuted : (b : Bool) → (b ≡ true → ⊥) → false ≡ b
-refuted true h = absurd (h refl)
-refuted false h = refl
 
 -- ---- sizes
 
@@ -43,20 +34,6 @@ fit-within k e =
       r-most = r .1;
       L-most = L .1;
     }
-
-pub within-fit : (k : Settings) → Within k → sizesFit k ≡ true
-within-fit k h =
-    simp (
-      le-leb 1 (k .p) (h .p-least),
-      le-leb (k .p) tapLimit (h .p-most),
-      le-leb 1 (k .q) (h .q-least),
-      le-leb (k .q) tapLimit (h .q-most),
-      le-leb 1 (k .N) (h .N-least),
-      le-leb (k .p) (k .N + 1) (h .N-window),
-      le-leb (k .N) blockLimit (h .N-most),
-      le-leb (k .r) symbolLimit (h .r-most),
-      le-leb (k .L) gainLimit (h .L-most),
-    )
 
 -- ---- the step admission
 

@@ -1,5 +1,5 @@
 -- A state that passes the tests is sound, and what set-up returns passes them.
-use mathlib.Core.Path.{_≡_, refl, ap, ap₂}
+use mathlib.Core.Path.{_≡_, refl, ap, _∙_}
 use mathlib.Core.Bool.{Bool, true, false, cond, _&&_}
 use mathlib.Core.List.{List}
 use Prim.Native.Nat.{ℕ, _+_, _*_, _-_, _^_, _≤_}
@@ -11,6 +11,7 @@ use lib.Seq.{length-take-le, take-add}
 use lib.IntN.{ℤ, pos}
 use borrow.Author.Tests.{leb-true, le-leb, ltb-true, lt-ltb, eqb-true}
 use Rattle.laws.specs.Lists.{all, and-left, and-right}
+use Rattle.laws.specs.Tests.{both, last-le, each-tested, each-parts, all-take, all-drop, all-replicate}
 use Rattle.steps.specs.Limits.{exponentLimit, lengthLimit, places}
 use Rattle.steps.specs.Settings.{Settings, Within, scaleForward, isEntry}
 use Rattle.steps.specs.Side.{isSmall}
@@ -21,8 +22,7 @@ use Rattle.state.specs.Sizes.{sizesFit, admits, settingsNumber, given}
 use Rattle.state.specs.State.{settings, memory, taps, samples, filler, symbols, isZero, isStored, soundExponents, soundWeights, soundPast, isSound, fresh, refused}
 use Rattle.state.specs.Answers.{setUpState, examined}
 use Rattle.state.specs.declared.equaliser.Equaliser.{Equaliser}
-use Rattle.state.proofs.ListTests.{each-tested, each-parts, all-take, all-drop, all-replicate}
-use Rattle.state.proofs.SizesLaws.{last-le, fit-within, admits-admitted, settings-tests}
+use Rattle.state.proofs.SizesLaws.{fit-within, admits-admitted, settings-tests}
 
 -- ---- the three tests of a state
 
@@ -108,6 +108,20 @@ pub tests-examined : (e : Equaliser) → sizesFit (settings e) ≡ true → admi
 unfolding examined
 tests-examined e f a s = rw (f, a, s)
 
+-- from the number of its settings, and from its soundness
+other : (a b : Bool) (n : ℕ) → (_≡_ {A = ℕ} (cond a (cond b 0 2) 1) 0 → ⊥) → cond a (cond b 0 2) 1 ≡ cond a (cond b n 2) 1
+other true true n h = absurd (h refl)
+other true false n h = refl
+other false b n h = refl
+
+pub examined-settings : (e : Equaliser) (n : ℕ) → n ≡ settingsNumber (settings e) → (n ≡ 0 → ⊥) → n ≡ examined e
+unfolding examined settingsNumber
+examined-settings e n q h = q ∙ other (sizesFit (settings e)) (admits (settings e)) (cond (isSound e) 0 9) (λ z. h (q ∙ z))
+
+pub examined-state : (e : Equaliser) → sizesFit (settings e) ≡ true → admits (settings e) ≡ true → cond (isSound e) 0 9 ≡ examined e
+unfolding examined
+examined-state e f a = rw (f, a)
+
 -- a state that no operation turns down, whose arrays have all their places
 pub record Accepted (e : Equaliser) : Type 0 where
   pub weights-long : length (e .weights) ≡ places
@@ -118,9 +132,6 @@ pub accepted-sound : {e : Equaliser} → Accepted e → Sound (settings e) (memo
 accepted-sound {e} a = let t = examined-tests e (a .number) in sound-state e (t .0) (a .weights-long) (a .past-long) (t .1) (t .2)
 
 -- ---- a fresh state
-
-pub both : (a b : Bool) → a ≡ true → b ≡ true → (a && b) ≡ true
-both a b f g = ap₂ (λ (a b : Bool). a && b) f g
 
 abbrev zeros : List ℤ
 zeros = replicate places (pos 0)

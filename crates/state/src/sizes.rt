@@ -1,7 +1,7 @@
 // The sizes and the step admission.
 ghost use mathlib.Core.Path.{_≡_};
-ghost use mathlib.Core.Bool.{true};
 ghost use Rattle.steps.specs.Limits.{blockLimit};
+ghost use Rattle.steps.specs.Settings.{Within};
 ghost use Rattle.state.specs.Sizes.{sizesFit, admits, settingsNumber, given};
 use super::equaliser::Equaliser;
 
@@ -22,7 +22,7 @@ pub fn sizes_fit(p: u8, q: u8, n: u8, r: u8, l: u8) -> bool
 
 // Whether M·D ≤ 2^30, both sides times 2^L. N plays no part in it, so its limit may stand for it.
 pub fn admits(p: u8, q: u8, r: u8, l: u8, m: u32) -> bool
-    requires { ⌜ sizesFit (given p q blockLimit r l 0) ≡ true ⌝ }
+    requires { ⌜ Within (given p q blockLimit r l m) ⌝ }
     ensures { λ f. ⌜ f ≡ admits (given p q blockLimit r l m) ⌝ }
 {
     let e = 2 * (r as u64);

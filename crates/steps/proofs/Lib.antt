@@ -1,4 +1,6 @@
 pub mod LargestLaws
+pub mod LongestTests
+pub mod SideLaws
 pub mod GainLaws
 pub mod SideLaws
 pub mod DecisionLaws

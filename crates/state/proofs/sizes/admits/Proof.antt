@@ -6,30 +6,27 @@ use mir.Syntax.{w64}
 use borrow.Author.Needs.{needs}
 use Rattle.laws.specs.Machine.{one-shifted}
 use Rattle.steps.specs.Limits.{blockLimit}
-use Rattle.steps.specs.Settings.{Settings, Within}
+use Rattle.steps.specs.Settings.{Settings}
 use Rattle.state.specs.Sizes.{given}
-use Rattle.state.proofs.SizesLaws.{fit-within, terms-most, bound-most, product-most}
+use Rattle.state.proofs.SizesLaws.{terms-most, bound-most, product-most}
 use Rattle.state.proofs.sizes.admits.Statement.{statement}
 use Rattle.state.proofs.sizes.admits.Tie as tie
 
 abbrev sizes : tie.Start → Settings
 sizes c = let a = c .args in given (a .p) (a .q) blockLimit (a .r) (a .l) (a .m)
 
-within : (c : tie.Start) → Within (sizes c)
-within c = fit-within (sizes c) (c .pre)
-
 -- the shifts
 one : (c : tie.Start) → 1 * 2 ^ (2 * c .args .r + 3 + c .args .l) % 2 ^ 64 ≡ 2 ^ (2 * c .args .r + 3 + c .args .l)
-one c = one-shifted w64 (2 * c .args .r + 3 + c .args .l) (omega (arith, within c))
+one c = one-shifted w64 (2 * c .args .r + 3 + c .args .l) (omega (arith, c .pre))
 
 two : (c : tie.Start) → 1 * 2 ^ (2 * c .args .r + 2) % 2 ^ 64 ≡ 2 ^ (2 * c .args .r + 2)
-two c = one-shifted w64 (2 * c .args .r + 2) (omega (arith, within c))
+two c = one-shifted w64 (2 * c .args .r + 2) (omega (arith, c .pre))
 
 three : (c : tie.Start) → 1 * 2 ^ (2 * c .args .r + 2 + c .args .l) % 2 ^ 64 ≡ 2 ^ (2 * c .args .r + 2 + c .args .l)
-three c = one-shifted w64 (2 * c .args .r + 2 + c .args .l) (omega (arith, within c))
+three c = one-shifted w64 (2 * c .args .r + 2 + c .args .l) (omega (arith, c .pre))
 
 four : (c : tie.Start) → 1 * 2 ^ (30 + c .args .l) % 2 ^ 64 ≡ 2 ^ (30 + c .args .l)
-four c = one-shifted w64 (30 + c .args .l) (omega (arith, within c))
+four c = one-shifted w64 (30 + c .args .l) (omega (arith, c .pre))
 
 mul-e : tie.Need-mul-e
 mul-e c = search needs
@@ -41,19 +38,19 @@ add-d-2 : tie.Need-add-d-2
 add-d-2 c = search needs
 
 shl-d : tie.Need-shl-d
-shl-d c = omega (arith, within c)
+shl-d c = search needs
 
 add-d-3 : tie.Need-add-d-3
 add-d-3 c = search needs
 
 shl-d-2 : tie.Need-shl-d-2
-shl-d-2 c = omega (arith, within c)
+shl-d-2 c = search needs
 
 mul-d : tie.Need-mul-d
-mul-d c = simp (two c) (record { fits = omega (arith, terms-most (sizes c) (within c)) })
+mul-d c = simp (two c) (record { fits = omega (arith, terms-most (sizes c) (c .pre)) })
 
 add-d-4 : tie.Need-add-d-4
-add-d-4 c = simp (one c, two c) (record { fits = omega (arith, terms-most (sizes c) (within c)) })
+add-d-4 c = simp (one c, two c) (record { fits = omega (arith, terms-most (sizes c) (c .pre)) })
 
 add-d-5 : tie.Need-add-d-5
 add-d-5 c = search needs
@@ -62,22 +59,22 @@ add-d-6 : tie.Need-add-d-6
 add-d-6 c = search needs
 
 shl-d-3 : tie.Need-shl-d-3
-shl-d-3 c = omega (arith, within c)
+shl-d-3 c = search needs
 
 mul-d-2 : tie.Need-mul-d-2
-mul-d-2 c = simp (three c) (record { fits = omega (arith, terms-most (sizes c) (within c)) })
+mul-d-2 c = simp (three c) (record { fits = omega (arith, terms-most (sizes c) (c .pre)) })
 
 add-d-7 : tie.Need-add-d-7
-add-d-7 c = simp (one c, two c, three c) (record { fits = omega (arith, bound-most (sizes c) (within c)) })
+add-d-7 c = simp (one c, two c, three c) (record { fits = omega (arith, bound-most (sizes c) (c .pre)) })
 
 mul-result : tie.Need-mul-result
-mul-result c = simp (one c, two c, three c) (record { fits = omega (arith, product-most (sizes c) (within c) (c .fits .m .fits)) })
+mul-result c = simp (one c, two c, three c) (record { fits = omega (arith, product-most (sizes c) (c .pre) (c .fits .m .fits)) })
 
 add-result : tie.Need-add-result
 add-result c = search needs
 
 shl-result : tie.Need-shl-result
-shl-result c = omega (arith, within c)
+shl-result c = search needs
 
 returns : tie.Need-returns
 returns c = simp (one c, two c, three c, four c)

@@ -4,10 +4,9 @@ use mathlib.Core.Bool.{true, cond}
 use Prim.Native.Nat.{ℕ}
 use native.Mathlib.Omega.{arith}
 use borrow.Author.Needs.{needs}
-use Rattle.steps.specs.Limits.{blockLimit}
 use Rattle.steps.specs.Settings.{Settings}
 use Rattle.state.specs.Sizes.{given, sizesFit, settingsNumber}
-use Rattle.state.proofs.SizesLaws.{fit-within, within-fit, settings-refused, settings-number}
+use Rattle.state.proofs.SizesLaws.{fit-within, settings-refused, settings-number}
 use Rattle.state.proofs.sizes.settings_number.Statement.{statement}
 use Rattle.state.proofs.sizes.settings_number.Tie as tie
 
@@ -21,10 +20,7 @@ fit : (c : tie.Then1) → sizesFit (sizes (c .before .before)) ≡ true
 fit c = sym (c .before .sizes-fit .ensures) ∙ c .if1 .taken
 
 admits-requires : tie.Need-admits-requires
-admits-requires c κs =
-    let a = c .before .before .args in
-    let w = fit-within (sizes (c .before .before)) (fit c) in
-    within-fit (given (a .p) (a .q) blockLimit (a .r) (a .l) 0) (omega arith)
+admits-requires c κs = let w = fit-within (sizes (c .before .before)) (fit c) in omega arith
 
 number : (c : tie.After-admits) → _≡_ {A = ℕ} (cond (c .admits .result) 0 2) (settingsNumber (sizes (c .before .before .before)))
 number c = ap (λ b. cond b 0 2) (c .admits .ensures) ∙ sym (settings-number (sizes (c .before .before .before)) (fit (c .before)))

@@ -4,7 +4,7 @@ use Prim.Native.Nat.{ℕ, _+_, _-_}
 use native.Mathlib.Omega.{arith}
 use lib.Dec.{leb}
 use borrow.Author.Needs.{needs}
-use Rattle.state.proofs.LongestTests.{stored-longest, stored-zero}
+use Rattle.state.proofs.ElementTests.{stored-longest, stored-zero}
 use Rattle.state.proofs.sound.all_stored.Statement.{statement}
 use Rattle.state.proofs.sound.all_stored.Tie as tie
 

@@ -3,7 +3,7 @@ use mathlib.Core.Path.{ap, _∙_}
 use Prim.Native.Nat.{ℕ}
 use lib.Dec.{eqb}
 use borrow.Author.Needs.{needs}
-use Rattle.state.proofs.LongestTests.{zeros-pass}
+use Rattle.state.proofs.ElementTests.{zeros-pass}
 use Rattle.state.proofs.sound.all_zero.Statement.{statement}
 use Rattle.state.proofs.sound.all_zero.Tie as tie
 

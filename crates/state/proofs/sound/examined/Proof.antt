@@ -7,7 +7,7 @@ use Rattle.state.specs.Sizes.{sizesFit, admits}
 use Rattle.state.specs.State.{settings}
 use Rattle.state.specs.Answers.{examined}
 use Rattle.state.proofs.SizesLaws.{fit-within, settings-tests}
-use Rattle.state.proofs.StateTests.{examined-settings, examined-state}
+use Rattle.state.proofs.SoundLaws.{examined-settings, examined-state}
 use Rattle.state.proofs.sound.examined.Statement.{statement}
 use Rattle.state.proofs.sound.examined.Tie as tie
 

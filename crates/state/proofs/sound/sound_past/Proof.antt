@@ -8,12 +8,11 @@ use lib.ListN.{length}
 use lib.IntN.{ℤ}
 use borrow.Author.Needs.{needs, sfits-of}
 use Rattle.laws.specs.Lists.{all}
+use Rattle.laws.specs.Tests.{zero-test, front-is, part-is, rest-is}
 use Rattle.numbers.proofs.ScaleCountLaws.{scale-least}
 use Rattle.steps.specs.Limits.{places, scaleLimit}
 use Rattle.steps.specs.Settings.{isEntry, scaleForward}
 use Rattle.state.specs.State.{settings, taps, samples, filler, isZero, isStored}
-use Rattle.state.proofs.ElementTests.{zero-test}
-use Rattle.state.proofs.StateTests.{front-is, part-is, rest-is}
 use Rattle.state.proofs.sound.sound_past.Statement.{statement}
 use Rattle.state.proofs.sound.sound_past.Tie as tie
 
@@ -106,7 +105,7 @@ returns c =
     ap₂ (λ (a b : Bool). a && b)
     (ap₂ (λ (a b : Bool). a && b) (ap₂ (λ (a b : Bool). a && b) (stored a) (zero-test {z = filler e} (sfits-of (x .before .before .before .before .result .given))))
     (x .all-symbols .ensures ∙ ap (all (isEntry (e .r))) (part-is (e .p) (e .q) (e .past))))
-    (c .all-zero .ensures ∙ ap (all isZero) (rest-is (taps e) (e .past) (long t)))
+    (c .all-zero .ensures ∙ ap (all isZero) (rest-is (taps e) places (e .past) (long t)))
 
 pub sound-past-spec : {M : Type 1} → statement M
 sound-past-spec =

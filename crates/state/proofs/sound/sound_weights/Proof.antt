@@ -5,10 +5,10 @@ use native.Mathlib.Omega.{arith}
 use lib.ListN.{length}
 use borrow.Author.Needs.{needs}
 use Rattle.laws.specs.Lists.{all}
+use Rattle.laws.specs.Tests.{front-is, rest-is}
 use Rattle.steps.specs.Limits.{places}
 use Rattle.steps.specs.Side.{allSmall}
 use Rattle.state.specs.State.{taps, isZero}
-use Rattle.state.proofs.StateTests.{front-is, rest-is}
 use Rattle.state.proofs.sound.sound_weights.Statement.{statement}
 use Rattle.state.proofs.sound.sound_weights.Tie as tie
 
@@ -57,7 +57,7 @@ returns c =
     let t = a .before .before .before .before .before .before in
     let e = t .args .e in
     ap₂ (λ (a b : Bool). a && b) (a .all-small .ensures ∙ ap allSmall (front-is (taps e) (e .weights)))
-    (c .all-zero .ensures ∙ ap (all isZero) (rest-is (taps e) (e .weights) (long t)))
+    (c .all-zero .ensures ∙ ap (all isZero) (rest-is (taps e) places (e .weights) (long t)))
 
 pub sound-weights-spec : {M : Type 1} → statement M
 sound-weights-spec =
