@@ -12,3 +12,4 @@ pub mod SampleLaws
 pub mod DelayLaws
 pub mod StepLaws
 pub mod SampleSteps
+pub mod DecisionSize

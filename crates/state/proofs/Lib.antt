@@ -6,3 +6,4 @@ pub mod SoundLaws
 pub mod StateTests
 pub mod SetUpLaws
 pub mod KeptLaws
+pub mod NumberLaws
