@@ -1,12 +1,14 @@
--- One block a turn, at the front of what the blocks before it left.
+-- One block a turn, behind the blocks before it.
 use mathlib.Core.Path.{_≡_, ap, _∙_, subst}
 use Prim.Native.Nat.{ℕ, _+_, _-_, _*_, _≤_, _<_}
 use native.Mathlib.Omega.{arith}
 use lib.ListN.{length, getD}
 use borrow.Author.Needs.{needs}
-use Rattle.trace_text.specs.Trace.{traceLimit, countIn, samplesIn}
-use Rattle.trace_text.proofs.FrontLaws.{front-within, front-then}
-use Rattle.trace_text.proofs.TextLaws.{Going, going-none, going-next, going-stops, going-all, going-long, going-room, well-long, well-most}
+use Rattle.steps.specs.Limits.{places}
+use Rattle.trace_text.specs.Trace.{headerLength, traceLimit, byteAt, countIn, samplesIn, sampleStart}
+use Rattle.trace_text.specs.Calls.{OfTrace}
+use Rattle.trace_text.proofs.ReadLaws.{well-long, well-most}
+use Rattle.trace_text.proofs.TextLaws.{Going, going-none, going-next, going-stops, going-all, going-long, going-room}
 use Rattle.trace_text.proofs.blocks.all_blocks.Statement.{statement}
 use Rattle.trace_text.proofs.blocks.all_blocks.Tie as tie
 
@@ -18,7 +20,7 @@ abbrev μ-loop : tie.MeasureT-loop
 
 -- ---- the header
 
-long : (s : tie.Start Inv-loop μ-loop) → length (s .args .t .now) ≡ 12 + 4 * samplesIn (s .args .t .now)
+long : (s : tie.Start Inv-loop μ-loop) → length (s .args .t .now) ≡ headerLength + 4 * samplesIn (s .args .t .now)
 long s = well-long (s .args .t .now) (s .pre .well-formed)
 
 most : (s : tie.Start Inv-loop μ-loop) → length (s .args .t .now) ≤ traceLimit
@@ -59,79 +61,73 @@ add-start c = omega (arith, samples c, long (first c), most (first c))
 
 -- ---- the turn that calls
 
+weights-long : (c : tie.After-shared-slice-known4 Inv-loop μ-loop) → length (first c .args .e .weights) ≡ places
+weights-long c = search needs
+
+past-long : (c : tie.After-shared-slice-known4 Inv-loop μ-loop) → length (first c .args .e .past) ≡ places
+past-long c = search needs
+
 loop-holds : tie.Need-loop-holds Inv-loop μ-loop
-loop-holds c = going-none _ _ _ (first c .pre .n-is)
+loop-holds c = going-none _ _ _ (first c .pre .n-is) (weights-long c) (past-long c)
 
-sub-block-text : tie.Need-sub-block-text Inv-loop μ-loop
-sub-block-text c = front-within (c .before .loop .inv .front)
+abbrev start : tie.At-loop Inv-loop μ-loop → tie.Start Inv-loop μ-loop
+start c = first (c .before)
 
-part-block-text-start : tie.Need-part-block-text-start Inv-loop μ-loop
-part-block-text-start c = front-within (c .before .loop .inv .front)
-
-part-block-text-end : tie.Need-part-block-text-end Inv-loop μ-loop
-part-block-text-end c = search needs
-
-abbrev start : tie.In-loop Inv-loop μ-loop → tie.Start Inv-loop μ-loop
-start c = first (c .before .before)
-
-below : (c : tie.In-loop Inv-loop μ-loop) → c .before .loop .i < countIn (start c .args .t .now)
+below : (c : tie.In-loop Inv-loop μ-loop) → c .before .loop .i < countIn (start (c .before) .args .t .now)
 below c = subst (λ (n : ℕ). c .before .loop .i < n) (c .before .before .before .number16 .ensures) (c .loop-test .taken)
 
-block-text-requires : tie.Need-block-text-requires Inv-loop μ-loop
-block-text-requires c κs =
-    let s = start (c .before) in
-    let l = c .before .before .loop in
+bytes-below : (c : tie.At-loop Inv-loop μ-loop) (i : ℕ) → byteAt (start c .args .t .now) i < 256
+bytes-below c i = omega (arith, c .before .shared-slice-known4 .given i)
+
+trace : (c : tie.At-loop Inv-loop μ-loop) → let s = start c in
+    OfTrace (s .args .t .now) (c .loop .state) (sampleStart (getD (s .args .t .now) 2 0 * c .before .before .number16 .result))
+trace c =
+    let s = start c in
     record {
-      n-is = l .inv .n-is;
-      n-most = omega (arith, l .inv .n-is, s .pre .n-is, s .pre .n-most);
-      long = long s;
-      most = most s;
-      within = below (c .before);
-      start-is = ap (λ (n : ℕ). 12 + 3 * n) (samples (c .before .before .before));
-      room = going-room _ _ _ _ _ _ _ (l .inv) (s .pre .well-formed) (s .pre .room) (below (c .before));
+      well-formed = s .pre .well-formed;
+      n-is = c .loop .inv .n-is;
+      n-most = omega (arith, c .loop .inv .n-is, s .pre .n-is, s .pre .n-most);
+      start-is = ap sampleStart (samples (c .before));
     }
 
 -- the bytes are as many as at the start
-still : (c : tie.At-loop Inv-loop μ-loop) → length (c .loop .out) ≡ length (first (c .before) .args .out .now)
-still c =
-    let s = first (c .before) in
-    going-long _ _ _ _ _ _ _ (c .loop .inv) (s .pre .well-formed) (s .pre .room)
+still : (c : tie.At-loop Inv-loop μ-loop) → length (c .loop .out) ≡ length (start c .args .out .now)
+still c = going-long _ _ _ _ _ _ _ (c .loop .inv) (start c .pre .well-formed) (start c .pre .room)
 
-add-at : tie.Need-add-at Inv-loop μ-loop
-add-at c =
-    let p = c .before .before in
-    let turn = p .before .before .before in
-    omega (
-      arith,
-      front-within (front-then (turn .before .loop .inv .front) (p .before .block-text .ensures .front)),
-      p .out .given .1 ∙ still (turn .before),
-      start turn .good .1 .1 .0 .0,
-    )
+kept : (c : tie.After-block-text Inv-loop μ-loop) → length (c .block-text .last .1 .1 .1 .1 .1 .0) ≡ length (c .before .before .before .loop .out)
+kept c = search needs
+
+block-text-requires : tie.Need-block-text-requires Inv-loop μ-loop
+block-text-requires c κs =
+    let l = c .before .before in
+    record {
+      trace = trace l;
+      within = below (c .before);
+      room = going-room _ _ _ _ _ _ _ (l .loop .inv) (start l .pre .well-formed) (start l .pre .room) (below (c .before));
+    }
 
 same-length : tie.Need-same-length Inv-loop μ-loop
-same-length c =
-    let p = c .before .before .before .before in
-    p .out .given .1 ∙ still (p .before .before .before .before)
+same-length c = let r = c .before .before .before .before in kept r ∙ still (r .before .before .before)
 
 returns : tie.Need-returns Inv-loop μ-loop
 returns c =
-    let b = c .before .before .before .before .before in
-    going-stops _ _ _ _ _ _ _ (b .before .before .before .loop .inv) _ _ (below (b .before .before)) (b .block-text .ensures) (c .if1 .taken)
+    let r = c .before .before .before .before in
+    let l = r .before .before .before in
+    going-stops _ _ _ _ _ _ _ (l .loop .inv) _ _ (below (r .before .before)) (r .block-text .ensures) (c .if1 .taken)
 
 add-i : tie.Need-add-i Inv-loop μ-loop
-add-i c =
-    let b = c .before .before .before .before .before .before in
-    omega (arith, b .before .before .loop-test .taken, b .before .before .before .before .before .number16 .ok)
+add-i c = let h = c .before .before .before .before .before .before .before .loop-test .taken in omega (arith, h, c .before .before .before .before .before .before .before .before .before .before .number16 .ok)
 
 loop-less : tie.Need-loop-less Inv-loop μ-loop
 loop-less c =
-    let h = c .before .before .before .before .before .before .before .before .loop-test .taken in
+    let h = c .before .before .before .before .before .before .before .loop-test .taken in
     omega arith
 
 loop-again : tie.Need-loop-again Inv-loop μ-loop
 loop-again c =
-    let b = c .before .before .before .before .before .before in
-    going-next _ _ _ _ _ _ _ (b .before .before .before .loop .inv) _ _ (below (b .before .before)) (b .block-text .ensures) (c .before .if1 .left)
+    let r = c .before .before .before .before .before in
+    let l = r .before .before .before in
+    going-next _ _ _ _ _ _ _ (l .loop .inv) _ _ _ (trace l) (bytes-below l) (below (r .before .before)) (r .block-text .ensures) (c .before .if1 .left)
 
 same-length-2 : tie.Need-same-length-2 Inv-loop μ-loop
 same-length-2 c = still (c .before)
@@ -157,11 +153,7 @@ all-blocks-spec =
     mul-start-2
     add-start
     loop-holds
-    sub-block-text
-    part-block-text-start
-    part-block-text-end
     block-text-requires
-    add-at
     same-length
     returns
     add-i

@@ -8,7 +8,7 @@ use lib.Dec.{eqb}
 use lib.ListN.{length, getD}
 use borrow.Author.Needs.{needs}
 use borrow.Author.Tests.{eq-eqb, ne-eqb}
-use Rattle.trace_text.specs.Trace.{wellFormed}
+use Rattle.trace_text.specs.Trace.{headerLength, wellFormed}
 use Rattle.trace_text.proofs.ReadLaws.{well-short, well-large, well-tested, few}
 use Rattle.trace_text.proofs.read.well_formed.Statement.{statement}
 use Rattle.trace_text.proofs.read.well_formed.Tie as tie
@@ -58,13 +58,13 @@ returns-2 c = sym (well-large _ (c .if2 .taken))
 
 -- whether the length is that of the samples in the header
 abbrev right : tie.After-shared-slice-known4 → Bool
-right c = eqb (length (bytes c)) (12 + 4 * (getD (bytes c) 2 0 * c .before .number16 .result))
+right c = eqb (length (bytes c)) (headerLength + 4 * (getD (bytes c) 2 0 * c .before .number16 .result))
 
 tested : (c : tie.After-shared-slice-known4) → wellFormed (bytes c) ≡ (right c && eqb (getD (bytes c) 5 0) 0)
 tested c =
     let e = c .before .before .before .before in
     well-tested (bytes c) (e .before .if1 .left) (e .if2 .left)
-    ∙ ap (λ (n : ℕ). eqb (length (bytes c)) (12 + 4 * (getD (bytes c) 2 0 * n)) && eqb (getD (bytes c) 5 0) 0) (sym (c .before .number16 .ensures))
+    ∙ ap (λ (n : ℕ). eqb (length (bytes c)) (headerLength + 4 * (getD (bytes c) 2 0 * n)) && eqb (getD (bytes c) 5 0) 0) (sym (c .before .number16 .ensures))
 
 returns-3 : tie.Need-returns-3
 returns-3 c =
