@@ -171,7 +171,7 @@ module _ {e : Equaliser} {l : Lent} {a : Answer} {y : List ℤ} {xi : List ℕ} 
 
 -- ---- the text of a block
 
-module _ (t : List ℕ) (e : Equaliser) (start : ℕ) (o : OfTrace t e start) where
+module _ (t : List ℕ) (e : Equaliser) (o : OfTrace t e) where
   -- lists for what a block hands out, of zeros
   pub lent-zeros : (first : ℕ) → lentWith t first (take (e .n) (replicate blockLimit (pos 0))) (take (e .n) (replicate blockLimit 0)) (take (e .n) (replicate blockLimit (pos 0))) ≡ lentAt t first
   lent-zeros first = rw (zeros (pos 0) (e .n) (o .n-most), zeros {A = ℕ} 0 (e .n) (o .n-most), o .n-is) refl

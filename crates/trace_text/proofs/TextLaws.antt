@@ -68,9 +68,9 @@ module _ (t : List ℕ) (first : Equaliser) (before : List ℕ) (i at : ℕ) (e 
         less = omega arith
 
   -- the next block is accepted
-  pub going-next : (start : ℕ) (r : Added) (p : List ℕ) → OfTrace t e start → ((j : ℕ) → byteAt t j < 256) → i < countIn t → Added-is t e i at r out p → r .number ≡ 0 →
+  pub going-next : (r : Added) (p : List ℕ) → OfTrace t e → ((j : ℕ) → byteAt t j < 256) → i < countIn t → Added-is t e i at r out p → r .number ≡ 0 →
       Going t first before (i + 1) (r .end) (r .state) p
-  going-next start r p o b h a z =
+  going-next r p o b h a z =
       let l = lentAt t (i * e .n) in
       let none : runNumber e l ≡ 0 = sym (a .number) ∙ z in
       let m = sampled t (i * e .n) _ _ _ b in
@@ -92,7 +92,7 @@ module _ (t : List ℕ) (first : Equaliser) (before : List ℕ) (i at : ℕ) (e 
           length-append (w .done) (blockText t e i),
           w .short,
           ap length (accepted-text t e i none),
-          block-short e l (i * e .n) none (w .weights-long) (w .past-long) m (omega (arith, block-few t e start o i h)),
+          block-short e l (i * e .n) none (w .weights-long) (w .past-long) m (omega (arith, block-few t e o i h)),
           ap (λ (n : ℕ). lineLimit * n) (w .n-is),
         );
       }

@@ -69,8 +69,10 @@ module _ (t : List ℕ) where
     traceable out room z =
         let n-is : a .state .n ≡ settingsIn t .N = ap (λ (e : Equaliser). e .n) (state-is z) ∙ ap (λ (k : Settings). k .N) (fresh-settings (settingsIn t)) in
         record {
-          n-is = n-is;
-          n-most = omega (arith, n-is, fit-within (settingsIn t) (settings-tests (settingsIn t) (sym (s .number) ∙ z) .0) .N-most);
-          well-formed = h;
+          trace = record {
+            well-formed = h;
+            n-is = n-is;
+            n-most = omega (arith, n-is, fit-within (settingsIn t) (settings-tests (settingsIn t) (sym (s .number) ∙ z) .0) .N-most);
+          };
           room = room;
         }

@@ -13,7 +13,7 @@ use Rattle.state.specs.declared.equaliser.Equaliser.{Equaliser}
 use Rattle.state.specs.declared.equaliser.Answer.{Answer}
 use Rattle.checks.specs.Checks.{Lent, block}
 use Rattle.station.specs.Answers.{runNumber, runState, accepted}
-use Rattle.trace_text.specs.Trace.{traceLimit, settingsIn, countIn, samplesIn, wellFormed, entryStart, samplesFrom, gainsFrom, entriesFrom, lentAt}
+use Rattle.trace_text.specs.Trace.{traceLimit, settingsIn, countIn, samplesIn, wellFormed, samplesFrom, gainsFrom, entriesFrom, lentAt}
 use Rattle.trace_text.specs.Text.{blockText, traceText, lineLimit, textLimit}
 use Rattle.trace_text.specs.Written.{WrittenAt}
 use Rattle.trace_text.specs.declared.blocks.Added.{Added}
@@ -37,9 +37,8 @@ pub record AllPrintable (place : ℕ) (Y : List ℤ) (ξ : List ℕ) (d : List �
 
 -- ---- the lists of a block
 
-pub record Readable (t : List ℕ) (start first : ℕ) (m : List ℤ) (gains : List ℕ) (entries : List ℤ) : Type 0 where
+pub record Readable (t : List ℕ) (first : ℕ) (m : List ℤ) (gains : List ℕ) (entries : List ℤ) : Type 0 where
   pub well-formed : wellFormed t ≡ true
-  pub start-is : start ≡ entryStart t
   pub gains-long : length gains ≡ length m
   pub entries-long : length entries ≡ length m
   pub within : first + length m ≤ samplesIn t
@@ -51,16 +50,15 @@ pub record Read-is (t : List ℕ) (first n : ℕ) (m : List ℤ) (gains : List �
 
 -- ---- a block
 
--- a state with the N of a trace, and where the training entries of the trace begin
-pub record OfTrace (t : List ℕ) (e : Equaliser) (start : ℕ) : Type 0 where
+-- a state with the N of a trace
+pub record OfTrace (t : List ℕ) (e : Equaliser) : Type 0 where
   pub well-formed : wellFormed t ≡ true
   pub n-is : e .n ≡ settingsIn t .N
   pub n-most : e .n ≤ blockLimit
-  pub start-is : start ≡ entryStart t
 
 -- the block whose first sample has this place
-pub record Runnable (t : List ℕ) (e : Equaliser) (first start : ℕ) : Type 0 where
-  pub trace : OfTrace t e start
+pub record Runnable (t : List ℕ) (e : Equaliser) (first : ℕ) : Type 0 where
+  pub trace : OfTrace t e
   pub within : first + e .n ≤ samplesIn t
 
 -- the answer, and the lists for Y, ξ and decision at the end
@@ -72,8 +70,8 @@ pub record Ran-is (e : Equaliser) (l : Lent) (a : Answer) (y : List ℤ) (xi : L
   pub decision-is : decision ≡ accepted e l (handedDecision (settings e) (memory e) (block l)) (l .decision)
 
 -- the block i, and room for its lines and a line of a refusal
-pub record Blockable (t : List ℕ) (e : Equaliser) (i start at : ℕ) (out : List ℕ) : Type 0 where
-  pub trace : OfTrace t e start
+pub record Blockable (t : List ℕ) (e : Equaliser) (i at : ℕ) (out : List ℕ) : Type 0 where
+  pub trace : OfTrace t e
   pub within : i < countIn t
   pub room : at + lineLimit * (e .n + 1) ≤ length out
 
@@ -85,9 +83,7 @@ pub record Added-is (t : List ℕ) (e : Equaliser) (i at : ℕ) (r : Added) (bef
 -- ---- the whole trace
 
 pub record Traceable (t : List ℕ) (e : Equaliser) (out : List ℕ) : Type 0 where
-  pub well-formed : wellFormed t ≡ true
-  pub n-is : e .n ≡ settingsIn t .N
-  pub n-most : e .n ≤ blockLimit
+  pub trace : OfTrace t e
   pub room : textLimit ≤ length out
 
 -- the text at the front of lent bytes that have room for any text; else they are as they were

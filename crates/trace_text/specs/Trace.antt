@@ -44,12 +44,9 @@ unfoldable pub wellFormed : List ℕ → Bool
 wellFormed t =
     leb headerLength (length t) && leb (length t) traceLimit && eqb (length t) (headerLength + 4 * samplesIn t) && eqb (byteAt t 5) 0
 
--- where the samples begin, and the training entries
+-- where a sample begins; the training entries begin where the samples end
 abbrev pub sampleStart : ℕ → ℕ
 sampleStart n = headerLength + 3 * n
-
-abbrev pub entryStart : List ℕ → ℕ
-entryStart t = sampleStart (samplesIn t)
 
 -- m, gain and training entry of a sample, by its place in the whole trace
 abbrev pub sampleAt : List ℕ → ℕ → ℤ
@@ -59,7 +56,7 @@ abbrev pub gainAt : List ℕ → ℕ → ℕ
 gainAt t n = byteAt t (sampleStart n + 2)
 
 abbrev pub entryAt : List ℕ → ℕ → ℤ
-entryAt t n = toZ w8 (byteAt t (entryStart t + n))
+entryAt t n = toZ w8 (byteAt t (sampleStart (samplesIn t) + n))
 
 -- those of n samples, the first of which has this place
 abbrev pub samplesFrom : List ℕ → ℕ → ℕ → List ℤ

@@ -3,7 +3,6 @@ ghost use Rattle.trace_text.specs.Text.{textFrom};
 ghost use Rattle.trace_text.specs.Trace.{countIn, lentWith};
 ghost use Rattle.trace_text.specs.Written.{WrittenAt};
 ghost use Rattle.trace_text.specs.Calls.{Runnable, Ran-is, Blockable, Added-is, Traceable};
-use super::limits::HEADER;
 use state::equaliser::Answer;
 use state::equaliser::Equaliser;
 use steps::limits::BLOCK;
@@ -20,26 +19,18 @@ pub fn run_block(
     t: &[u8],
     e: Equaliser,
     first: usize,
-    start: usize,
     y: &mut [i32],
     xi: &mut [u8],
     decision: &mut [i8],
 ) -> Answer
-    requires { ⌜ Runnable (now t) e first start ⌝ }
+    requires { ⌜ Runnable (now t) e first ⌝ }
     ensures { λ a. ⌜ Ran-is e (lentWith (now (t .entry)) first (now (y .entry)) (now (xi .entry)) (now (decision .entry))) a (now (y .exit)) (now (xi .exit)) (now (decision .exit)) ⌝ }
 {
     let n = e.n as usize;
     let mut m = [0i16; BLOCK];
     let mut gains = [0u8; BLOCK];
     let mut entries = [0i8; BLOCK];
-    super::read::block(
-        t,
-        start,
-        first,
-        &mut m[..n],
-        &mut gains[..n],
-        &mut entries[..n],
-    );
+    super::read::block(t, first, &mut m[..n], &mut gains[..n], &mut entries[..n]);
     let mut z = [0i32; BLOCK];
     let mut theta = [0u8; BLOCK];
     station::run::run(
@@ -56,15 +47,8 @@ pub fn run_block(
 }
 
 // The lines of a block, or the line of its refusal.
-pub fn block_text(
-    t: &[u8],
-    e: Equaliser,
-    i: usize,
-    start: usize,
-    at: usize,
-    out: &mut [u8],
-) -> Added
-    requires { ⌜ Blockable (now t) e i start at (now out) ⌝ }
+pub fn block_text(t: &[u8], e: Equaliser, i: usize, at: usize, out: &mut [u8]) -> Added
+    requires { ⌜ Blockable (now t) e i at (now out) ⌝ }
     ensures { λ r. ⌜ Added-is (now (t .entry)) e i at r (now (out .entry)) (now (out .exit)) ⌝ }
 {
     let n = e.n as usize;
@@ -72,15 +56,7 @@ pub fn block_text(
     let mut y = [0i32; BLOCK];
     let mut xi = [0u8; BLOCK];
     let mut decision = [0i8; BLOCK];
-    let a = run_block(
-        t,
-        e,
-        first,
-        start,
-        &mut y[..n],
-        &mut xi[..n],
-        &mut decision[..n],
-    );
+    let a = run_block(t, e, first, &mut y[..n], &mut xi[..n], &mut decision[..n]);
     let number = a.number;
     let state = a.state;
     if number != 0 {
@@ -105,12 +81,11 @@ pub fn all_blocks(t: &[u8], e: Equaliser, out: &mut [u8]) -> usize
     ensures { λ r. ⌜ WrittenAt 0 (textFrom (now (t .entry)) (countIn (now (t .entry))) 0 e) (now (out .entry)) r (now (out .exit)) ⌝ }
 {
     let count = image::bytes::number16(t[6], t[7]) as usize;
-    let start = HEADER + 3 * ((t[2] as usize) * count);
     let mut state = e;
     let mut at: usize = 0;
     let mut i: usize = 0;
     while i < count {
-        let r = block_text(t, state, i, start, at, out);
+        let r = block_text(t, state, i, at, out);
         at = r.end;
         if r.number != 0 {
             return at;

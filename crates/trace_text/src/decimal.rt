@@ -27,7 +27,7 @@ pub fn decimal(n: u32, at: usize, out: &mut [u8]) -> usize
     let mut i = count;
     while 0 < i {
         i -= 1;
-        out[at + i] = 48 + (left % 10) as u8;
+        out[at + i] = b'0' + (left % 10) as u8;
         left = left / 10;
     }
     at + count
@@ -40,7 +40,7 @@ pub fn signed_decimal(z: i32, at: usize, out: &mut [u8]) -> usize
 {
     let size = numbers::bit_length::magnitude(z as i64) as u32;
     if z < 0 {
-        out[at] = 45;
+        out[at] = b'-';
         decimal(size, at + 1, out)
     } else {
         decimal(size, at, out)

@@ -21,10 +21,10 @@ pub fn line(place: u32, y: i32, xi: u8, decision: i8, at: usize, out: &mut [u8])
     requires { ⌜ (Printable place y xi decision) × (at + lineLimit ≤ length (now out)) ⌝ }
     ensures { λ r. ⌜ WrittenAt at (line place y xi decision) (now (out .entry)) r (now (out .exit)) ⌝ }
 {
-    let a = field(place as i32, 32, at, out);
-    let b = field(y, 32, a, out);
-    let c = field(xi as i32, 32, b, out);
-    field(decision as i32, 10, c, out)
+    let a = field(place as i32, b' ', at, out);
+    let b = field(y, b' ', a, out);
+    let c = field(xi as i32, b' ', b, out);
+    field(decision as i32, b'\n', c, out)
 }
 
 // A word.
@@ -46,8 +46,8 @@ pub fn stop_line(number: u8, block: u32, at: usize, out: &mut [u8]) -> usize
     ensures { λ r. ⌜ WrittenAt at (stopLine number block) (now (out .entry)) r (now (out .exit)) ⌝ }
 {
     let a = word(b"stop ", at, out);
-    let b = field(number as i32, 32, a, out);
-    field(block as i32, 10, b, out)
+    let b = field(number as i32, b' ', a, out);
+    field(block as i32, b'\n', b, out)
 }
 
 // The lines of a block whose first sample has this place.

@@ -4,10 +4,11 @@ use super::limits::TRACE;
 use image::bytes::number16;
 use image::bytes::signed16;
 ghost use mathlib.Core.Path.{_≡_};
+ghost use Prim.Native.Nat.{_≤_};
 ghost use lib.ListN.{length};
 ghost use mir.Syntax.{w8};
 ghost use mir.Val.{toZ};
-ghost use Rattle.trace_text.specs.Trace.{wellFormed};
+ghost use Rattle.trace_text.specs.Trace.{headerLength, samplesIn, wellFormed};
 ghost use Rattle.trace_text.specs.Calls.{Readable, Read-is};
 
 pub fn signed8(b: u8) -> i8
@@ -20,18 +21,20 @@ pub fn signed8(b: u8) -> i8
     }
 }
 
-// m, gains and training entries of a block, whose first sample has a place; the entries lie behind all samples.
-pub fn block(
-    t: &[u8],
-    start: usize,
-    first: usize,
-    m: &mut [i16],
-    gains: &mut [u8],
-    entries: &mut [i8],
-)
-    requires { ⌜ Readable (now t) start first (now m) (now gains) (now entries) ⌝ }
+// How many samples the header tells.
+fn samples(t: &[u8]) -> usize
+    requires { ⌜ headerLength ≤ length (now t) ⌝ }
+    ensures { λ r. ⌜ r ≡ samplesIn (now (t .entry)) ⌝ }
+{
+    (t[2] as usize) * (number16(t[6], t[7]) as usize)
+}
+
+// m, gains and training entries of a block whose first sample has this place. The entries lie behind all samples.
+pub fn block(t: &[u8], first: usize, m: &mut [i16], gains: &mut [u8], entries: &mut [i8])
+    requires { ⌜ Readable (now t) first (now m) (now gains) (now entries) ⌝ }
     ensures { λ _. ⌜ Read-is (now (t .entry)) first (length (now (m .entry))) (now (m .exit)) (now (gains .exit)) (now (entries .exit)) ⌝ }
 {
+    let start = HEADER + 3 * samples(t);
     let mut i: usize = 0;
     while i < m.len() {
         let n = first + i;
@@ -52,7 +55,6 @@ pub fn well_formed(t: &[u8]) -> bool
     } else if TRACE < t.len() {
         false
     } else {
-        let count = number16(t[6], t[7]) as usize;
-        t.len() == HEADER + 4 * (t[2] as usize * count) && t[5] == 0
+        t.len() == HEADER + 4 * samples(t) && t[5] == 0
     }
 }

@@ -18,11 +18,11 @@ use Rattle.trace_text.proofs.BlockLaws.{zeros-long, front-long, front-w
 use Rattle.trace_text.proofs.blocks.block_text.Statement.{statement}
 use Rattle.trace_text.proofs.blocks.block_text.Tie as tie
 
-trace : (s : tie.Start) → OfTrace (s .args .t .now) (s .args .e) (s .args .start)
+trace : (s : tie.Start) → OfTrace (s .args .t .now) (s .args .e)
 trace s = s .pre .trace
 
 few : (s : tie.Start) → s .args .i * s .args .e .n + s .args .e .n < traceLimit
-few s = block-few _ _ _ (trace s) _ (s .pre .within)
+few s = block-few _ _ (trace s) _ (s .pre .within)
 
 area : {A : Type 0} (s : tie.Start) (x : A) → length (take (s .args .e .n) (replicate blockLimit x)) ≡ s .args .e .n
 area s x = zeros-long x (s .args .e .n) (trace s .n-most)
@@ -36,18 +36,18 @@ abbrev lent : tie.After-run-block → Lent
 lent c = let a = start c .args in lentAt (a .t .now) (a .i * a .e .n)
 
 abbrev y : tie.After-run-block → List ℤ
-y c = c .run-block .last .1 .1 .1 .1 .0
+y c = c .run-block .last .1 .1 .1 .0
 
 abbrev xi : tie.After-run-block → List ℕ
-xi c = c .run-block .last .1 .1 .1 .1 .1 .0
+xi c = c .run-block .last .1 .1 .1 .1 .0
 
 abbrev decision : tie.After-run-block → List ℤ
-decision c = c .run-block .last .1 .1 .1 .1 .1 .1 .0
+decision c = c .run-block .last .1 .1 .1 .1 .1 .0
 
 ran : (c : tie.After-run-block) → Ran-is (start c .args .e) (lent c) (c .run-block .result) (y c) (xi c) (decision c)
 ran c =
     let s = start c in
-    subst (λ (l : Lent). Ran-is (s .args .e) l (c .run-block .result) (y c) (xi c) (decision c)) (lent-zeros _ _ _ (trace s) (s .args .i * s .args .e .n)) (c .run-block .ensures)
+    subst (λ (l : Lent). Ran-is (s .args .e) l (c .run-block .result) (y c) (xi c) (decision c)) (lent-zeros _ _ (trace s) (s .args .i * s .args .e .n)) (c .run-block .ensures)
 
 bytes-below : (c : tie.After-run-block) (i : ℕ) → byteAt (start c .args .t .now) i < 256
 bytes-below c i = omega (arith, c .before .before .before .before .before .before .shared-slice-known .given i)
@@ -82,7 +82,7 @@ slice-aggregate-run-block-3 c = sym (area (c .before .before .before .before .be
 run-block-requires : tie.Need-run-block-requires
 run-block-requires c κs =
     let s = c .before .before .before .before .before .before in
-    record { trace = trace s; within = block-within _ _ _ (trace s) _ (s .pre .within) }
+    record { trace = trace s; within = block-within _ _ (trace s) _ (s .pre .within) }
 
 cast-stop-line : tie.Need-cast-stop-line
 cast-stop-line c = omega (arith, block-below (c .before .before .before .before .before))

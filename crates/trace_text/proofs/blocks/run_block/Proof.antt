@@ -15,7 +15,7 @@ use Rattle.trace_text.proofs.blocks.run_block.Tie as tie
 abbrev start : tie.After-block → tie.Start
 start c = c .before .before .before .before .before .before .before
 
-trace : (s : tie.Start) → OfTrace (s .args .t .now) (s .args .e) (s .args .start)
+trace : (s : tie.Start) → OfTrace (s .args .t .now) (s .args .e)
 trace s = s .pre .trace
 
 area : {A : Type 0} (s : tie.Start) (x : A) → length (take (s .args .e .n) (replicate blockLimit x)) ≡ s .args .e .n
@@ -24,13 +24,13 @@ area s x = zeros-long x (s .args .e .n) (trace s .n-most)
 -- ---- the lists of the trace
 
 abbrev m : tie.After-block → List ℤ
-m c = c .block .last .1 .1 .1 .0
+m c = c .block .last .1 .1 .0
 
 abbrev gains : tie.After-block → List ℕ
-gains c = c .block .last .1 .1 .1 .1 .0
+gains c = c .block .last .1 .1 .1 .0
 
 abbrev entries : tie.After-block → List ℤ
-entries c = c .block .last .1 .1 .1 .1 .1 .0
+entries c = c .block .last .1 .1 .1 .1 .0
 
 read : (c : tie.After-block) → let s = start c in Read-is (s .args .t .now) (s .args .first) (s .args .e .n) (m c) (gains c) (entries c)
 read c = subst (λ (n : ℕ). Read-is (start c .args .t .now) (start c .args .first) n (m c) (gains c) (entries c)) (area (start c) (pos 0)) (c .block .ensures)
@@ -61,7 +61,6 @@ block-requires c κs =
     let s = c .before .before .before .before .before .before in
     record {
       well-formed = trace s .well-formed;
-      start-is = trace s .start-is;
       gains-long = area s 0 ∙ sym (area s (pos 0));
       entries-long = refl;
       within = omega (arith, s .pre .within, area s (pos 0));

@@ -35,7 +35,10 @@ module _ (s : tie.Start) where
 abbrev start : tie.After-word → tie.Start
 start c = c .before .before .before .before
 
-text₂ : (c : tie.After-field) → let s = start (c .before .before .before .before) in WrittenAt (s .args .at) (A s ++ B s) (s .args .out .now) (c .field .result) (c .field .last .1 .1 .1 .0)
+abbrev start₂ : tie.After-field → tie.Start
+start₂ c = start (c .before .before .before .before)
+
+text₂ : (c : tie.After-field) → WrittenAt (start₂ c .args .at) (A (start₂ c) ++ B (start₂ c)) (start₂ c .args .out .now) (c .field .result) (c .field .last .1 .1 .1 .0)
 text₂ c = written-then (c .before .before .before .before .word .ensures) (omega arith) (c .field .ensures)
 
 slice-aggregate-word : tie.Need-slice-aggregate-word
@@ -59,8 +62,7 @@ cast-field-2 c = search needs
 field-requires-2 : tie.Need-field-requires-2
 field-requires-2 c κs =
     let f = c .before .before .before in
-    let s = start (f .before .before .before .before) in
-    written-room (text₂ f) (C s) (room s)
+    written-room (text₂ f) (C (start₂ f)) (room (start₂ f))
 
 same-length : tie.Need-same-length
 same-length c = search needs
@@ -68,8 +70,7 @@ same-length c = search needs
 returns : tie.Need-returns
 returns c =
     let f = c .before .before .before .before .before .before in
-    let s = start (f .before .before .before .before) in
-    written-text (same s) (written-then (text₂ f) (omega (arith, s .pre .2)) (c .before .before .field2 .ensures))
+    written-text (same (start₂ f)) (written-then (text₂ f) (omega (arith, start₂ f .pre .2)) (c .before .before .field2 .ensures))
 
 pub stop-line-spec : {M : Type 1} → statement M
 stop-line-spec =

@@ -14,23 +14,32 @@ use Rattle.trace_text.proofs.read.block.Statement.{statement}
 use Rattle.trace_text.proofs.read.block.Tie as tie
 
 abbrev Inv-loop : tie.InvT-loop
-Inv-loop t start first m₀ gains₀ entries₀ i₀ m gains entries i =
+Inv-loop t first m₀ gains₀ entries₀ start i₀ m gains entries i =
     (i ≤ length m₀) × Reading (λ j. sampleAt t (first + j)) m₀ i m × Reading (λ j. gainAt t (first + j)) gains₀ i gains
     × Reading (λ j. entryAt t (first + j)) entries₀ i entries
 
 abbrev μ-loop : tie.MeasureT-loop
-μ-loop t start first m₀ gains₀ entries₀ i₀ m gains entries i = length m₀ - i
+μ-loop t first m₀ gains₀ entries₀ start i₀ m gains entries i = length m₀ - i
 
 -- the bytes of the sample of a turn, and of its training entry
-inside : (c : tie.In-loop Inv-loop μ-loop) → let a = c .before .before .before .before .args in
+inside : (c : tie.In-loop Inv-loop μ-loop) → let a = c .before .before .before .before .before .args in
     let n = a .first + c .before .loop .i in
-    (c .before .loop .i < length (a .m .now)) × (sampleStart n + 2 < length (a .t .now)) × (a .start + n < length (a .t .now)) × (length (a .t .now) ≤ traceLimit)
+    (c .before .loop .i < length (a .m .now)) × (sampleStart n + 2 < length (a .t .now)) × (sampleStart (c .before .before .samples .result) + n < length (a .t .now)) × (length (a .t .now) ≤ traceLimit)
 inside c =
-    let s = c .before .before .before .before in
+    let s = c .before .before .before .before .before in
     let t = s .args .t .now in
     let h = s .pre .well-formed in
     let below : c .before .loop .i < length (s .args .m .now) = omega (arith, c .loop-test .taken, c .before .loop .inv .1 .long) in
-    (below, omega (arith, well-long t h, s .pre .within), omega (arith, well-long t h, s .pre .within, s .pre .start-is), well-most t h)
+    (below, omega (arith, well-long t h, s .pre .within), omega (arith, well-long t h, s .pre .within, c .before .before .samples .ensures), well-most t h)
+
+samples-requires : tie.Need-samples-requires Inv-loop μ-loop
+samples-requires c κs = omega (arith, well-long (c .before .before .args .t .now) (c .before .before .pre .well-formed))
+
+mul-start : tie.Need-mul-start Inv-loop μ-loop
+mul-start c = omega (arith, c .samples .ensures, well-long _ (c .before .before .before .pre .well-formed), well-most _ (c .before .before .before .pre .well-formed))
+
+add-start : tie.Need-add-start Inv-loop μ-loop
+add-start c = omega (arith, c .samples .ensures, well-long _ (c .before .before .before .pre .well-formed), well-most _ (c .before .before .before .pre .well-formed))
 
 loop-holds : tie.Need-loop-holds Inv-loop μ-loop
 loop-holds c = (omega arith, reading-none _ _, reading-none _ _, reading-none _ _)
@@ -56,8 +65,8 @@ shared-slice-read-signed16-2 c = omega (arith, inside (c .before .before))
 signed16-requires : tie.Need-signed16-requires Inv-loop μ-loop
 signed16-requires c κs = search needs
 
-mul-t17 : tie.Need-mul-t17 Inv-loop μ-loop
-mul-t17 c = omega (arith, inside (c .before .before .before))
+mul-t19 : tie.Need-mul-t19 Inv-loop μ-loop
+mul-t19 c = omega (arith, inside (c .before .before .before))
 
 slice-set-from-m : tie.Need-slice-set-from-m Inv-loop μ-loop
 slice-set-from-m c = omega (arith, inside (c .before .before .before), c .before .before .before .before .loop .inv .1 .long)
@@ -69,7 +78,7 @@ shared-slice-read-gains : tie.Need-shared-slice-read-gains Inv-loop μ-loop
 shared-slice-read-gains c = omega (arith, inside (c .before .before .before .before))
 
 slice-write-gains : tie.Need-slice-write-gains Inv-loop μ-loop
-slice-write-gains c = omega (arith, inside (c .before .before .before .before), c .before .before .before .before .before .loop .inv .2 .long, c .before .before .before .before .before .before .before .before .pre .gains-long)
+slice-write-gains c = omega (arith, inside (c .before .before .before .before), c .before .before .before .before .before .loop .inv .2 .long, c .before .before .before .before .before .before .before .before .before .pre .gains-long)
 
 add-signed8 : tie.Need-add-signed8 Inv-loop μ-loop
 add-signed8 c = omega (arith, inside (c .before .before .before .before))
@@ -81,7 +90,7 @@ signed8-requires : tie.Need-signed8-requires Inv-loop μ-loop
 signed8-requires c κs = search needs
 
 slice-set-from-entries : tie.Need-slice-set-from-entries Inv-loop μ-loop
-slice-set-from-entries c = omega (arith, inside (c .before .before .before .before .before .before), c .before .before .before .before .before .before .before .loop .inv .3 .long, c .before .before .before .before .before .before .before .before .before .before .pre .entries-long)
+slice-set-from-entries c = omega (arith, inside (c .before .before .before .before .before .before), c .before .before .before .before .before .before .before .loop .inv .3 .long, c .before .before .before .before .before .before .before .before .before .before .before .pre .entries-long)
 
 add-i : tie.Need-add-i Inv-loop μ-loop
 add-i c = omega (arith, inside (c .before .before .before .before .before .before))
@@ -91,7 +100,7 @@ loop-less c = omega (arith, inside (c .before .before .before .before .before .b
 
 loop-again : tie.Need-loop-again Inv-loop μ-loop
 loop-again c =
-    let s = c .before .before .before .before .before .before .before .before .before .before in
+    let s = c .before .before .before .before .before .before .before .before .before .before .before in
     let l = c .before .before .before .before .before .before .before .loop in
     let h = inside (c .before .before .before .before .before .before) .0 in
     let n = s .args .first + l .i in (
@@ -99,7 +108,7 @@ loop-again c =
       reading-next _ _ (l .i) (l .m) _ h (l .inv .1) (kept w16 _ (c .before .before .before .signed16 .ok) ∙ c .before .before .before .signed16 .ensures),
       reading-next _ _ (l .i) (l .gains) _ (omega (arith, h, s .pre .gains-long)) (l .inv .2) refl,
       reading-next _ _ (l .i) (l .entries) _ (omega (arith, h, s .pre .entries-long)) (l .inv .3)
-          (kept w8 _ (c .signed8 .ok) ∙ c .signed8 .ensures ∙ ap (λ (m : ℕ). toZ w8 (getD (s .args .t .now) (m + n) 0)) (s .pre .start-is)),
+          (kept w8 _ (c .signed8 .ok) ∙ c .signed8 .ensures ∙ ap (λ (m : ℕ). toZ w8 (getD (s .args .t .now) (sampleStart m + n) 0)) (c .before .before .before .before .before .before .before .before .samples .ensures)),
     )
 
 same-length : tie.Need-same-length Inv-loop μ-loop
@@ -113,7 +122,7 @@ same-length-3 c = c .before .loop .inv .3 .long
 
 returns : tie.Need-returns Inv-loop μ-loop
 returns c =
-    let s = c .before .before .before .before in
+    let s = c .before .before .before .before .before in
     let l = c .before .loop in
     let all : l .i ≡ length (s .args .m .now) = le-antisymm (l .inv .0) (omega (arith, c .loop-test .left, l .inv .1 .long)) in
     record {
@@ -128,6 +137,9 @@ block-spec =
     (tie.spec
     Inv-loop
     μ-loop
+    samples-requires
+    mul-start
+    add-start
     loop-holds
     add-n
     mul-at
@@ -136,7 +148,7 @@ block-spec =
     add-signed16
     shared-slice-read-signed16-2
     signed16-requires
-    mul-t17
+    mul-t19
     slice-set-from-m
     add-gains
     shared-slice-read-gains
