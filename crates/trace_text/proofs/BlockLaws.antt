@@ -1,12 +1,11 @@
 -- A block of a trace: work areas, the lists that it is run on, what it answers, the text that it adds.
 use mathlib.Core.Path.{_≡_, refl, sym, ap, _∙_, subst}
-use mathlib.Core.Bool.{Bool, true, cond}
-use mathlib.Core.List.{List, [], _∷_, _++_}
+use mathlib.Core.Bool.{Bool, cond}
+use mathlib.Core.List.{List, _∷_, _++_}
 use Prim.Native.Nat.{ℕ, zero, suc, _+_, _*_, _^_, _≤_, _<_}
 use native.Mathlib.Omega.{arith}
 use native.Mathlib.Nat.{mul-le-mul-right}
-use lib.Dec.{eqb}
-use lib.ListN.{length, getD, take, drop, replicate, length-append, length-replicate}
+use lib.ListN.{length, getD, take, replicate, length-append, length-replicate}
 use lib.Seq.{take-at}
 use lib.IntN.{ℤ, pos, natAbs}
 use mir.Syntax.{w16}
@@ -27,7 +26,7 @@ use Rattle.state.specs.declared.equaliser.Answer.{Answer}
 use Rattle.checks.specs.Checks.{Lent, block}
 use Rattle.checks.specs.Calls.{lentOf, Sampled, Checked}
 use Rattle.checks.proofs.CheckLaws.{checked-is}
-use Rattle.station.specs.Answers.{runNumber, runState, accepted, Run}
+use Rattle.station.specs.Answers.{runNumber, accepted, Run}
 use Rattle.station.proofs.AnswerLaws.{run-tests}
 use Rattle.trace_text.specs.Trace.{traceLimit, byteAt, number16, settingsIn, countIn, samplesIn, sampleStart, samplesFrom, sampleAt, lentWith, lentAt}
 use Rattle.trace_text.specs.Text.{lines, blockLines, stopLine, blockText, lineLimit}

@@ -1,22 +1,20 @@
 -- The text of a whole trace, in its four cases.
 use mathlib.Core.Path.{_≡_, sym, ap, _∙_}
-use mathlib.Core.Bool.{Bool, true, false, cond, _&&_}
+use mathlib.Core.Bool.{Bool, true, false, cond}
 use mathlib.Core.List.{List, _++_}
-use Prim.Native.Nat.{ℕ, _+_, _*_, _≤_, _<_}
+use Prim.Native.Nat.{ℕ, _+_, _≤_, _<_}
 use native.Mathlib.Omega.{arith}
-use lib.Dec.{leb, eqb}
 use lib.ListN.{length, drop}
-use borrow.Author.Tests.{leb-true, le-leb, lt-leb, eq-eqb, ne-eqb}
-use Rattle.laws.specs.Lists.{and-left}
+use borrow.Author.Tests.{le-leb, lt-leb, eq-eqb, ne-eqb}
 use Rattle.steps.specs.Settings.{Settings}
-use Rattle.state.specs.Sizes.{sizesFit, admits, settingsNumber}
+use Rattle.state.specs.Sizes.{settingsNumber}
 use Rattle.state.specs.State.{fresh, refused}
 use Rattle.state.specs.Answers.{SetUp}
 use Rattle.state.specs.declared.equaliser.Equaliser.{Equaliser}
 use Rattle.state.specs.declared.equaliser.Answer.{Answer}
 use Rattle.state.proofs.SizesLaws.{settings-tests, fit-within}
 use Rattle.state.proofs.NumberLaws.{fresh-settings}
-use Rattle.trace_text.specs.Trace.{traceLimit, byteAt, settingsIn, samplesIn, countIn, wellFormed}
+use Rattle.trace_text.specs.Trace.{settingsIn, countIn, wellFormed}
 use Rattle.trace_text.specs.Text.{stopLine, textFrom, traceText, textLimit}
 use Rattle.trace_text.specs.Written.{WrittenAt}
 use Rattle.trace_text.specs.Calls.{Traceable, Text-is}

@@ -1,14 +1,13 @@
 -- A block that is run, then its lines or the line of its refusal.
 use mathlib.Core.Path.{_≡_, sym, ap, _∙_, subst}
 use mathlib.Core.List.{List}
-use Prim.Native.Nat.{ℕ, _+_, _*_, _^_, _≤_, _<_}
+use Prim.Native.Nat.{ℕ, _+_, _*_, _^_, _<_}
 use native.Mathlib.Omega.{arith}
 use lib.ListN.{length, take, drop, replicate}
 use lib.IntN.{ℤ, pos}
 use borrow.Author.Needs.{needs}
 use Rattle.steps.specs.Limits.{blockLimit, places}
 use Rattle.checks.specs.Checks.{Lent}
-use Rattle.station.specs.Answers.{runNumber}
 use Rattle.station.proofs.NumberLaws.{run-most}
 use Rattle.trace_text.specs.Trace.{traceLimit, byteAt, lentAt}
 use Rattle.trace_text.specs.Text.{stopLine}
