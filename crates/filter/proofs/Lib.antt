@@ -13,3 +13,4 @@ pub mod DelayLaws
 pub mod StepLaws
 pub mod SampleSteps
 pub mod NextLaws
+pub mod DecisionSize

@@ -4,3 +4,4 @@ pub mod ElementTests
 pub mod SoundLaws
 pub mod SetUpLaws
 pub mod KeptLaws
+pub mod NumberLaws

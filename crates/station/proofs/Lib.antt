@@ -3,3 +3,4 @@ pub mod RunLaws
 pub mod AnswerLaws
 pub mod StarredCases
 pub mod Claim
+pub mod NumberLaws

@@ -1,6 +1,5 @@
 pub mod LargestLaws
 pub mod LongestTests
-pub mod SideLaws
 pub mod GainLaws
 pub mod SideLaws
 pub mod DecisionLaws

@@ -1,19 +1,20 @@
 -- The digits of a number, and how many there are.
-use mathlib.Core.Path.{_≡_, refl, sym, ap, _∙_}
-use mathlib.Core.List.{List, [], _∷_, _++_}
+use mathlib.Core.Path.{_≡_, refl, sym, ap, ap₂, _∙_}
+use mathlib.Core.List.{List, [], _∷_, _++_, append-assoc}
 use Prim.Native.Nat.{ℕ, zero, suc, _+_, _/_, _%_, _^_, _≤_, _<_}
 use native.Mathlib.Omega.{arith}
 use native.Mathlib.Nat.{pow-suc}
 use native.Mathlib.Numerals.{add-one}
 use native.Mathlib.Decide.{decLt}
 use lib.ListN.{length, take, drop, set, length-append, length-set}
-use lib.Seq.{set-split, drop-at, length-take-le, append-snoc}
+use lib.Seq.{set-split, drop-at, length-take-le, take-set-le, append-snoc}
 use lib.Dec.{ltb→lt}
 use lib.IntN.{ℤ, pos, negsuc, natAbs}
 use lib.Signed.{_≤ℤ_, _<ℤ_}
 use borrow.Author.Tests.{lt-ltb, le-ltb}
 use Rattle.trace_text.specs.Decimal.{digits, decimal, signedDecimal}
-use Rattle.trace_text.specs.Written.{Fronted}
+use Rattle.trace_text.specs.Written.{WrittenAt}
+use Rattle.trace_text.proofs.WrittenLaws.{same-drop, written-none}
 
 -- ---- the digits, one after the other
 
@@ -76,6 +77,10 @@ decimal-steps (suc k) n h = go (decLt n 10) (decimal-steps k (n / 10) (omega (ar
         let m : 10 ≤ n = omega arith in
         decimal-more n m ∙ ap (λ (t : List ℕ). t ++ ((48 + n % 10) ∷ [])) rest ∙ sym (digits-more k n m)
 
+pub unsigned-short : (k n : ℕ) → n < 10 ^ suc k → length (signedDecimal (pos n)) ≤ suc k
+unfolding signedDecimal
+unsigned-short k n h = decimal-short k n h
+
 pub signed-short : (k : ℕ) (z : ℤ) → natAbs z < 10 ^ suc k → length (signedDecimal z) ≤ suc (suc k)
 unfolding signedDecimal
 signed-short k (pos n) h = omega (arith, decimal-short k n h)
@@ -117,30 +122,40 @@ last-all n = last-digits n n
 -- ---- digits written from the last to the first
 
 -- those from i on are written; left has the others
-pub record DigitsFrom (n : ℕ) (before : List ℕ) (i left : ℕ) (after : List ℕ) : Type 0 where
-  pub within : i ≤ length before
+pub record DigitsFrom (n at : ℕ) (before : List ℕ) (i left : ℕ) (after : List ℕ) : Type 0 where
+  pub within : at + i ≤ length before
   pub long : length after ≡ length before
-  pub is : lastDigits i left ++ drop i after ≡ decimal n ++ drop (length (decimal n)) before
+  pub is : take at after ++ lastDigits i left ++ drop (at + i) after ≡ take at before ++ decimal n ++ drop (at + length (decimal n)) before
 
-pub digits-none : (n : ℕ) (before : List ℕ) (i : ℕ) → length (decimal n) ≤ length before → i ≡ length (decimal n) → DigitsFrom n before i n before
-digits-none n before i h e = record {
-  within = omega arith;
-  long = refl;
-  is = ap (λ (k : ℕ). lastDigits k n ++ drop k before) e ∙ ap (λ (t : List ℕ). t ++ drop (length (decimal n)) before) (last-all n);
-}
+module _ (n at : ℕ) (before : List ℕ) where
+  pub digits-none : (i : ℕ) → at + length (decimal n) ≤ length before → i ≡ length (decimal n) → DigitsFrom n at before i n before
+  digits-none i h e = record {
+    within = omega arith;
+    long = refl;
+    is = ap (λ (k : ℕ). take at before ++ lastDigits k n ++ drop (at + k) before) e ∙ ap (λ (t : List ℕ). take at before ++ t ++ drop (at + length (decimal n)) before) (last-all n);
+  }
 
-pub digits-next : (n : ℕ) (before : List ℕ) (i j left : ℕ) (after : List ℕ) → i ≡ suc j → DigitsFrom n before i left after →
-    DigitsFrom n before j (left / 10) (set after j (48 + left % 10))
-digits-next n before i j left after e d = record {
-  within = omega arith;
-  long = length-set after j (48 + left % 10) ∙ d .long;
-  is =
-      ap (λ (l : List ℕ). lastDigits j (left / 10) ++ drop j l) (set-split after j (48 + left % 10) (omega (arith, d .long)))
-      ∙ ap (λ (l : List ℕ). lastDigits j (left / 10) ++ l) (drop-at (take j after) _ j (length-take-le j after (omega (arith, d .long))))
-      ∙ sym (append-snoc (lastDigits j (left / 10)) (48 + left % 10) (drop (suc j) after))
-      ∙ ap (λ (k : ℕ). lastDigits k left ++ drop k after) (sym e) ∙ d .is;
-}
+  pub digits-next : (i j left : ℕ) (after : List ℕ) → i ≡ suc j → DigitsFrom n at before i left after →
+      DigitsFrom n at before j (left / 10) (set after (at + j) (48 + left % 10))
+  digits-next i j left after e d =
+      let x = 48 + left % 10 in
+      let front = take at after ++ lastDigits j (left / 10) in
+      let below : at + j < length after = omega (arith, d .long, d .within) in
+      record {
+        within = omega (arith, d .within);
+        long = length-set after (at + j) x ∙ d .long;
+        is =
+            ap₂ (λ (l r : List ℕ). l ++ lastDigits j (left / 10) ++ r) (take-set-le at after (at + j) x (omega arith))
+            (ap (drop (at + j)) (set-split after (at + j) x below) ∙ drop-at (take (at + j) after) _ (at + j) (length-take-le (at + j) after (omega (arith, below))))
+            ∙ sym (append-snoc front x (drop (suc (at + j)) after))
+            ∙ ap₂ _++_ (append-assoc (take at after) (lastDigits j (left / 10)) (x ∷ [])) (same-drop after (suc (at + j)) (at + i) (omega (arith, e)))
+            ∙ ap (λ (k : ℕ). take at after ++ lastDigits k left ++ drop (at + i) after) (sym e) ∙ d .is;
+      }
 
-pub digits-all : (n : ℕ) (before : List ℕ) (i left : ℕ) (after : List ℕ) (count : ℕ) → DigitsFrom n before i left after → i ≡ 0 → count ≡ length (decimal n) →
-    Fronted (decimal n) before count after
-digits-all n before i left after count d e k = record { count-is = k; contents = ap (λ (j : ℕ). lastDigits j left ++ drop j after) (sym e) ∙ d .is }
+  pub digits-all : (i left : ℕ) (after : List ℕ) (count : ℕ) → DigitsFrom n at before i left after → i ≡ 0 → count ≡ length (decimal n) →
+      WrittenAt at (decimal n) before (at + count) after
+  digits-all i left after count d e k = record {
+    end-is = ap (λ (m : ℕ). at + m) k;
+    contents =
+        written-none at after .contents ∙ ap (λ (j : ℕ). take at after ++ lastDigits j left ++ drop (at + j) after) (sym e) ∙ d .is;
+  }

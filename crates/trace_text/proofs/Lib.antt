@@ -1,9 +1,8 @@
+pub mod WrittenLaws
 pub mod DecimalLaws
-pub mod FrontLaws
 pub mod LineLaws
 pub mod ReadLaws
-pub mod WorkedExample
-pub mod BlockTextLaws
+pub mod BlockLaws
 pub mod TextLaws
 pub mod TraceLaws
-pub mod RunResultLaws
+pub mod WorkedExample

@@ -1,23 +1,22 @@
 -- The text of a whole trace, in its four cases.
 use mathlib.Core.Path.{_≡_, sym, ap, _∙_}
-use mathlib.Core.Bool.{Bool, true, false, cond, _&&_}
+use mathlib.Core.Bool.{Bool, true, false, cond}
 use mathlib.Core.List.{List, _++_}
-use Prim.Native.Nat.{ℕ, _+_, _*_, _≤_, _<_}
+use Prim.Native.Nat.{ℕ, _+_, _≤_, _<_}
 use native.Mathlib.Omega.{arith}
-use lib.Dec.{leb, eqb}
 use lib.ListN.{length, drop}
-use borrow.Author.Tests.{leb-true, le-leb, lt-leb, eq-eqb, ne-eqb}
-use Rattle.laws.specs.Lists.{and-left}
+use borrow.Author.Tests.{le-leb, lt-leb, eq-eqb, ne-eqb}
 use Rattle.steps.specs.Settings.{Settings}
-use Rattle.state.specs.Sizes.{sizesFit, admits, settingsNumber}
+use Rattle.state.specs.Sizes.{settingsNumber}
 use Rattle.state.specs.State.{fresh, refused}
 use Rattle.state.specs.Answers.{SetUp}
 use Rattle.state.specs.declared.equaliser.Equaliser.{Equaliser}
 use Rattle.state.specs.declared.equaliser.Answer.{Answer}
 use Rattle.state.proofs.SizesLaws.{settings-tests, fit-within}
-use Rattle.trace_text.specs.Trace.{traceLimit, byteAt, settingsIn, samplesIn, countIn, wellFormed}
+use Rattle.state.proofs.NumberLaws.{fresh-settings}
+use Rattle.trace_text.specs.Trace.{settingsIn, countIn, wellFormed}
 use Rattle.trace_text.specs.Text.{stopLine, textFrom, traceText, textLimit}
-use Rattle.trace_text.specs.Written.{Fronted}
+use Rattle.trace_text.specs.Written.{WrittenAt}
 use Rattle.trace_text.specs.Calls.{Traceable, Text-is}
 
 -- ---- the answer, from the text at the front of the bytes
@@ -32,36 +31,16 @@ module _ (t before : List ℕ) where
         contents = sym (ap (λ (b : Bool). cond b (traceText t ++ drop (length (traceText t)) before) before) e);
       }
 
-  pub text-front : (count : ℕ) (after : List ℕ) → textLimit ≤ length before → Fronted (traceText t) before count after →
+  pub text-written : (count : ℕ) (after : List ℕ) → textLimit ≤ length before → WrittenAt 0 (traceText t) before count after →
       Text-is t before (record { fits = true; length = count }) after
-  text-front count after h f =
+  text-written count after h f =
       let e = le-leb textLimit (length before) h in
+      let none : 0 + length (traceText t) ≡ length (traceText t) = omega arith in
       record {
         fits = sym e;
-        text-length = f .count-is ∙ sym (ap (λ (b : Bool). cond b (length (traceText t)) 0) e);
-        contents = f .contents ∙ sym (ap (λ (b : Bool). cond b (traceText t ++ drop (length (traceText t)) before) before) e);
+        text-length = f .end-is ∙ none ∙ sym (ap (λ (b : Bool). cond b (length (traceText t)) 0) e);
+        contents = f .contents ∙ ap (λ (n : ℕ). traceText t ++ drop n before) none ∙ sym (ap (λ (b : Bool). cond b (traceText t ++ drop (length (traceText t)) before) before) e);
       }
-
--- ---- the header
-
--- a trace that is well formed has a whole header
-pub header : (t : List ℕ) → wellFormed t ≡ true → 12 ≤ length t
-unfolding wellFormed
-header t e =
-    let size = leb 12 (length t) in
-    let bounds = size && leb (length t) traceLimit in
-    let right = bounds && eqb (length t) (12 + 4 * samplesIn t) in
-    leb-true 12 (length t) (and-left size _ (and-left bounds _ (and-left right (eqb (byteAt t 5) 0) e)))
-
--- what set-up answers is 0, 1 or 2
-pub settings-most : (k : Settings) → settingsNumber k ≤ 2
-unfolding settingsNumber
-settings-most k = go (sizesFit k) (admits k)
-  where
-    go : (a b : Bool) → cond a (cond b 0 2) 1 ≤ 2
-    go true true = omega arith
-    go true false = omega arith
-    go false b = omega arith
 
 -- ---- the text, case by case
 
@@ -85,12 +64,13 @@ module _ (t : List ℕ) where
         simp (h, eq-eqb (settingsNumber (settingsIn t)) 0 (sym (s .number) ∙ z)) (ap (textFrom t (countIn t) 0) (state-is z))
 
     pub traceable : (out : List ℕ) → textLimit ≤ length out → a .number ≡ 0 → Traceable t (a .state) out
-    unfolding fresh
     traceable out room z =
-        let n-is : a .state .n ≡ settingsIn t .N = ap (λ (e : Equaliser). e .n) (state-is z) in
+        let n-is : a .state .n ≡ settingsIn t .N = ap (λ (e : Equaliser). e .n) (state-is z) ∙ ap (λ (k : Settings). k .N) (fresh-settings (settingsIn t)) in
         record {
-          n-is = n-is;
-          n-most = omega (arith, n-is, fit-within (settingsIn t) (settings-tests (settingsIn t) (sym (s .number) ∙ z) .0) .N-most);
-          well-formed = h;
+          trace = record {
+            well-formed = h;
+            n-is = n-is;
+            n-most = omega (arith, n-is, fit-within (settingsIn t) (settings-tests (settingsIn t) (sym (s .number) ∙ z) .0) .N-most);
+          };
           room = room;
         }

@@ -20,13 +20,13 @@ use Rattle.station.specs.Answers.{runNumber, runState}
 use Rattle.checks.specs.Checks.{checkNumber}
 use Rattle.state.specs.Answers.{examined}
 use Rattle.trace_text.specs.Decimal.{digits, decimal, signedDecimal}
-use Rattle.trace_text.specs.Trace.{wellFormed, lentAt}
-use Rattle.trace_text.specs.Text.{line, stopLine, lines, blockLines, textFrom, traceText}
+use Rattle.trace_text.specs.Trace.{wellFormed, lentWith}
+use Rattle.trace_text.specs.Text.{field, line, stopLine, lines, blockLines, blockText, textFrom, traceText}
 use Rattle.trace_text.proofs.DecimalLaws.{decimal-one, decimal-steps}
 
 -- all definitions but those of the digits, opened
 steps : Unit {0}
-unfolding scaleCount bitLength cut dot largest adapt longest output outputExponent decide error errorExponent ν F H Y ξ decision v κ Z θ J newForward newBack small next receivedAll values newb newB g stored old start after at goes handedY handedξ handedDecision left settingsNumber isSound stateOf fresh examined checkNumber runNumber runState signedDecimal wellFormed lentAt line stopLine lines blockLines textFrom traceText
+unfolding scaleCount bitLength cut dot largest adapt longest output outputExponent decide error errorExponent ν F H Y ξ decision v κ Z θ J newForward newBack small next receivedAll values newb newB g stored old start after at goes handedY handedξ handedDecision left settingsNumber isSound stateOf fresh examined checkNumber runNumber runState signedDecimal wellFormed lentWith field line stopLine lines blockLines blockText textFrom traceText
 steps = tt
 
 -- p = q = N = 1, r = L = 0, two blocks, M = 67108864; m = 16384 with gain 0 twice; trained on 1, then decided

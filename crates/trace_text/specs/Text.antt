@@ -1,7 +1,7 @@
 -- The text of a trace: a line for each sample of the accepted blocks, and a line of `stop` at a refusal.
 use mathlib.Core.Bool.{cond}
 use mathlib.Core.List.{List, [], _∷_, _++_}
-use Prim.Native.Nat.{ℕ, zero, suc, _+_, _*_}
+use Prim.Native.Nat.{ℕ, zero, suc, _+_, _*_, _/_}
 use lib.Dec.{eqb}
 use lib.ListN.{getD}
 use lib.IntN.{ℤ, pos}
@@ -11,16 +11,26 @@ use Rattle.state.specs.State.{settings, memory, fresh}
 use Rattle.station.specs.Answers.{runNumber, runState}
 use Rattle.checks.specs.Checks.{Lent, block}
 use Rattle.state.specs.declared.equaliser.Equaliser.{Equaliser}
-use Rattle.trace_text.specs.Decimal.{decimal, signedDecimal}
-use Rattle.trace_text.specs.Trace.{settingsIn, countIn, wellFormed, lentAt}
+use Rattle.trace_text.specs.Decimal.{signedDecimal}
+use Rattle.trace_text.specs.Trace.{traceLimit, settingsIn, countIn, wellFormed, lentAt}
 
--- place, Y, ξ and decision, with one space between, and a newline
+abbrev pub space : ℕ
+space = 32
+
+abbrev pub newline : ℕ
+newline = 10
+
+-- a number and the byte after it
+unfoldable pub field : ℤ → ℕ → List ℕ
+field z last = signedDecimal z ++ (last ∷ [])
+
+-- place, Y, ξ and decision
 unfoldable pub line : ℕ → ℤ → ℕ → ℤ → List ℕ
-line place Y ξ d = decimal place ++ (32 ∷ signedDecimal Y) ++ (32 ∷ decimal ξ) ++ (32 ∷ signedDecimal d) ++ (10 ∷ [])
+line place Y ξ d = field (pos place) space ++ field Y space ++ field (pos ξ) space ++ field d newline
 
--- stop, the number and the block
+-- "stop ", the number and the block
 unfoldable pub stopLine : ℕ → ℕ → List ℕ
-stopLine number block = (115 ∷ 116 ∷ 111 ∷ 112 ∷ 32 ∷ []) ++ decimal number ++ (32 ∷ decimal block) ++ (10 ∷ [])
+stopLine number block = (115 ∷ 116 ∷ 111 ∷ 112 ∷ space ∷ []) ++ field (pos number) space ++ field (pos block) newline
 
 -- the first n lines of what a block hands out, from a place on
 unfoldable pub lines : ℕ → List ℤ → List ℕ → List ℤ → ℕ → List ℕ
@@ -32,12 +42,18 @@ unfoldable pub blockLines : ℕ → Equaliser → Lent → List ℕ
 blockLines place e l =
     lines place (handedY (settings e) (memory e) (block l)) (handedξ (settings e) (memory e) (block l)) (handedDecision (settings e) (memory e) (block l)) (e .n)
 
+-- what the block i adds to the text: its lines, or the line of its refusal
+unfoldable pub blockText : List ℕ → Equaliser → ℕ → List ℕ
+blockText t e i =
+    let l = lentAt t (i * e .n) in
+    cond (eqb (runNumber e l) 0) (blockLines (i * e .n) e l) (stopLine (runNumber e l) i)
+
 -- the text of the last blocks, from the block i on
 unfoldable pub textFrom : List ℕ → ℕ → ℕ → Equaliser → List ℕ
 textFrom t zero i e = []
 textFrom t (suc blocks) i e =
     let l = lentAt t (i * e .n) in
-    cond (eqb (runNumber e l) 0) (blockLines (i * e .n) e l ++ textFrom t blocks (suc i) (runState e l)) (stopLine (runNumber e l) i)
+    blockText t e i ++ cond (eqb (runNumber e l) 0) (textFrom t blocks (suc i) (runState e l)) []
 
 unfoldable pub traceText : List ℕ → List ℕ
 traceText t =
@@ -45,6 +61,10 @@ traceText t =
     (cond (eqb (settingsNumber (settingsIn t)) 0) (textFrom t (countIn t) 0 (fresh (settingsIn t))) (stopLine (settingsNumber (settingsIn t)) 0))
     (stopLine 8 0)
 
--- no text is longer
+-- no line is longer: 5 digits of a place, 9 of Y, 2 of ξ and of a decision, two signs, a byte after each number
+abbrev pub lineLimit : ℕ
+lineLimit = 5 + (1 + 9) + 2 + (1 + 2) + 4
+
+-- no text is longer: a sample takes 4 bytes of the trace
 abbrev pub textLimit : ℕ
-textLimit = 393216
+textLimit = lineLimit * (traceLimit / 4)

@@ -1,4 +1,4 @@
--- The bytes of a trace: a header of 12 bytes, 3 bytes for each sample, one for each training entry.
+-- The bytes of a trace: a header, 3 bytes for each sample, one for each training entry.
 use mathlib.Core.Bool.{Bool, _&&_}
 use mathlib.Core.List.{List}
 use Prim.Native.Nat.{ℕ, _+_, _*_}
@@ -10,6 +10,10 @@ use mir.Val.{toZ}
 use Rattle.steps.specs.Settings.{Settings}
 use Rattle.block.specs.Block.{values}
 use Rattle.checks.specs.Checks.{Lent}
+
+-- bytes of a header, and the most of a trace
+abbrev pub headerLength : ℕ
+headerLength = 12
 
 abbrev pub traceLimit : ℕ
 traceLimit = 65536
@@ -37,29 +41,50 @@ samplesIn t = settingsIn t .N * countIn t
 
 -- 8: the length is wrong or too large, or byte 5 is not 0
 unfoldable pub wellFormed : List ℕ → Bool
-wellFormed t = leb 12 (length t) && leb (length t) traceLimit && eqb (length t) (12 + 4 * samplesIn t) && eqb (byteAt t 5) 0
+wellFormed t =
+    leb headerLength (length t) && leb (length t) traceLimit && eqb (length t) (headerLength + 4 * samplesIn t) && eqb (byteAt t 5) 0
+
+-- where a sample begins; the training entries begin where the samples end
+abbrev pub sampleStart : ℕ → ℕ
+sampleStart n = headerLength + 3 * n
 
 -- m, gain and training entry of a sample, by its place in the whole trace
 abbrev pub sampleAt : List ℕ → ℕ → ℤ
-sampleAt t n = toZ w16 (number16 t (12 + 3 * n))
+sampleAt t n = toZ w16 (number16 t (sampleStart n))
 
 abbrev pub gainAt : List ℕ → ℕ → ℕ
-gainAt t n = byteAt t (12 + 3 * n + 2)
+gainAt t n = byteAt t (sampleStart n + 2)
 
 abbrev pub entryAt : List ℕ → ℕ → ℤ
-entryAt t n = toZ w8 (byteAt t (12 + 3 * samplesIn t + n))
+entryAt t n = toZ w8 (byteAt t (sampleStart (samplesIn t) + n))
 
--- the lists of a block whose first sample has this place, with five lists of zeros for what it hands out
-unfoldable pub lentAt : List ℕ → ℕ → Lent
-lentAt t first =
+-- those of n samples, the first of which has this place
+abbrev pub samplesFrom : List ℕ → ℕ → ℕ → List ℤ
+samplesFrom t first n = values (λ j. sampleAt t (first + j)) n
+
+abbrev pub gainsFrom : List ℕ → ℕ → ℕ → List ℕ
+gainsFrom t first n = values (λ j. gainAt t (first + j)) n
+
+abbrev pub entriesFrom : List ℕ → ℕ → ℕ → List ℤ
+entriesFrom t first n = values (λ j. entryAt t (first + j)) n
+
+-- the lists of a block whose first sample has this place, with lists for Y, ξ and decision
+unfoldable pub lentWith : List ℕ → ℕ → List ℤ → List ℕ → List ℤ → Lent
+lentWith t first y xi decision =
     let N = settingsIn t .N in
     record {
-      m = values (λ n. sampleAt t (first + n)) N;
-      gains = values (λ n. gainAt t (first + n)) N;
-      entries = values (λ n. entryAt t (first + n)) N;
-      y = replicate N (pos 0);
-      xi = replicate N 0;
-      decision = replicate N (pos 0);
+      m = samplesFrom t first N;
+      gains = gainsFrom t first N;
+      entries = entriesFrom t first N;
+      y = y;
+      xi = xi;
+      decision = decision;
       z = replicate N (pos 0);
       theta = replicate N 0;
     }
+
+-- all lists for what it hands out are zeros
+abbrev pub lentAt : List ℕ → ℕ → Lent
+lentAt t first =
+    let N = settingsIn t .N in
+    lentWith t first (replicate N (pos 0)) (replicate N 0) (replicate N (pos 0))

@@ -1,9 +1,9 @@
--- Bytes at the front of a lent list, and the rest of it as it was.
+-- Bytes in a lent list from a place on, where they end, and the rest of the list as it was.
 use mathlib.Core.Path.{_≡_}
 use mathlib.Core.List.{List, _++_}
-use Prim.Native.Nat.{ℕ}
-use lib.ListN.{length, drop}
+use Prim.Native.Nat.{ℕ, _+_}
+use lib.ListN.{length, take, drop}
 
-pub record Fronted (text before : List ℕ) (count : ℕ) (after : List ℕ) : Type 0 where
-  pub count-is : count ≡ length text
-  pub contents : after ≡ text ++ drop (length text) before
+pub record WrittenAt (at : ℕ) (text before : List ℕ) (end : ℕ) (after : List ℕ) : Type 0 where
+  pub end-is : end ≡ at + length text
+  pub contents : after ≡ take at before ++ text ++ drop (at + length text) before

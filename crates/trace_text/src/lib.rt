@@ -4,6 +4,7 @@ use state::equaliser::Equaliser;
 
 pub mod blocks;
 pub mod decimal;
+pub mod limits;
 pub mod line;
 pub mod read;
 
@@ -17,7 +18,7 @@ pub struct Written {
 pub fn text(trace: &[u8], out: &mut [u8]) -> Written
     ensures { λ r. ⌜ Text-is (now (trace .entry)) (now (out .entry)) r (now (out .exit)) ⌝ }
 {
-    if out.len() < 393216 {
+    if out.len() < limits::TEXT {
         return Written {
             fits: false,
             length: 0,
@@ -26,7 +27,7 @@ pub fn text(trace: &[u8], out: &mut [u8]) -> Written
     if !read::well_formed(trace) {
         return Written {
             fits: true,
-            length: line::stop_line(8, 0, out),
+            length: line::stop_line(8, 0, 0, out),
         };
     }
     let a = Equaliser::set_up(
@@ -41,7 +42,7 @@ pub fn text(trace: &[u8], out: &mut [u8]) -> Written
     if number != 0 {
         return Written {
             fits: true,
-            length: line::stop_line(number, 0, out),
+            length: line::stop_line(number, 0, 0, out),
         };
     }
     let e = a.state;

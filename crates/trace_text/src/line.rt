@@ -1,75 +1,65 @@
-// The lines of a trace, at the front of lent bytes.
-use super::decimal::decimal;
+// The lines of a trace, in lent bytes from a place on. Each function answers where its text ends.
 use super::decimal::signed_decimal;
-ghost use mathlib.Core.List.{_∷_};
-ghost use Prim.Native.Nat.{_*_, _≤_, _<_};
+ghost use Prim.Native.Nat.{_+_, _*_, _^_, _≤_, _<_};
 ghost use lib.ListN.{length};
-ghost use Rattle.trace_text.specs.Decimal.{decimal, signedDecimal};
-ghost use Rattle.trace_text.specs.Text.{line, stopLine, lines};
-ghost use Rattle.trace_text.specs.Written.{Fronted};
-ghost use Rattle.trace_text.specs.Calls.{lineLimit, Printable, AllPrintable};
+ghost use Rattle.trace_text.specs.Text.{field, line, stopLine, lines, lineLimit};
+ghost use Rattle.trace_text.specs.Written.{WrittenAt};
+ghost use Rattle.trace_text.specs.Calls.{Printable, AllPrintable};
 
-// A space, then a number.
-fn spaced(n: u32, out: &mut [u8]) -> usize
-    requires { ⌜ length (decimal n) < length (now out) ⌝ }
-    ensures { λ r. ⌜ Fronted (32 ∷ decimal n) (now (out .entry)) r (now (out .exit)) ⌝ }
+// A number and the byte after it.
+fn field(z: i32, last: u8, at: usize, out: &mut [u8]) -> usize
+    requires { ⌜ at + length (field z last) ≤ length (now out) ⌝ }
+    ensures { λ r. ⌜ WrittenAt at (field z last) (now (out .entry)) r (now (out .exit)) ⌝ }
 {
-    out[0] = 32;
-    1 + decimal(n, &mut out[1..])
+    let end = signed_decimal(z, at, out);
+    out[end] = last;
+    end + 1
 }
 
-fn spaced_signed(z: i32, out: &mut [u8]) -> usize
-    requires { ⌜ length (signedDecimal z) < length (now out) ⌝ }
-    ensures { λ r. ⌜ Fronted (32 ∷ signedDecimal z) (now (out .entry)) r (now (out .exit)) ⌝ }
+// The line of a sample.
+pub fn line(place: u32, y: i32, xi: u8, decision: i8, at: usize, out: &mut [u8]) -> usize
+    requires { ⌜ (Printable place y xi decision) × (at + lineLimit ≤ length (now out)) ⌝ }
+    ensures { λ r. ⌜ WrittenAt at (line place y xi decision) (now (out .entry)) r (now (out .exit)) ⌝ }
 {
-    out[0] = 32;
-    1 + signed_decimal(z, &mut out[1..])
+    let a = field(place as i32, b' ', at, out);
+    let b = field(y, b' ', a, out);
+    let c = field(xi as i32, b' ', b, out);
+    field(decision as i32, b'\n', c, out)
 }
 
-// The line of a sample; answers how many bytes it takes.
-pub fn line(place: u32, y: i32, xi: u8, decision: i8, out: &mut [u8]) -> usize
-    requires { ⌜ (Printable place y xi decision) × (lineLimit ≤ length (now out)) ⌝ }
-    ensures { λ r. ⌜ Fronted (line place y xi decision) (now (out .entry)) r (now (out .exit)) ⌝ }
+// A word.
+fn word(text: &[u8], at: usize, out: &mut [u8]) -> usize
+    requires { ⌜ at + length (now text) ≤ length (now out) ⌝ }
+    ensures { λ r. ⌜ WrittenAt at (now (text .entry)) (now (out .entry)) r (now (out .exit)) ⌝ }
 {
-    let a = decimal(place, out);
-    let b = a + spaced_signed(y, &mut out[a..]);
-    let c = b + spaced(xi as u32, &mut out[b..]);
-    let d = c + spaced_signed(decision as i32, &mut out[c..]);
-    out[d] = 10;
-    d + 1
+    let mut i: usize = 0;
+    while i < text.len() {
+        out[at + i] = text[i];
+        i += 1;
+    }
+    at + i
 }
 
 // The line of a refusal.
-pub fn stop_line(number: u8, block: u32, out: &mut [u8]) -> usize
-    requires { ⌜ (number ≤ 9) × (block < 65536) × (lineLimit ≤ length (now out)) ⌝ }
-    ensures { λ r. ⌜ Fronted (stopLine number block) (now (out .entry)) r (now (out .exit)) ⌝ }
+pub fn stop_line(number: u8, block: u32, at: usize, out: &mut [u8]) -> usize
+    requires { ⌜ (number ≤ 9) × (block < 2 ^ 16) × (at + lineLimit ≤ length (now out)) ⌝ }
+    ensures { λ r. ⌜ WrittenAt at (stopLine number block) (now (out .entry)) r (now (out .exit)) ⌝ }
 {
-    out[0] = 115;
-    out[1] = 116;
-    out[2] = 111;
-    out[3] = 112;
-    let a = 4 + spaced(number as u32, &mut out[4..]);
-    let b = a + spaced(block, &mut out[a..]);
-    out[b] = 10;
-    b + 1
+    let a = word(b"stop ", at, out);
+    let b = field(number as i32, b' ', a, out);
+    field(block as i32, b'\n', b, out)
 }
 
-// The lines of a block, from a place on.
-pub fn lines(place: u32, y: &[i32], xi: &[u8], decision: &[i8], out: &mut [u8]) -> usize
-    requires { ⌜ (AllPrintable place (now y) (now xi) (now decision)) × (lineLimit * length (now y) ≤ length (now out)) ⌝ }
-    ensures { λ r. ⌜ Fronted (lines place (now (y .entry)) (now (xi .entry)) (now (decision .entry)) (length (now (y .entry)))) (now (out .entry)) r (now (out .exit)) ⌝ }
+// The lines of a block whose first sample has this place.
+pub fn lines(place: u32, y: &[i32], xi: &[u8], decision: &[i8], at: usize, out: &mut [u8]) -> usize
+    requires { ⌜ (AllPrintable place (now y) (now xi) (now decision)) × (at + lineLimit * length (now y) ≤ length (now out)) ⌝ }
+    ensures { λ r. ⌜ WrittenAt at (lines place (now (y .entry)) (now (xi .entry)) (now (decision .entry)) (length (now (y .entry)))) (now (out .entry)) r (now (out .exit)) ⌝ }
 {
-    let mut count: usize = 0;
+    let mut end = at;
     let mut i: usize = 0;
     while i < y.len() {
-        count += line(
-            place + i as u32,
-            y[i],
-            xi[i],
-            decision[i],
-            &mut out[count..],
-        );
+        end = line(place + i as u32, y[i], xi[i], decision[i], end, out);
         i += 1;
     }
-    count
+    end
 }

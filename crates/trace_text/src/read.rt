@@ -1,11 +1,15 @@
 // The bytes of a trace.
+use super::limits::HEADER;
+use super::limits::TRACE;
+use image::bytes::number16;
+use image::bytes::signed16;
 ghost use mathlib.Core.Path.{_≡_};
-ghost use Prim.Native.Nat.{_+_, _*_, _≤_};
-ghost use lib.ListN.{length, take};
+ghost use Prim.Native.Nat.{_≤_};
+ghost use lib.ListN.{length};
 ghost use mir.Syntax.{w8};
 ghost use mir.Val.{toZ};
-ghost use Rattle.block.specs.Block.{values};
-ghost use Rattle.trace_text.specs.Trace.{samplesIn, sampleAt, gainAt, entryAt, wellFormed};
+ghost use Rattle.trace_text.specs.Trace.{headerLength, samplesIn, wellFormed};
+ghost use Rattle.trace_text.specs.Calls.{Readable, Read-is};
 
 pub fn signed8(b: u8) -> i8
     ensures { λ r. ⌜ r ≡ toZ w8 b ⌝ }
@@ -17,59 +21,40 @@ pub fn signed8(b: u8) -> i8
     }
 }
 
-// m of n samples from a place on, at the front of a work area.
-pub fn samples(t: &[u8], first: usize, n: usize) -> [i16; 128]
-    requires { ⌜ (n ≤ 128) × (12 + 3 * (first + n) ≤ length (now t)) ⌝ }
-    ensures { λ r. ⌜ take n r ≡ values (λ j. sampleAt (now (t .entry)) (first + j)) n ⌝ }
+// How many samples the header tells.
+fn samples(t: &[u8]) -> usize
+    requires { ⌜ headerLength ≤ length (now t) ⌝ }
+    ensures { λ r. ⌜ r ≡ samplesIn (now (t .entry)) ⌝ }
 {
-    let mut out = [0i16; 128];
-    let mut i: usize = 0;
-    while i < n {
-        let at = 12 + 3 * (first + i);
-        out[i] = image::bytes::signed16(t[at], t[at + 1]);
-        i += 1;
-    }
-    out
+    (t[2] as usize) * (number16(t[6], t[7]) as usize)
 }
 
-// Their gains.
-pub fn gains(t: &[u8], first: usize, n: usize) -> [u8; 128]
-    requires { ⌜ (n ≤ 128) × (12 + 3 * (first + n) ≤ length (now t)) ⌝ }
-    ensures { λ r. ⌜ take n r ≡ values (λ j. gainAt (now (t .entry)) (first + j)) n ⌝ }
+// m, gains and training entries of a block whose first sample has this place. The entries lie behind all samples.
+pub fn block(t: &[u8], first: usize, m: &mut [i16], gains: &mut [u8], entries: &mut [i8])
+    requires { ⌜ Readable (now t) first (now m) (now gains) (now entries) ⌝ }
+    ensures { λ _. ⌜ Read-is (now (t .entry)) first (length (now (m .entry))) (now (m .exit)) (now (gains .exit)) (now (entries .exit)) ⌝ }
 {
-    let mut out = [0u8; 128];
+    let start = HEADER + 3 * samples(t);
     let mut i: usize = 0;
-    while i < n {
-        out[i] = t[12 + 3 * (first + i) + 2];
+    while i < m.len() {
+        let n = first + i;
+        let at = HEADER + 3 * n;
+        m[i] = signed16(t[at], t[at + 1]);
+        gains[i] = t[at + 2];
+        entries[i] = signed8(t[start + n]);
         i += 1;
     }
-    out
-}
-
-// Their training entries, which lie behind all samples.
-pub fn entries(t: &[u8], start: usize, first: usize, n: usize) -> [i8; 128]
-    requires { ⌜ (n ≤ 128) × (start ≡ 12 + 3 * samplesIn (now t)) × (start + (first + n) ≤ length (now t)) ⌝ }
-    ensures { λ r. ⌜ take n r ≡ values (λ j. entryAt (now (t .entry)) (first + j)) n ⌝ }
-{
-    let mut out = [0i8; 128];
-    let mut i: usize = 0;
-    while i < n {
-        out[i] = signed8(t[start + (first + i)]);
-        i += 1;
-    }
-    out
 }
 
 // Whether the length is right and byte 5 is 0.
 pub fn well_formed(t: &[u8]) -> bool
     ensures { λ r. ⌜ r ≡ wellFormed (now (t .entry)) ⌝ }
 {
-    if t.len() < 12 {
+    if t.len() < HEADER {
         false
-    } else if 65536 < t.len() {
+    } else if TRACE < t.len() {
         false
     } else {
-        let count = image::bytes::number16(t[6], t[7]) as usize;
-        t.len() == 12 + 4 * (t[2] as usize * count) && t[5] == 0
+        t.len() == HEADER + 4 * samples(t) && t[5] == 0
     }
 }

@@ -9,10 +9,12 @@ use borrow.Author.Needs.{needs}
 use borrow.Author.Tests.{not-true, not-false}
 use Rattle.state.specs.Sizes.{given}
 use Rattle.state.specs.Answers.{SetUp}
-use Rattle.trace_text.specs.Trace.{settingsIn, wellFormed}
+use Rattle.state.proofs.NumberLaws.{settings-most}
+use Rattle.trace_text.specs.Trace.{headerLength, settingsIn, wellFormed}
 use Rattle.trace_text.specs.Text.{textLimit}
-use Rattle.trace_text.proofs.FrontLaws.{front-text}
-use Rattle.trace_text.proofs.TraceLaws.{text-short, text-front, header, settings-most, not-well-formed, refused-text, accepted-text, traceable}
+use Rattle.trace_text.proofs.ReadLaws.{well-long}
+use Rattle.trace_text.proofs.WrittenLaws.{written-text}
+use Rattle.trace_text.proofs.TraceLaws.{text-short, text-written, not-well-formed, refused-text, accepted-text, traceable}
 use Rattle.trace_text.proofs.text.Statement.{statement}
 use Rattle.trace_text.proofs.text.Tie as tie
 
@@ -42,15 +44,15 @@ returns-2 c =
     let s = c .before .before in
     let w = s .before .before .before in
     let refused = sym (w .well-formed .ensures) ∙ not-true _ (s .before .before .if2 .taken) in
-    text-front _ _ _ _ (w .before .if1 .left) (front-text (not-well-formed _ refused) (s .stop-line .ensures))
+    text-written _ _ _ _ (w .before .if1 .left) (written-text (not-well-formed _ refused) (s .stop-line .ensures))
 
 -- ---- the header
 
 well : (c : tie.Else2) → wellFormed (bytes (c .before .before)) ≡ true
 well c = sym (c .before .well-formed .ensures) ∙ not-false _ (c .if2 .left)
 
-long : (c : tie.Else2) → 12 ≤ length (bytes (c .before .before))
-long c = header _ (well c)
+long : (c : tie.Else2) → headerLength ≤ length (bytes (c .before .before))
+long c = omega (arith, well-long _ (well c))
 
 shared-slice-read-set-up : tie.Need-shared-slice-read-set-up
 shared-slice-read-set-up c = omega (arith, long (c .before))
@@ -111,7 +113,7 @@ returns-3 : tie.Need-returns-3
 returns-3 c =
     let l = c .before .before in
     let s = l .before .before .before in
-    text-front _ _ _ _ (room s) (front-text (refused-text _ (well (head s)) _ (set-up s) (l .before .before .if3 .taken)) (l .stop-line2 .ensures))
+    text-written _ _ _ _ (room s) (written-text (refused-text _ (well (head s)) _ (set-up s) (l .before .before .if3 .taken)) (l .stop-line2 .ensures))
 
 -- ---- the blocks
 
@@ -128,7 +130,7 @@ returns-4 c =
     let b = c .before .before in
     let f = b .before .before .before in
     let s = f .before in
-    text-front _ _ _ _ (room s) (front-text (accepted-text _ (well (head s)) _ (set-up s) (f .if3 .left)) (b .all-blocks .ensures))
+    text-written _ _ _ _ (room s) (written-text (accepted-text _ (well (head s)) _ (set-up s) (f .if3 .left)) (b .all-blocks .ensures))
 
 pub text-spec : {M : Type 1} → statement M
 text-spec =

@@ -1,34 +1,30 @@
--- One block a turn, at the front of what the blocks before it left.
-use mathlib.Core.Path.{_≡_, ap, _∙_, subst}
-use Prim.Native.Nat.{ℕ, _+_, _-_, _*_, _≤_, _<_}
+-- One block a turn, behind the blocks before it.
+use mathlib.Core.Path.{_≡_, _∙_, subst}
+use Prim.Native.Nat.{ℕ, _-_, _≤_, _<_}
 use native.Mathlib.Omega.{arith}
-use lib.ListN.{length, getD}
+use lib.ListN.{length}
 use borrow.Author.Needs.{needs}
-use Rattle.trace_text.specs.Trace.{traceLimit, countIn, samplesIn}
-use Rattle.trace_text.proofs.FrontLaws.{front-within, front-then}
-use Rattle.trace_text.proofs.TextLaws.{Going, going-none, going-next, going-stops, going-all, going-long, going-room, well-long, well-most}
+use Rattle.steps.specs.Limits.{places}
+use Rattle.trace_text.specs.Trace.{byteAt, countIn}
+use Rattle.trace_text.specs.Calls.{OfTrace}
+use Rattle.trace_text.proofs.ReadLaws.{well-long}
+use Rattle.trace_text.proofs.TextLaws.{Going, going-none, going-next, going-stops, going-all, going-long, going-room}
 use Rattle.trace_text.proofs.blocks.all_blocks.Statement.{statement}
 use Rattle.trace_text.proofs.blocks.all_blocks.Tie as tie
 
 abbrev Inv-loop : tie.InvT-loop
-Inv-loop t out₀ count start state₀ at₀ i₀ out state at i = Going t state₀ out₀ i at state out
+Inv-loop t out₀ count state₀ at₀ i₀ out state at i = Going t state₀ out₀ i at state out
 
 abbrev μ-loop : tie.MeasureT-loop
-μ-loop t out₀ count start state₀ at₀ i₀ out state at i = count - i
+μ-loop t out₀ count state₀ at₀ i₀ out state at i = count - i
 
--- ---- the header
-
-long : (s : tie.Start Inv-loop μ-loop) → length (s .args .t .now) ≡ 12 + 4 * samplesIn (s .args .t .now)
-long s = well-long (s .args .t .now) (s .pre .well-formed)
-
-most : (s : tie.Start Inv-loop μ-loop) → length (s .args .t .now) ≤ traceLimit
-most s = well-most (s .args .t .now) (s .pre .well-formed)
+-- ---- the count of blocks
 
 shared-slice-read-number16 : tie.Need-shared-slice-read-number16 Inv-loop μ-loop
-shared-slice-read-number16 c = omega (arith, long (c .before .before .before))
+shared-slice-read-number16 c = let s = c .before .before .before in omega (arith, well-long _ (s .pre .trace .well-formed))
 
 shared-slice-read-number16-2 : tie.Need-shared-slice-read-number16-2 Inv-loop μ-loop
-shared-slice-read-number16-2 c = omega (arith, long (c .before .before .before .before))
+shared-slice-read-number16-2 c = let s = c .before .before .before .before in omega (arith, well-long _ (s .pre .trace .well-formed))
 
 number16-requires : tie.Need-number16-requires Inv-loop μ-loop
 number16-requires c κs = search needs
@@ -36,102 +32,72 @@ number16-requires c κs = search needs
 cast-count : tie.Need-cast-count Inv-loop μ-loop
 cast-count c = search needs
 
-abbrev first : tie.After-shared-slice-known4 Inv-loop μ-loop → tie.Start Inv-loop μ-loop
-first c = c .before .before .before .before .before .before
-
-shared-slice-read-start : tie.Need-shared-slice-read-start Inv-loop μ-loop
-shared-slice-read-start c = omega (arith, long (first c))
-
-cast-start : tie.Need-cast-start Inv-loop μ-loop
-cast-start c = omega (arith, c .shared-slice-known4 .given 2)
-
-samples : (c : tie.After-shared-slice-known4 Inv-loop μ-loop) → getD (first c .args .t .now) 2 0 * c .before .number16 .result ≡ samplesIn (first c .args .t .now)
-samples c = ap (λ (n : ℕ). getD (first c .args .t .now) 2 0 * n) (c .before .number16 .ensures)
-
-mul-start : tie.Need-mul-start Inv-loop μ-loop
-mul-start c = omega (arith, samples c, long (first c), most (first c))
-
-mul-start-2 : tie.Need-mul-start-2 Inv-loop μ-loop
-mul-start-2 c = omega (arith, samples c, long (first c), most (first c))
-
-add-start : tie.Need-add-start Inv-loop μ-loop
-add-start c = omega (arith, samples c, long (first c), most (first c))
-
 -- ---- the turn that calls
 
+abbrev first : tie.After-number16 Inv-loop μ-loop → tie.Start Inv-loop μ-loop
+first c = c .before .before .before .before .before
+
+weights-long : (c : tie.After-number16 Inv-loop μ-loop) → length (first c .args .e .weights) ≡ places
+weights-long c = search needs
+
+past-long : (c : tie.After-number16 Inv-loop μ-loop) → length (first c .args .e .past) ≡ places
+past-long c = search needs
+
 loop-holds : tie.Need-loop-holds Inv-loop μ-loop
-loop-holds c = going-none _ _ _ (first c .pre .n-is)
+loop-holds c = going-none _ _ _ (first c .pre .trace .n-is) (weights-long c) (past-long c)
 
-sub-block-text : tie.Need-sub-block-text Inv-loop μ-loop
-sub-block-text c = front-within (c .before .loop .inv .front)
+abbrev start : tie.At-loop Inv-loop μ-loop → tie.Start Inv-loop μ-loop
+start c = first (c .before)
 
-part-block-text-start : tie.Need-part-block-text-start Inv-loop μ-loop
-part-block-text-start c = front-within (c .before .loop .inv .front)
+below : (c : tie.In-loop Inv-loop μ-loop) → c .before .loop .i < countIn (start (c .before) .args .t .now)
+below c = subst (λ (n : ℕ). c .before .loop .i < n) (c .before .before .number16 .ensures) (c .loop-test .taken)
 
-part-block-text-end : tie.Need-part-block-text-end Inv-loop μ-loop
-part-block-text-end c = search needs
+bytes-below : (c : tie.At-loop Inv-loop μ-loop) (i : ℕ) → byteAt (start c .args .t .now) i < 256
+bytes-below c i = omega (arith, c .before .before .shared-slice-known3 .given i)
 
-abbrev start : tie.In-loop Inv-loop μ-loop → tie.Start Inv-loop μ-loop
-start c = first (c .before .before)
+trace : (c : tie.At-loop Inv-loop μ-loop) → OfTrace (start c .args .t .now) (c .loop .state)
+trace c =
+    let o = start c .pre .trace in
+    record { well-formed = o .well-formed; n-is = c .loop .inv .n-is; n-most = omega (arith, c .loop .inv .n-is, o .n-is, o .n-most) }
 
-below : (c : tie.In-loop Inv-loop μ-loop) → c .before .loop .i < countIn (start c .args .t .now)
-below c = subst (λ (n : ℕ). c .before .loop .i < n) (c .before .before .before .number16 .ensures) (c .loop-test .taken)
+-- the bytes are as many as at the start
+still : (c : tie.At-loop Inv-loop μ-loop) → length (c .loop .out) ≡ length (start c .args .out .now)
+still c = going-long _ _ _ _ _ _ _ (c .loop .inv) (start c .pre .trace .well-formed) (start c .pre .room)
+
+kept : (c : tie.After-block-text Inv-loop μ-loop) → length (c .block-text .last .1 .1 .1 .1 .0) ≡ length (c .before .before .before .loop .out)
+kept c = search needs
 
 block-text-requires : tie.Need-block-text-requires Inv-loop μ-loop
 block-text-requires c κs =
-    let s = start (c .before) in
-    let l = c .before .before .loop in
+    let l = c .before .before in
     record {
-      n-is = l .inv .n-is;
-      n-most = omega (arith, l .inv .n-is, s .pre .n-is, s .pre .n-most);
-      long = long s;
-      most = most s;
+      trace = trace l;
       within = below (c .before);
-      start-is = ap (λ (n : ℕ). 12 + 3 * n) (samples (c .before .before .before));
-      room = going-room _ _ _ _ _ _ _ (l .inv) (s .pre .well-formed) (s .pre .room) (below (c .before));
+      room = going-room _ _ _ _ _ _ _ (l .loop .inv) (start l .pre .trace .well-formed) (start l .pre .room) (below (c .before));
     }
 
--- the bytes are as many as at the start
-still : (c : tie.At-loop Inv-loop μ-loop) → length (c .loop .out) ≡ length (first (c .before) .args .out .now)
-still c =
-    let s = first (c .before) in
-    going-long _ _ _ _ _ _ _ (c .loop .inv) (s .pre .well-formed) (s .pre .room)
-
-add-at : tie.Need-add-at Inv-loop μ-loop
-add-at c =
-    let p = c .before .before in
-    let turn = p .before .before .before in
-    omega (
-      arith,
-      front-within (front-then (turn .before .loop .inv .front) (p .before .block-text .ensures .front)),
-      p .out .given .1 ∙ still (turn .before),
-      start turn .good .1 .1 .0 .0,
-    )
-
 same-length : tie.Need-same-length Inv-loop μ-loop
-same-length c =
-    let p = c .before .before .before .before in
-    p .out .given .1 ∙ still (p .before .before .before .before)
+same-length c = let r = c .before .before .before .before in kept r ∙ still (r .before .before .before)
 
 returns : tie.Need-returns Inv-loop μ-loop
 returns c =
-    let b = c .before .before .before .before .before in
-    going-stops _ _ _ _ _ _ _ (b .before .before .before .loop .inv) _ _ (below (b .before .before)) (b .block-text .ensures) (c .if1 .taken)
+    let r = c .before .before .before .before in
+    let l = r .before .before .before in
+    going-stops _ _ _ _ _ _ _ (l .loop .inv) _ _ (below (r .before .before)) (r .block-text .ensures) (c .if1 .taken)
 
 add-i : tie.Need-add-i Inv-loop μ-loop
-add-i c =
-    let b = c .before .before .before .before .before .before in
-    omega (arith, b .before .before .loop-test .taken, b .before .before .before .before .before .number16 .ok)
+add-i c = let h = c .before .before .before .before .before .before .before .loop-test .taken in omega (arith, h, c .before .before .before .before .before .before .before .before .before .number16 .ok)
 
 loop-less : tie.Need-loop-less Inv-loop μ-loop
 loop-less c =
-    let h = c .before .before .before .before .before .before .before .before .loop-test .taken in
+    let h = c .before .before .before .before .before .before .before .loop-test .taken in
     omega arith
 
 loop-again : tie.Need-loop-again Inv-loop μ-loop
 loop-again c =
-    let b = c .before .before .before .before .before .before in
-    going-next _ _ _ _ _ _ _ (b .before .before .before .loop .inv) _ _ (below (b .before .before)) (b .block-text .ensures) (c .before .if1 .left)
+    let r = c .before .before .before .before .before in
+    let l = r .before .before .before in
+    going-next _ _ _ _ _ _ _ (l .loop .inv) _ _ (trace l) (bytes-below l) (below (r .before .before)) (r .block-text .ensures) (c .before .if1 .left)
 
 same-length-2 : tie.Need-same-length-2 Inv-loop μ-loop
 same-length-2 c = still (c .before)
@@ -139,7 +105,7 @@ same-length-2 c = still (c .before)
 returns-2 : tie.Need-returns-2 Inv-loop μ-loop
 returns-2 c =
     going-all _ _ _ _ _ _ _ (c .before .loop .inv)
-    (subst (λ (n : ℕ). n ≤ c .before .loop .i) (c .before .before .before .number16 .ensures) (c .loop-test .left))
+    (subst (λ (n : ℕ). n ≤ c .before .loop .i) (c .before .before .number16 .ensures) (c .loop-test .left))
 
 pub all-blocks-spec : {M : Type 1} → statement M
 all-blocks-spec =
@@ -151,17 +117,8 @@ all-blocks-spec =
     shared-slice-read-number16-2
     number16-requires
     cast-count
-    shared-slice-read-start
-    cast-start
-    mul-start
-    mul-start-2
-    add-start
     loop-holds
-    sub-block-text
-    part-block-text-start
-    part-block-text-end
     block-text-requires
-    add-at
     same-length
     returns
     add-i

@@ -1,118 +1,171 @@
 -- A block that is run, then its lines or the line of its refusal.
-use mathlib.Core.Path.{_≡_, sym}
+use mathlib.Core.Path.{_≡_, sym, ap, _∙_, subst}
 use mathlib.Core.List.{List}
-use Prim.Native.Nat.{_+_, _*_, _≤_, _<_}
+use Prim.Native.Nat.{ℕ, _+_, _*_, _^_, _<_}
 use native.Mathlib.Omega.{arith}
-use lib.ListN.{length, take}
-use lib.Seq.{length-take-le}
+use lib.ListN.{length, take, drop, replicate}
+use lib.IntN.{ℤ, pos}
 use borrow.Author.Needs.{needs}
-use Rattle.trace_text.specs.Trace.{lentAt}
-use Rattle.trace_text.specs.Calls.{Blockable}
-use Rattle.trace_text.proofs.BlockTextLaws.{run-most}
-use Rattle.trace_text.proofs.RunResultLaws.{block-within, block-runnable, added-stop, added-lines}
+use Rattle.steps.specs.Limits.{blockLimit, places}
+use Rattle.checks.specs.Checks.{Lent}
+use Rattle.station.proofs.NumberLaws.{run-most}
+use Rattle.trace_text.specs.Trace.{traceLimit, byteAt, lentAt}
+use Rattle.trace_text.specs.Text.{stopLine}
+use Rattle.trace_text.specs.Calls.{OfTrace, Ran-is}
+use Rattle.trace_text.proofs.WrittenLaws.{written-text}
+use Rattle.trace_text.proofs.BlockLaws.{zeros-long, front-long, front-within, sampled, lent-zeros, block-within, block-few, accepts, handed-long, front-printable, front-lines, refused-text, accepted-text}
 use Rattle.trace_text.proofs.blocks.block_text.Statement.{statement}
 use Rattle.trace_text.proofs.blocks.block_text.Tie as tie
 
+trace : (s : tie.Start) → OfTrace (s .args .t .now) (s .args .e)
+trace s = s .pre .trace
+
+few : (s : tie.Start) → s .args .i * s .args .e .n + s .args .e .n < traceLimit
+few s = block-few _ _ (trace s) _ (s .pre .within)
+
+area : {A : Type 0} (s : tie.Start) (x : A) → length (take (s .args .e .n) (replicate blockLimit x)) ≡ s .args .e .n
+area s x = zeros-long x (s .args .e .n) (trace s .n-most)
+
 -- ---- the block
 
-abbrev start : tie.After-struct-known → tie.Start
-start c = c .before .before .before
+abbrev start : tie.After-run-block → tie.Start
+start c = c .before .before .before .before .before .before .before
 
-asked : (c : tie.After-struct-known) → let s = start c in Blockable (s .args .t .now) (s .args .e) (s .args .i) (s .args .start) (s .args .out .now)
-asked c = start c .pre
+abbrev lent : tie.After-run-block → Lent
+lent c = let a = start c .args in lentAt (a .t .now) (a .i * a .e .n)
 
-few : (c : tie.After-struct-known) → let s = start c in s .args .i * s .args .e .n + s .args .e .n ≤ 16381
-few c = omega (arith, block-within _ _ _ _ _ (asked c), asked c .long, asked c .most)
+abbrev y : tie.After-run-block → List ℤ
+y c = c .run-block .last .1 .1 .1 .0
 
-block-below : (c : tie.After-struct-known) → start c .args .i < 65536
-block-below c = omega (arith, asked c .within, c .before .before .shared-slice-known .given 6, c .before .before .shared-slice-known .given 7)
+abbrev xi : tie.After-run-block → List ℕ
+xi c = c .run-block .last .1 .1 .1 .1 .0
+
+abbrev decision : tie.After-run-block → List ℤ
+decision c = c .run-block .last .1 .1 .1 .1 .1 .0
+
+ran : (c : tie.After-run-block) → Ran-is (start c .args .e) (lent c) (c .run-block .result) (y c) (xi c) (decision c)
+ran c =
+    let s = start c in
+    subst (λ (l : Lent). Ran-is (s .args .e) l (c .run-block .result) (y c) (xi c) (decision c)) (lent-zeros _ _ (trace s) (s .args .i * s .args .e .n)) (c .run-block .ensures)
+
+bytes-below : (c : tie.After-run-block) (i : ℕ) → byteAt (start c .args .t .now) i < 256
+bytes-below c i = omega (arith, c .before .before .before .before .before .before .shared-slice-known .given i)
+
+block-below : (c : tie.After-run-block) → start c .args .i < 2 ^ 16
+block-below c = omega (arith, start c .pre .within, bytes-below c 6, bytes-below c 7)
 
 cast-n : tie.Need-cast-n
 cast-n c = search needs
 
 mul-first : tie.Need-mul-first
-mul-first c = omega (arith, few c)
+mul-first c = omega (arith, few (c .before .before .before))
+
+array-borrow-prefix-y : tie.Need-array-borrow-prefix-y
+array-borrow-prefix-y c = search needs
+
+slice-aggregate-run-block : tie.Need-slice-aggregate-run-block
+slice-aggregate-run-block c = sym (area (c .before .before .before .before) (pos 0))
+
+array-borrow-prefix-xi : tie.Need-array-borrow-prefix-xi
+array-borrow-prefix-xi c = search needs
+
+slice-aggregate-run-block-2 : tie.Need-slice-aggregate-run-block-2
+slice-aggregate-run-block-2 c = sym (area (c .before .before .before .before .before) 0)
+
+array-borrow-prefix-decision : tie.Need-array-borrow-prefix-decision
+array-borrow-prefix-decision c = search needs
+
+slice-aggregate-run-block-3 : tie.Need-slice-aggregate-run-block-3
+slice-aggregate-run-block-3 c = sym (area (c .before .before .before .before .before .before) (pos 0))
 
 run-block-requires : tie.Need-run-block-requires
-run-block-requires c κs = block-runnable _ _ _ _ _ (asked c)
-
--- ---- it is refused
+run-block-requires c κs =
+    let s = c .before .before .before .before .before .before in
+    record { trace = trace s; within = block-within _ _ (trace s) _ (s .pre .within) }
 
 cast-stop-line : tie.Need-cast-stop-line
-cast-stop-line c = omega (arith, block-below (c .before .before))
+cast-stop-line c = omega (arith, block-below (c .before .before .before .before .before))
 
 stop-line-requires : tie.Need-stop-line-requires
 stop-line-requires c κs =
-    let r = c .before .before in
-    let s = start (r .before) in
-    (omega (arith, r .run-block .ensures .number, run-most (s .args .e) (lentAt (s .args .t .now) (s .args .i * s .args .e .n))), block-below (r .before), omega (arith, asked (r .before) .room))
+    let r = c .before .before .before .before .before .before in
+    (omega (arith, ran r .number, run-most (start r .args .e) (lent r)), block-below r, omega (arith, start r .pre .room))
 
 same-length : tie.Need-same-length
 same-length c = search needs
 
 returns : tie.Need-returns
 returns c =
-    let w = c .before .before .before in
-    let r = w .before .before .before in
-    added-stop _ _ _ _ _ (asked (r .before)) (r .run-block .result) _ _ (r .run-block .ensures) (w .before .before .if1 .taken) (w .stop-line .ensures)
+    let r = c .before .before .before .before .before .before .before .before .before in
+    let w = c .before .before in
+    record {
+      number = ran r .number;
+      state = ran r .state;
+      written =
+          written-text
+          (ap (λ (n : ℕ). stopLine n (start r .args .i)) (ran r .number) ∙ refused-text (start r .args .t .now) (start r .args .e) (start r .args .i) (λ z. w .before .before .if1 .taken (ran r .number ∙ z)))
+          (w .stop-line .ensures);
+    }
 
 -- ---- it is accepted
 
-y-long : (c : tie.After-run-block) → length (c .run-block .result .y) ≡ 128
-y-long c = search needs
+long : (c : tie.Else1) → let r = c .before .before .before .before .before in
+    (length (y r) ≡ start r .args .e .n) × (length (xi r) ≡ start r .args .e .n) × (length (decision r) ≡ start r .args .e .n)
+long c = handed-long (ran (c .before .before .before .before .before)) (c .if1 .left)
 
-xi-long : (c : tie.After-run-block) → length (c .run-block .result .xi) ≡ 128
-xi-long c = search needs
+weights-long : (c : tie.After-struct-known) → length (c .before .before .before .args .e .weights) ≡ places
+weights-long c = search needs
 
-decision-long : (c : tie.After-run-block) → length (c .run-block .result .decision) ≡ 128
-decision-long c = search needs
-
--- the first N of a list of 128
-front : {A : Type 0} (c : tie.After-run-block) (l : List A) → length l ≡ 128 → length (take (start (c .before) .args .e .n) l) ≡ start (c .before) .args .e .n
-front c l h = length-take-le (start (c .before) .args .e .n) l (omega (arith, asked (c .before) .n-most))
-
-abbrev run : tie.After-decision → tie.After-run-block
-run c = c .before .before .before .before
+past-long : (c : tie.After-struct-known) → length (c .before .before .before .args .e .past) ≡ places
+past-long c = search needs
 
 cast-lines : tie.Need-cast-lines
-cast-lines c = omega (arith, few (run c .before))
+cast-lines c = omega (arith, few (start (c .before .before .before .before .before)))
 
 array-share-prefix-y : tie.Need-array-share-prefix-y
-array-share-prefix-y c = omega (arith, asked (run c .before) .n-most, y-long (run c))
+array-share-prefix-y c = front-within (y (c .before .before .before .before .before)) _ _ (long c .0)
 
 slice-aggregate-lines : tie.Need-slice-aggregate-lines
-slice-aggregate-lines c = let r = run (c .before) in sym (front r _ (y-long r))
+slice-aggregate-lines c = sym (front-long (y (c .before .before .before .before .before .before)) _ _ (long (c .before) .0))
 
 array-share-prefix-xi : tie.Need-array-share-prefix-xi
-array-share-prefix-xi c = let r = run (c .before) in omega (arith, asked (r .before) .n-most, xi-long r)
+array-share-prefix-xi c = front-within (xi (c .before .before .before .before .before .before)) _ _ (long (c .before) .1)
 
 slice-aggregate-lines-2 : tie.Need-slice-aggregate-lines-2
-slice-aggregate-lines-2 c = let r = run (c .before .before) in sym (front r _ (xi-long r))
+slice-aggregate-lines-2 c = sym (front-long (xi (c .before .before .before .before .before .before .before)) _ _ (long (c .before .before) .1))
 
 array-share-prefix-decision : tie.Need-array-share-prefix-decision
-array-share-prefix-decision c = let r = run (c .before .before) in omega (arith, asked (r .before) .n-most, decision-long r)
+array-share-prefix-decision c = front-within (decision (c .before .before .before .before .before .before .before)) _ _ (long (c .before .before) .2)
 
 slice-aggregate-lines-3 : tie.Need-slice-aggregate-lines-3
-slice-aggregate-lines-3 c = let r = run (c .before .before .before) in sym (front r _ (decision-long r))
-
-accepted : (c : tie.After-decision) → run c .run-block .result .number ≡ 0
-accepted c = c .before .before .before .if1 .left
+slice-aggregate-lines-3 c = sym (front-long (decision (c .before .before .before .before .before .before .before .before)) _ _ (long (c .before .before .before) .2))
 
 lines-requires : tie.Need-lines-requires
 lines-requires c κs =
-    let d = c .before .before .before .before in
-    let r = run d in
-    (r .run-block .ensures .handed (accepted d) .printable, omega (arith, asked (r .before) .room, front r (r .run-block .result .y) (y-long r)))
+    let r = c .before .before .before .before .before .before .before .before .before in
+    let k = r .before .before .before .before in
+    let s = start r in
+    let n = s .args .e .n in
+    let rest = drop n (replicate blockLimit (pos 0)) in (
+      front-printable (ran r) (c .before .before .before .before .if1 .left) (s .args .i * n) rest (drop n (replicate blockLimit 0)) rest (weights-long k) (past-long k) (sampled _ _ _ _ _ (bytes-below r)) (omega (arith, few s)),
+      omega (arith, s .pre .room, front-long (y r) rest n (long (c .before .before .before .before) .0)),
+    )
 
 same-length-2 : tie.Need-same-length-2
 same-length-2 c = search needs
 
 returns-2 : tie.Need-returns-2
 returns-2 c =
-    let w = c .before .before .before in
-    let d = w .before .before .before .before .before in
-    let r = run d in
-    added-lines _ _ _ _ _ (asked (r .before)) (r .run-block .result) _ _ (r .run-block .ensures) (accepted d) (front r _ (y-long r)) (w .lines .ensures)
+    let w = c .before .before in
+    let r = c .before .before .before .before .before .before .before .before .before .before .before .before in
+    let s = start r in
+    let h = c .before .before .before .before .before .before .before .if1 .left in
+    let none = accepts (ran r) h in
+    record {
+      number = sym none;
+      state = ran r .state;
+      written = written-text (front-lines (ran r) h _ _ _ _ ∙ accepted-text (s .args .t .now) (s .args .e) (s .args .i) none) (w .lines .ensures);
+    }
 
 pub block-text-spec : {M : Type 1} → statement M
 block-text-spec =
@@ -120,6 +173,12 @@ block-text-spec =
     (tie.spec
     cast-n
     mul-first
+    array-borrow-prefix-y
+    slice-aggregate-run-block
+    array-borrow-prefix-xi
+    slice-aggregate-run-block-2
+    array-borrow-prefix-decision
+    slice-aggregate-run-block-3
     run-block-requires
     cast-stop-line
     stop-line-requires

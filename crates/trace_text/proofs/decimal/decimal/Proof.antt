@@ -6,16 +6,16 @@ use Rattle.trace_text.proofs.decimal.decimal.Statement.{statement}
 use Rattle.trace_text.proofs.decimal.decimal.Tie as tie
 
 abbrev Inv-loop : tie.InvT-loop
-Inv-loop n out₀ count left₀ i₀ out left i = DigitsFrom n out₀ i left out
+Inv-loop n at out₀ count left₀ i₀ out left i = DigitsFrom n at out₀ i left out
 
 abbrev μ-loop : tie.MeasureT-loop
-μ-loop n out₀ count left₀ i₀ out left i = i
+μ-loop n at out₀ count left₀ i₀ out left i = i
 
 width-requires : tie.Need-width-requires Inv-loop μ-loop
 width-requires c κs = search needs
 
 loop-holds : tie.Need-loop-holds Inv-loop μ-loop
-loop-holds c = digits-none _ _ _ (c .before .before .pre) (c .width .ensures)
+loop-holds c = digits-none _ _ _ _ (c .before .before .pre) (c .width .ensures)
 
 sub-i : tie.Need-sub-i Inv-loop μ-loop
 sub-i c = omega arith
@@ -26,6 +26,9 @@ cast-out c = omega arith
 add-out : tie.Need-add-out Inv-loop μ-loop
 add-out c = omega arith
 
+add-out-2 : tie.Need-add-out-2 Inv-loop μ-loop
+add-out-2 c = omega arith
+
 slice-write-out : tie.Need-slice-write-out Inv-loop μ-loop
 slice-write-out c = omega arith
 
@@ -35,13 +38,16 @@ loop-less c = omega arith
 loop-again : tie.Need-loop-again Inv-loop μ-loop
 loop-again c =
     let l = c .before .loop in
-    digits-next _ _ (l .i) _ (l .left) (l .out) (omega arith) (l .inv)
+    digits-next _ _ _ (l .i) _ (l .left) (l .out) (omega arith) (l .inv)
+
+add-result : tie.Need-add-result Inv-loop μ-loop
+add-result c = omega arith
 
 same-length : tie.Need-same-length Inv-loop μ-loop
 same-length c = c .before .loop .inv .long
 
 returns : tie.Need-returns Inv-loop μ-loop
-returns c = digits-all _ _ _ _ _ _ (c .before .loop .inv) (omega arith) (c .before .before .width .ensures)
+returns c = digits-all _ _ _ _ _ _ _ (c .before .loop .inv) (omega arith) (c .before .before .width .ensures)
 
 pub decimal-spec : {M : Type 1} → statement M
 decimal-spec =
@@ -54,8 +60,10 @@ decimal-spec =
     sub-i
     cast-out
     add-out
+    add-out-2
     slice-write-out
     loop-less
     loop-again
+    add-result
     same-length
     returns)

@@ -1,8 +1,9 @@
 -- The size in decimal, after a minus sign if the number is negative.
 use mathlib.Core.Path.{_≡_, sym, ap, _∙_}
+use Prim.Native.Nat.{_+_}
 use mathlib.Core.List.{[], _∷_}
 use native.Mathlib.Omega.{arith}
-use lib.ListN.{length, set, length-set}
+use lib.ListN.{length, set}
 use lib.IntN.{natAbs}
 use mir.Syntax.{w64}
 use mir.Val.{SFits}
@@ -10,9 +11,9 @@ use mir.Facts.{toZ-ofZ, sfits-widen}
 use borrow.Author.Needs.{needs}
 use Rattle.laws.specs.Machine.{abs-fits, lt-tested, lt-refuted}
 use Rattle.trace_text.specs.Decimal.{decimal, signedDecimal}
-use Rattle.trace_text.specs.Written.{Fronted}
+use Rattle.trace_text.specs.Written.{WrittenAt}
 use Rattle.trace_text.proofs.DecimalLaws.{signed-below, signed-whole}
-use Rattle.trace_text.proofs.FrontLaws.{front-none, front-text, front-byte, front-then, front-long, rest-long}
+use Rattle.trace_text.proofs.WrittenLaws.{written-text, written-byte, written-then, written-long, written-room}
 use Rattle.trace_text.proofs.decimal.signed_decimal.Statement.{statement}
 use Rattle.trace_text.proofs.decimal.signed_decimal.Tie as tie
 
@@ -44,41 +45,31 @@ whole c =
 slice-write-out : tie.Need-slice-write-out
 slice-write-out c = omega (arith, ap length (negative c))
 
-sign : (c : tie.Then1) → Fronted (45 ∷ []) (c .before .before .before .args .out .now) 1 (set (c .before .before .before .args .out .now) 0 45)
-sign c = front-byte (front-none _) 45 (omega (arith, ap length (negative c)))
+sign : (c : tie.Then1) → let a = c .before .before .before .args in WrittenAt (a .at) (45 ∷ []) (a .out .now) (a .at + 1) (set (a .out .now) (a .at) 45)
+sign c = written-byte _ 45 _ (slice-write-out c)
 
-sub-decimal : tie.Need-sub-decimal
-sub-decimal c = simp length-set (omega (arith, ap length (negative c)))
-
-part-decimal-start : tie.Need-part-decimal-start
-part-decimal-start c = simp length-set (omega (arith, ap length (negative c)))
-
-part-decimal-end : tie.Need-part-decimal-end
-part-decimal-end c = search needs
+add-decimal : tie.Need-add-decimal
+add-decimal c = search needs
 
 decimal-requires : tie.Need-decimal-requires
-decimal-requires c κs =
-    let o = c .before .before .before .before .args .out .now in
-    omega (arith, rest-long (set o 0 45) 1, length-set o 0 45, ap length (negative (c .before)))
-
-add-result : tie.Need-add-result
-add-result c = omega (arith, c .before .before .decimal .ensures .count-is, ap length (negative (c .before .before .before .before)))
+decimal-requires c κs = written-room (sign (c .before)) (decimal (c .before .before .magnitude .result)) (omega (arith, ap length (negative (c .before))))
 
 decimal-requires-2 : tie.Need-decimal-requires-2
 decimal-requires-2 c κs = omega (arith, ap length (whole (c .before)))
 
 returns : tie.Need-returns
 returns c =
-    front-text (sym (negative (c .before .before .before .before))) (front-then (sign (c .before .before .before .before)) (c .before .before .decimal .ensures))
+    let t = c .before .before .before .before in
+    written-text (sym (negative t)) (written-then (sign t) (omega arith) (c .before .before .decimal .ensures))
 
 same-length : tie.Need-same-length
-same-length c = front-long (returns c) (omega arith)
+same-length c = written-long (returns c) (omega arith)
 
 same-length-2 : tie.Need-same-length-2
 same-length-2 c = search needs
 
 returns-2 : tie.Need-returns-2
-returns-2 c = front-text (sym (whole (c .before .before .before .before))) (c .before .before .decimal2 .ensures)
+returns-2 c = written-text (sym (whole (c .before .before .before .before))) (c .before .before .decimal2 .ensures)
 
 pub signed-decimal-spec : {M : Type 1} → statement M
 signed-decimal-spec =
@@ -88,11 +79,8 @@ signed-decimal-spec =
     magnitude-requires
     cast-size
     slice-write-out
-    sub-decimal
-    part-decimal-start
-    part-decimal-end
+    add-decimal
     decimal-requires
-    add-result
     decimal-requires-2
     same-length
     returns

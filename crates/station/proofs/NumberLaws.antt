@@ -1,0 +1,49 @@
+-- What running a block answers: its number is one digit, and its state has the settings that there were.
+use mathlib.Core.Path.{_≡_, refl}
+use mathlib.Core.Bool.{Bool, true, false, cond}
+use Prim.Native.Nat.{_≤_}
+use native.Mathlib.Omega.{arith}
+use lib.Dec.{eqb}
+use lib.ListN.{length}
+use borrow.Author.Tests.{eq-eqb}
+use Rattle.steps.specs.Limits.{places}
+use Rattle.block.specs.Block.{goes, left}
+use Rattle.block.proofs.BlockSound.{left-sound}
+use Rattle.state.specs.State.{settings, memory, stateOf}
+use Rattle.state.specs.declared.equaliser.Equaliser.{Equaliser}
+use Rattle.state.proofs.NumberLaws.{made-settings}
+use Rattle.state.proofs.KeptLaws.{kept-long}
+use Rattle.checks.specs.Checks.{Lent, block, checkNumber}
+use Rattle.checks.specs.Calls.{Sampled}
+use Rattle.checks.proofs.CheckLaws.{checked-is}
+use Rattle.checks.proofs.NumberLaws.{check-most}
+use Rattle.station.specs.Answers.{runNumber, runState}
+use Rattle.station.proofs.AnswerLaws.{run-tests}
+
+module _ (e : Equaliser) (l : Lent) where
+  pub run-most : runNumber e l ≤ 9
+  unfolding runNumber
+  run-most = go (eqb (checkNumber e l) 0) (goes (settings e) (memory e) (block l) (e .n))
+    where
+      go : (t a : Bool) → cond t (cond a 0 6) (checkNumber e l) ≤ 9
+      go true true = omega arith
+      go true false = omega arith
+      go false a = check-most e l
+
+  pub run-settings : settings (runState e l) ≡ settings e
+  unfolding runState
+  run-settings = go (eqb (runNumber e l) 0)
+    where
+      go : (b : Bool) → settings (cond b (stateOf (settings e) (left (settings e) (memory e) (block l))) e) ≡ settings e
+      go true = made-settings (settings e) (left (settings e) (memory e) (block l))
+      go false = refl
+
+  -- both arrays of the state that an accepted block leaves have their places
+  module _ (ok : runNumber e l ≡ 0) (w : length (e .weights) ≡ places) (d : length (e .past) ≡ places) (m : Sampled (l .m)) where
+    pub run-long : (length (runState e l .weights) ≡ places) × (length (runState e l .past) ≡ places)
+    unfolding runState
+    run-long =
+        let t = run-tests e l ok in
+        let c = checked-is e l (t .0) w d m in
+        rw (eq-eqb (runNumber e l) 0 ok)
+        (kept-long (settings e) (left (settings e) (memory e) (block l)) (left-sound (settings e) (memory e) (block l) (c .sound) (c .acceptable) (t .1)))
