@@ -18,6 +18,11 @@ use Rattle.block.specs.declared.run.BlockResult.{BlockResult}
 use Rattle.block.proofs.ValuesLaws.{values-length}
 use Rattle.block.proofs.BlockCount.{count-all, goes-count}
 
+-- lists that are the same, one by one
+pub same-outputs : {y y′ : List ℤ} {xi xi′ : List ℕ} {decision decision′ z z′ : List ℤ} {theta theta′ : List ℕ} → y ≡ y′ → xi ≡ xi′ → decision ≡ decision′ → z ≡ z′ → theta ≡ theta′ →
+    outputsOf y xi decision z theta ≡ outputsOf y′ xi′ decision′ z′ theta′
+same-outputs ey ex ed ez et = rw (ey, ex, ed, ez, et)
+
 module _ (k : Settings) (o : Memory) (i : Block) where
   -- each list has an element for each sample
   pub handed-long : OutputsLong k (outputsOf (handedY k o i) (handedξ k o i) (handedDecision k o i) (handedZ k o i) (handedθ k o i))

@@ -31,6 +31,7 @@ use Rattle.block.proofs.ValuesLaws.{values-length, values-at}
 use Rattle.block.proofs.BlockCount.{count-most, count-all, count-stopped}
 use Rattle.block.proofs.BlockSound.{fit-at, fit-after}
 use Rattle.block.proofs.BlockWindow.{after-next}
+use Rattle.block.proofs.BlockLeft.{same-outputs}
 use Rattle.block.proofs.LineLaws.{newest-given, newest-longest-at}
 
 -- what the loop carries: the weights, the line of symbols, ψ and the lists that are handed out
@@ -60,18 +61,13 @@ pub record Passed (k : Settings) (o : Memory) (i : Block) (samples : List ℤ) (
   pub delay-most : delay ≤ tapLimit + w .n
   pub longest-at : LongestAt (k .r) delay (newest (k .q) (w .n) (w .symbols))
 
--- lists that are the same, one by one
-same-outputs : (l : Outputs) {y : List ℤ} {xi : List ℕ} {decision z : List ℤ} {theta : List ℕ} → l .y ≡ y → l .xi ≡ xi → l .decision ≡ decision → l .z ≡ z → l .theta ≡ theta →
-    l ≡ outputsOf y xi decision z theta
-same-outputs l ey ex ed ez et = rw (sym ey, sym ex, sym ed, sym ez, sym et)
-
 -- these are all that are run
 pub progressed : {k : Settings} {o : Memory} {i : Block} {samples : List ℤ} {l : Outputs} {w : Work} → Reached k o i samples l w → w .n ≡ count k o i (k .N) →
     ProgressedOn k o i samples l (record { count = w .n; psi = w .ψ }) (w .forward) (w .back) (w .symbols) (w .outputs)
 progressed {k = k} {o = o} {i = i} {l = l} {w = w} p e = record {
   count-is = e;
   taps-are = p .taps-are ∙ ap (after k o i) e;
-  outputs-are = same-outputs (w .outputs) (p .y-written .is) (p .xi-written .is) (p .decision-written .is) (p .z-written .is) (p .theta-written .is) ∙ ap (λ (m : ℕ). handed k o i m l) e;
+  outputs-are = same-outputs (p .y-written .is) (p .xi-written .is) (p .decision-written .is) (p .z-written .is) (p .theta-written .is) ∙ ap (λ (m : ℕ). handed k o i m l) e;
 }
 
 module _ {k : Settings} {o : Memory} {i : Block} {e : BlockExponents} {ψ : ℕ} {entries forward₀ back₀ samples symbols₀ : List ℤ} {l : Outputs}

@@ -5,3 +5,4 @@ pub mod SoundLaws
 pub mod SetUpLaws
 pub mod KeptLaws
 pub mod NumberLaws
+pub mod PartsLaws

@@ -1,15 +1,16 @@
 -- What running a block answers: a refusal, or what an accepted block leaves and hands out.
 use mathlib.Core.Path.{_≡_, refl, sym, ap, _∙_}
 use mathlib.Core.Bool.{Bool, true, false, cond}
-use mathlib.Core.List.{List}
 use Prim.Native.Nat.{ℕ}
 use native.Mathlib.Omega.{arith}
 use lib.Dec.{eqb}
-use lib.IntN.{ℤ}
 use borrow.Author.Tests.{ne-eqb, eq-eqb, eqb-true, eqb-false}
-use Rattle.block.specs.Block.{goes, left, handedY, handedξ, handedDecision, handedZ, handedθ}
-use Rattle.state.specs.State.{settings, memory, stateOf}
+use Rattle.block.specs.Block.{Outputs, goes}
+use Rattle.block.specs.Calls.{outputsOf}
+use Rattle.state.specs.State.{settings, memory}
 use Rattle.station.specs.Answers.{runNumber, runState, accepted, Run}
+use Rattle.station.specs.Calls.{goesOn, RunChecked, handedOr}
+use Rattle.state.specs.declared.equaliser.Answer.{Answer}
 use Rattle.checks.specs.Checks.{Lent, block, checkNumber}
 use Rattle.state.specs.declared.equaliser.Equaliser.{Equaliser}
 
@@ -29,14 +30,6 @@ module _ (e : Equaliser) (l : Lent) where
   unfolding runNumber
   check-fails n h f = simp (ne-eqb (checkNumber e l) 0 (λ z. f (h ∙ z))) h
 
-  pub run-stops : checkNumber e l ≡ 0 → goes (settings e) (memory e) (block l) (e .n) ≡ false → 6 ≡ runNumber e l
-  unfolding runNumber
-  run-stops h g = simp (h, g)
-
-  pub run-goes : checkNumber e l ≡ 0 → goes (settings e) (memory e) (block l) (e .n) ≡ true → 0 ≡ runNumber e l
-  unfolding runNumber
-  run-goes h g = simp (h, g)
-
   -- ---- everything as it was
 
   pub refused : (n : ℕ) → n ≡ runNumber e l → (n ≡ 0 → ⊥) → Run e l (record { number = n; state = e }) (l .y) (l .xi) (l .decision) (l .z) (l .theta)
@@ -54,22 +47,29 @@ module _ (e : Equaliser) (l : Lent) where
       was : {A : Type 0} (new old : A) → old ≡ accepted e l new old
       was new old = ap (λ b. cond b new old) (sym (ne-eqb (runNumber e l) 0 (λ z. f (h ∙ z))))
 
-  -- ---- an accepted block
+  -- ---- a block that passed the checks
 
-  pub taken : 0 ≡ runNumber e l → (state : Equaliser) (y : List ℤ) (xi : List ℕ) (decision z : List ℤ) (theta : List ℕ) →
-      state ≡ stateOf (settings e) (left (settings e) (memory e) (block l)) → y ≡ handedY (settings e) (memory e) (block l) → xi ≡ handedξ (settings e) (memory e) (block l) →
-      decision ≡ handedDecision (settings e) (memory e) (block l) → z ≡ handedZ (settings e) (memory e) (block l) → theta ≡ handedθ (settings e) (memory e) (block l) →
-      Run e l (record { number = 0; state = state }) y xi decision z theta
-  unfolding runState
-  taken h state y xi decision z theta es ey ex ed ez et = record {
-    number = h;
-    state = es ∙ new _ e;
-    y-is = ey ∙ new _ (l .y);
-    xi-is = ex ∙ new _ (l .xi);
-    decision-is = ed ∙ new _ (l .decision);
-    z-is = ez ∙ new _ (l .z);
-    theta-is = et ∙ new _ (l .theta);
-  }
-    where
-      new : {A : Type 0} (next old : A) → next ≡ accepted e l next old
-      new next old = ap (λ b. cond b next old) (sym (eq-eqb (runNumber e l) 0 (sym h)))
+  module _ (c : checkNumber e l ≡ 0) where
+    pub number-is : cond (goesOn e (block l)) 0 6 ≡ runNumber e l
+    unfolding runNumber
+    number-is = simp c
+
+    pub goes-accepted : {A : Type 0} (new old : A) → cond (goesOn e (block l)) new old ≡ accepted e l new old
+    goes-accepted new old = rw (sym number-is) (go (goesOn e (block l)))
+      where
+        go : (b : Bool) → cond b new old ≡ cond (eqb (cond b 0 6) 0) new old
+        go true = refl
+        go false = refl
+
+    pub answered : {areas areas′ : Outputs} {a : Answer} {l′ : Outputs} → RunChecked e (block l) areas a areas′ → l′ ≡ handedOr e (block l) (outputsOf (l .y) (l .xi) (l .decision) (l .z) (l .theta)) →
+        Run e l a (l′ .y) (l′ .xi) (l′ .decision) (l′ .z) (l′ .theta)
+    unfolding runState
+    answered h o = record {
+      number = h .number ∙ number-is;
+      state = h .state ∙ goes-accepted _ e;
+      y-is = ap (λ (t : Outputs). t .y) o ∙ goes-accepted _ (l .y);
+      xi-is = ap (λ (t : Outputs). t .xi) o ∙ goes-accepted _ (l .xi);
+      decision-is = ap (λ (t : Outputs). t .decision) o ∙ goes-accepted _ (l .decision);
+      z-is = ap (λ (t : Outputs). t .z) o ∙ goes-accepted _ (l .z);
+      theta-is = ap (λ (t : Outputs). t .theta) o ∙ goes-accepted _ (l .theta);
+    }

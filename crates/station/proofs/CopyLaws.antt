@@ -1,9 +1,10 @@
 -- Lists that are copied to the front of an array that is filled with one value.
 use mathlib.Core.Path.{_≡_, refl, sym, ap, ap₂, _∙_}
 use mathlib.Core.List.{List, _++_, append-assoc}
-use Prim.Native.Nat.{ℕ, zero, suc, _+_, _-_}
+use Prim.Native.Nat.{ℕ, zero, suc, _+_, _-_, _≤_}
+use native.Mathlib.Omega.{arith}
 use native.Mathlib.Nat.{sub-zero, zero-sub, suc-sub-suc, add-sub-cancel-left, sub-add-eq}
-use lib.ListN.{length, take, drop, replicate, length-append}
+use lib.ListN.{length, take, drop, replicate, length-append, length-replicate}
 use lib.Seq.{take-append-seam, drop-append-seam}
 
 module _ {A : Type 0} (x : A) where
@@ -13,12 +14,25 @@ module _ {A : Type 0} (x : A) where
   drop-replicate (suc n) (suc m) = drop-replicate n m ∙ ap (λ (k : ℕ). replicate k x) (sym (suc-sub-suc m n))
 
   -- one list
-  pub fronted-is : (m : ℕ) (src put : List A) → put ≡ src → put ++ drop (length src) (replicate m x) ≡ src ++ replicate (m - length src) x
-  fronted-is m src put e = ap₂ (λ (a b : List A). a ++ b) e (drop-replicate (length src) m)
+  pub fronted-is : (m : ℕ) (src put : List A) → put ≡ src → put ++ drop (length src - 0) (replicate m x) ≡ src ++ replicate (m - length src) x
+  fronted-is m src put e = ap₂ (λ (a b : List A). a ++ b) e (ap (λ (n : ℕ). drop n (replicate m x)) (sub-zero (length src)) ∙ drop-replicate (length src) m)
+
+  pub fronted-long : (m : ℕ) (src put : List A) → put ≡ src → length src ≤ m → length (put ++ drop (length src - 0) (replicate m x)) ≡ m
+  fronted-long m src put e h =
+      ap length (fronted-is m src put e) ∙ length-append src (replicate (m - length src) x) ∙ omega (arith, length-replicate (m - length src) x)
 
   -- two lists, one after the other
   pub joined-is : (m : ℕ) (a b put then : List A) → put ≡ a → then ≡ b →
-      take (length a) (put ++ drop (length a) (replicate m x)) ++ (then ++ drop (length a + length b - length a) (drop (length a) (put ++ drop (length a) (replicate m x))))
+      take (length a) (put ++ drop (length a - 0) (replicate m x)) ++ (then ++ drop (length a + length b - length a) (drop (length a) (put ++ drop (length a - 0) (replicate m x))))
       ≡ (a ++ b) ++ replicate (m - length (a ++ b)) x
-  joined-is m a b put then e f =
-      rw (e, f, take-append-seam, drop-append-seam, add-sub-cancel-left, length-append, drop-replicate (length a) m, drop-replicate (length b) (m - length a), sub-add-eq, append-assoc) refl
+  joined-is m a b put then e f = rw (
+    fronted-is m a put e,
+    f,
+    take-append-seam,
+    drop-append-seam,
+    add-sub-cancel-left,
+    length-append,
+    drop-replicate (length b) (m - length a),
+    sub-add-eq,
+    append-assoc,
+  ) refl

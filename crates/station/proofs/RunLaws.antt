@@ -1,30 +1,31 @@
 -- Running a block on the parts of a state, and the state that it leaves.
 use mathlib.Core.Path.{_≡_, refl, sym, ap, ap₂, _∙_, subst}
-use mathlib.Core.Bool.{true, false, _&&_}
+use mathlib.Core.Bool.{Bool, true, false, _&&_, cond}
 use mathlib.Core.List.{List, [], _∷_, _++_}
-use Prim.Native.Nat.{ℕ, suc, _+_, _-_, _≤_}
+use Prim.Native.Nat.{ℕ, suc, _+_, _-_, _≤_, _<_}
 use native.Mathlib.Omega.{arith}
-use native.Mathlib.Nat.{add-sub-cancel, add-sub-cancel-left, min-le-right}
-use lib.Dec.{T}
-use lib.ListN.{length, take, drop, set, length-append, length-drop, length-take, drop-of-length-le}
-use lib.Seq.{take-suc, set-split, take-append-seam, take-at, append-snoc}
+use native.Mathlib.Nat.{sub-zero, add-sub-cancel, add-sub-cancel-left, min-le-right}
+use lib.ListN.{length, take, drop, set, replicate, length-append, length-replicate, length-drop, length-take, drop-of-length-le}
+use lib.Seq.{length-take-le, take-suc, set-split, take-append-seam, take-at, append-snoc}
 use lib.IntN.{ℤ, pos, natAbs}
-use borrow.Author.Tests.{eqb-true}
+use borrow.Author.Tests.{eqb-true, le-leb, lt-leb}
 use Rattle.laws.specs.Integers.{abs-zero}
 use Rattle.laws.specs.Lists.{and-left, and-right, all}
-use Rattle.steps.specs.Settings.{scaleForward, isEntry}
-use Rattle.block.specs.Block.{Block, after, left}
+use Rattle.steps.specs.Limits.{blockLimit, exponentLimit}
+use Rattle.steps.specs.Settings.{Settings, scaleForward, isEntry}
+use Rattle.block.specs.Block.{Block, Memory, Outputs, left}
 use Rattle.block.specs.Sound.{Sound}
-use Rattle.block.specs.Calls.{memoryOf, Runnable, Ran-is}
-use Rattle.block.specs.Calls as Filter
-use Rattle.block.specs.declared.run.Ran.{Ran}
+use Rattle.block.specs.Calls.{memoryOf, OutputsLong, Runnable, BlockResult-is}
+use Rattle.block.specs.declared.run.BlockResult.{BlockResult}
 use Rattle.block.proofs.BlockSound.{left-sound}
+use Rattle.block.proofs.BlockLeft.{goes-is, left-is, handed-all}
 use Rattle.state.specs.State.{settings, memory, taps, samples, symbols, filler, isZero, isStored, padded, stateOf}
-use Rattle.station.specs.Calls.{Parts, Finished, Done-is, Ended, doneOf}
 use Rattle.checks.specs.Calls.{Checked}
 use Rattle.state.specs.declared.equaliser.Equaliser.{Equaliser}
-use Rattle.station.specs.declared.run.Done.{Done}
+use Rattle.state.specs.declared.equaliser.Answer.{Answer}
 use Rattle.state.proofs.SoundLaws.{sound-tests}
+use Rattle.state.proofs.PartsLaws.{state-of-parts}
+use Rattle.station.specs.Calls.{Parts, ResultBytes, nextOf, goesOn, RunChecked, handedOr}
 
 -- ---- parts of a list
 
@@ -32,12 +33,20 @@ use Rattle.state.proofs.SoundLaws.{sound-tests}
 part-room : (p q : ℕ) (l : List ℤ) → 1 ≤ q → length (take q (drop p l)) ≡ q → p + q ≤ length l
 part-room p q l h e = omega (arith, length-take q (drop p l), min-le-right q (length (drop p l)), length-drop p l)
 
--- a list that stands in front of something
-pub front-part : (l r rest : List ℤ) (n : ℕ) → length l ≡ n → r ≡ l ++ rest → take n r ≡ l
-front-part l r rest n h e = ap (take n) e ∙ take-at l rest n h
+-- from the front, and from place p on
+pub first-part : {A : Type 0} (n : ℕ) (l : List A) → take (n - 0) l ≡ take n l
+first-part n l = ap (λ (m : ℕ). take m l) (sub-zero n)
 
-pub middle : (p q : ℕ) (l : List ℤ) → take (p + q - p) (drop p l) ≡ take q (drop p l)
-middle p q l = ap (λ (n : ℕ). take n (drop p l)) (add-sub-cancel-left p q)
+pub middle-part : (p q : ℕ) (l : List ℤ) → take (p + q - p) (drop p l) ≡ take q (drop p l)
+middle-part p q l = ap (λ (n : ℕ). take n (drop p l)) (add-sub-cancel-left p q)
+
+-- a list that is copied to the front of an array
+pub copied-part : {l r part : List ℤ} (rest : List ℤ) (n : ℕ) → part ≡ l → r ≡ part ++ rest → length l ≡ n → take (n - 0) r ≡ l
+copied-part {l = l} {r = r} rest n p e h = first-part n r ∙ ap (take n) (e ∙ ap (λ (t : List ℤ). t ++ rest) p) ∙ take-at l rest n h
+
+-- the part of a work area that is lent
+pub area-long : {A : Type 0} (x : A) {n : ℕ} → n ≤ blockLimit → length (take (n - 0) (replicate blockLimit x)) ≡ n
+area-long x {n = n} h = ap length (first-part n (replicate blockLimit x)) ∙ length-take-le n (replicate blockLimit x) (omega (arith, length-replicate blockLimit x))
 
 -- all but the last element
 but-last : (l : List ℤ) (z : ℤ) → take (length (l ++ (z ∷ [])) - 1) (l ++ (z ∷ [])) ≡ l
@@ -58,6 +67,15 @@ module _ (e : Equaliser) (i : Block) (h : Checked e i) where
   pub past-room : taps e ≤ length (e .past)
   past-room = part-room (e .p) (e .q) (e .past) (h .sound .within .q-least) (h .sound .symbols-long)
 
+  pub weights-first : e .p ≤ length (e .weights)
+  weights-first = omega (arith, weights-room)
+
+  pub past-first : e .p ≤ length (e .past)
+  past-first = omega (arith, past-room)
+
+  pub past-long : length (take (e .p) (e .past)) ≡ e .p
+  past-long = length-take-le (e .p) (e .past) past-first
+
   filler-zero : filler e ≡ pos 0
   filler-zero =
       let stored = all (isStored (scaleForward (settings e)) (e .b) (e .big)) (samples e) in
@@ -75,7 +93,7 @@ module _ (e : Equaliser) (i : Block) (h : Checked e i) where
 
 -- ---- a run on these parts
 
-module _ (e : Equaliser) (i : Block) (ahead behind window recent : List ℤ) (h : Parts e i ahead behind window recent) where
+module _ {e : Equaliser} {i : Block} {ahead behind window recent : List ℤ} {l : Outputs} (h : Parts e i ahead behind window recent l) where
   pub record Long : Type 0 where
     pub forward-long : length ahead ≡ e .p
     pub back-long : length behind ≡ e .q
@@ -95,61 +113,76 @@ module _ (e : Equaliser) (i : Block) (ahead behind window recent : List ℤ) (h 
   window-samples : take (length window - 1) window ≡ samples e
   window-samples = ap (λ (l : List ℤ). take (length l - 1) l) (h .window-is) ∙ but-last (samples e) (pos 0)
 
-  pub memory-is : memoryOf ahead behind window recent (e .psi) (e .b) (e .big) ≡ memory e
+  memory-is : memoryOf ahead behind window recent (e .psi) (e .b) (e .big) ≡ memory e
   memory-is = rw (h .forward-is, h .back-is, window-samples, h .symbols-are)
 
-  pub runnable : Runnable (settings e) (memoryOf ahead behind window recent (e .psi) (e .b) (e .big)) i window
-  runnable = record {
-    sound = subst (Sound (settings e)) (sym memory-is) (h .checked .sound);
-    acceptable = h .checked .acceptable;
-    window-is = h .window-is ∙ ap (λ (l : List ℤ). l ++ (pos 0 ∷ [])) (sym window-samples);
-  }
+  module _ {k : Settings} (q : k ≡ settings e) where
+    pub runnable : Runnable k (memoryOf ahead behind window recent (e .psi) (e .b) (e .big)) i window l
+    runnable = rw (q, memory-is) (record {
+      sound = h .checked .sound;
+      acceptable = h .checked .acceptable;
+      window-is = h .window-is;
+      outputs-long = h .outputs-long;
+    })
+
+    -- what it leaves, on the memory of the state
+    pub result-is : {r : BlockResult} {forward back samples symbols : List ℤ} {l′ : Outputs} →
+        BlockResult-is k (memoryOf ahead behind window recent (e .psi) (e .b) (e .big)) i l r forward back samples symbols l′ →
+        BlockResult-is (settings e) (memory e) i l r forward back samples symbols l′
+    result-is p = rw (q, memory-is) at p
 
 -- ---- what a run leaves
 
-module _ (e : Equaliser) (i : Block) (c : Checked e i) (ran : Ran) (ahead behind window recent : List ℤ)
-    (h : Ran-is (settings e) (memory e) i ran ahead behind window recent) where
-  -- ψ would pass its limit
-  pub stopped : (r : Done) → ran .done ≡ false → r .done ≡ false → Done-is e i r
-  stopped r f d = record {
-    done = d ∙ sym f ∙ h .done;
-    finished = λ g. absurd (subst T (sym g ∙ sym (h .done) ∙ f) tt);
-  }
+module _ {e : Equaliser} {i : Block} {l : Outputs} {r : BlockResult} {ahead behind window recent : List ℤ} {l′ : Outputs} (c : Checked e i)
+    (h : BlockResult-is (settings e) (memory e) i l r ahead behind window recent l′) where
+  -- ψ passed its limit
+  pub stopped : exponentLimit < r .psi → RunChecked e i l (record { number = 6; state = e }) l′
+  stopped m =
+      let g = goes-is h (c .sound) ∙ lt-leb _ _ m in
+      record { number = ap (λ (b : Bool). cond b 0 6) (sym g); state = ap (λ (b : Bool). cond b (stateOf (settings e) (left (settings e) (memory e) i)) e) (sym g); outputs-are = h .outputs-are }
 
-  -- its numbers fit their bytes
-  pub ended : ran .done ≡ true → Ended e ran
-  unfolding left
-  ended d =
-      let g = sym (h .done) ∙ d in
-      let s = left-sound (settings e) (memory e) i (c .sound) (c .acceptable) g in
-      let f = h .finished g in
-      record {
-        psi = omega (arith, f .psi, s .ψ-most);
-        b = omega (arith, f .b, s .b-most, s .B-most);
-        big = omega (arith, f .big, s .B-most);
-      }
+  -- ψ kept its limit
+  module _ (m : r .psi ≤ exponentLimit) where
+    goes-on : goesOn e i ≡ true
+    goes-on = goes-is h (c .sound) ∙ le-leb _ _ m
 
-  past-is : (f : Filter.Finished (settings e) (memory e) i ran ahead behind window recent) → length window ≡ e .p →
-      padded (set window (length window - 1) (pos 0) ++ recent) ≡ padded (take (e .p - 1) (after (settings e) (memory e) i (e .n) .samples) ++ pos 0 ∷ after (settings e) (memory e) i (e .n) .symbols)
-  past-is f l =
-      ap padded (
-      ap (λ (t : List ℤ). t ++ recent) (new-last window (pos 0) (e .p) l (c .sound .within .p-least))
-      ∙ append-snoc (take (e .p - 1) window) (pos 0) recent
-      ∙ ap₂ (λ (t u : List ℤ). take (e .p - 1) t ++ pos 0 ∷ u) (f .window-is) (f .symbols-are)
-      )
+    abbrev next-memory : Memory
+    next-memory = record { forward = ahead; back = behind; samples = take (e .p - 1) window; symbols = recent; ψ = r .psi; b = r .b; B = r .big }
 
-  pub done-is : (ws ds : List ℤ) → ws ≡ padded (ahead ++ behind) → ds ≡ padded (set window (length window - 1) (pos 0) ++ recent) → length window ≡ e .p → Done-is e i (doneOf e ran ws ds)
-  unfolding stateOf left
-  done-is ws ds ew ed l = record {
-    done = h .done;
-    finished = λ g.
-        let f = h .finished g in
-        record {
-          state = rw (f .psi, f .b, f .big, ew ∙ ap₂ (λ (t u : List ℤ). padded (t ++ u)) (f .forward-is) (f .back-is), ed ∙ past-is f l);
-          y = f .y;
-          xi = f .xi;
-          decision-is = f .decision-is;
-          z = f .z;
-          theta = f .theta;
-        };
-  }
+    -- its numbers fit their bytes
+    pub result-bytes : ResultBytes r
+    result-bytes =
+        let s = subst (Sound (settings e)) (left-is h goes-on) (left-sound (settings e) (memory e) i (c .sound) (c .acceptable) goes-on) in
+        record { psi = omega arith; b = omega (arith, s .b-most, s .B-most); big = omega (arith, s .B-most) }
+
+    -- another last element of the window
+    past-is : length window ≡ e .p → set window (length window - 1) (pos 0) ++ recent ≡ take (e .p - 1) window ++ pos 0 ∷ recent
+    past-is n = ap (λ (t : List ℤ). t ++ recent) (new-last window (pos 0) (e .p) n (c .sound .within .p-least)) ∙ append-snoc (take (e .p - 1) window) (pos 0) recent
+
+    pub finished : {s : Equaliser} {ws ds : List ℤ} → s ≡ nextOf e r ws ds → ws ≡ padded (ahead ++ behind) → ds ≡ padded (set window (length window - 1) (pos 0) ++ recent) →
+        length window ≡ e .p → RunChecked e i l (record { number = 0; state = s }) l′
+    finished {ws = ws} {ds = ds} es ew ed n = record {
+      number = ap (λ (b : Bool). cond b 0 6) (sym goes-on);
+      state = es ∙ state-of-parts (settings e) next-memory ws ds ew (ed ∙ ap padded (past-is n)) ∙ ap (stateOf (settings e)) (sym (left-is h goes-on))
+          ∙ ap (λ (b : Bool). cond b (stateOf (settings e) (left (settings e) (memory e) i)) e) (sym goes-on);
+      outputs-are = h .outputs-are;
+    }
+
+-- ---- what is handed out
+
+module _ {e : Equaliser} {i : Block} {l : Outputs} {a : Answer} {l′ : Outputs} (h : RunChecked e i l a l′) (given : Outputs) where
+  -- nothing, beside 6
+  pub handed-none : (a .number ≡ 0 → ⊥) → given ≡ handedOr e i given
+  handed-none f = go (goesOn e i) refl (h .number)
+    where
+      go : (b : Bool) → goesOn e i ≡ b → a .number ≡ cond b 0 6 → given ≡ handedOr e i given
+      go true g n = absurd (f n)
+      go false g n = rw g
+
+  -- everything, beside 0
+  pub handed-new : a .number ≡ 0 → OutputsLong (settings e) l → l′ ≡ handedOr e i given
+  handed-new z q = go (goesOn e i) refl (h .number)
+    where
+      go : (b : Bool) → goesOn e i ≡ b → a .number ≡ cond b 0 6 → l′ ≡ handedOr e i given
+      go true g n = rw g (h .outputs-are ∙ handed-all (settings e) (memory e) i g l q)
+      go false g n = absurd (omega arith)

@@ -1,50 +1,52 @@
 -- What the functions below the run of a block ask and promise.
 use mathlib.Core.Path.{_≡_}
-use mathlib.Core.Bool.{true}
+use mathlib.Core.Bool.{Bool, cond}
 use mathlib.Core.List.{List, [], _∷_, _++_}
 use Prim.Native.Nat.{ℕ, _<_}
-use lib.ListN.{take}
 use lib.IntN.{ℤ, pos}
-use Rattle.block.specs.Block.{Block, goes, left, handedY, handedξ, handedDecision, handedZ, handedθ}
+use Rattle.block.specs.Block.{Block, Outputs, goes, count, left, handed, handedY, handedξ, handedDecision, handedZ, handedθ}
+use Rattle.block.specs.Calls.{OutputsLong}
+use Rattle.block.specs.declared.run.BlockResult.{BlockResult}
 use Rattle.state.specs.State.{settings, memory, forward, back, samples, symbols, stateOf}
-use Rattle.checks.specs.Calls.{Checked}
 use Rattle.state.specs.declared.equaliser.Equaliser.{Equaliser}
-use Rattle.station.specs.declared.run.Done.{Done}
-use Rattle.block.specs.declared.run.Ran.{Ran}
+use Rattle.state.specs.declared.equaliser.Answer.{Answer}
+use Rattle.checks.specs.Calls.{Checked}
 
 -- the four parts of a state that passed the checks, as a block is run on them
-pub record Parts (e : Equaliser) (i : Block) (ahead behind window recent : List ℤ) : Type 0 where
+pub record Parts (e : Equaliser) (i : Block) (ahead behind window recent : List ℤ) (l : Outputs) : Type 0 where
   pub checked : Checked e i
   pub forward-is : ahead ≡ forward e
   pub back-is : behind ≡ back e
   pub window-is : window ≡ samples e ++ (pos 0 ∷ [])
   pub symbols-are : recent ≡ symbols e
+  pub outputs-long : OutputsLong (settings e) l
 
-pub record Finished (e : Equaliser) (i : Block) (r : Done) : Type 0 where
-  pub state : r .state ≡ stateOf (settings e) (left (settings e) (memory e) i)
-  pub y : take (e .n) (r .y) ≡ handedY (settings e) (memory e) i
-  pub xi : take (e .n) (r .xi) ≡ handedξ (settings e) (memory e) i
-  pub decision-is : take (e .n) (r .decision) ≡ handedDecision (settings e) (memory e) i
-  pub z : take (e .n) (r .z) ≡ handedZ (settings e) (memory e) i
-  pub theta : take (e .n) (r .theta) ≡ handedθ (settings e) (memory e) i
+-- the numbers of a result fit their bytes
+pub record ResultBytes (r : BlockResult) : Type 0 where
+  pub psi : r .psi < 256
+  pub b : r .b < 256
+  pub big : r .big < 256
 
-pub record Done-is (e : Equaliser) (i : Block) (r : Done) : Type 0 where
-  pub done : r .done ≡ goes (settings e) (memory e) i (e .n)
-  pub finished : goes (settings e) (memory e) i (e .n) ≡ true → Finished e i r
+abbrev pub nextOf : Equaliser → BlockResult → List ℤ → List ℤ → Equaliser
+nextOf e r weights past =
+    record { p = e .p; q = e .q; n = e .n; r = e .r; l = e .l; psi = r .psi; b = r .b; big = r .big; m = e .m; weights = weights; past = past }
 
--- the numbers of a run that fit their bytes
-pub record Ended (e : Equaliser) (ran : Ran) : Type 0 where
-  pub psi : ran .psi < 256
-  pub b : ran .b < 256
-  pub big : ran .big < 256
+-- whether ψ keeps its limit
+abbrev pub goesOn : Equaliser → Block → Bool
+goesOn e i = goes (settings e) (memory e) i (e .n)
 
-abbrev pub doneOf : Equaliser → Ran → List ℤ → List ℤ → Done
-doneOf e ran weights past = record {
-  done = ran .done;
-  state = record { p = e .p; q = e .q; n = e .n; r = e .r; l = e .l; psi = ran .psi; b = ran .b; big = ran .big; m = e .m; weights = weights; past = past };
-  y = ran .y;
-  xi = ran .xi;
-  decision = ran .decision;
-  z = ran .z;
-  theta = ran .theta;
+-- the answer to a block that passed the checks, and the lists that it was run on
+pub record RunChecked (e : Equaliser) (i : Block) (l : Outputs) (a : Answer) (l′ : Outputs) : Type 0 where
+  pub number : a .number ≡ cond (goesOn e i) 0 6
+  pub state : a .state ≡ cond (goesOn e i) (stateOf (settings e) (left (settings e) (memory e) i)) e
+  pub outputs-are : l′ ≡ handed (settings e) (memory e) i (count (settings e) (memory e) i (e .n)) l
+
+-- what it hands out, or the lists that were there
+abbrev pub handedOr : Equaliser → Block → Outputs → Outputs
+handedOr e i l = record {
+  y = cond (goesOn e i) (handedY (settings e) (memory e) i) (l .y);
+  xi = cond (goesOn e i) (handedξ (settings e) (memory e) i) (l .xi);
+  decision = cond (goesOn e i) (handedDecision (settings e) (memory e) i) (l .decision);
+  z = cond (goesOn e i) (handedZ (settings e) (memory e) i) (l .z);
+  theta = cond (goesOn e i) (handedθ (settings e) (memory e) i) (l .theta);
 }

@@ -4,7 +4,9 @@ ghost use mathlib.Core.List.{_++_};
 ghost use Prim.Native.Nat.{_+_, _-_, _≤_};
 ghost use lib.ListN.{length, replicate};
 ghost use lib.IntN.{pos};
+ghost use Rattle.steps.specs.Limits.{tapLimit, places};
 ghost use Rattle.state.specs.State.{padded};
+use steps::limits;
 
 pub fn copy16(src: &[i16], dst: &mut [i16])
     requires { ⌜ length (now src) ≡ length (now dst) ⌝ }
@@ -50,26 +52,26 @@ pub fn copy_bytes(src: &[u8], dst: &mut [u8])
     }
 }
 
-// A list at the front of sixteen places.
-pub fn fronted(src: &[i16]) -> [i16; 16]
-    requires { ⌜ length (now src) ≤ 16 ⌝ }
-    ensures { λ r. ⌜ r ≡ now (src .entry) ++ replicate (16 - length (now (src .entry))) (pos 0) ⌝ }
+// A list at the front of TAPS places.
+pub fn fronted(src: &[i16]) -> [i16; limits::TAPS]
+    requires { ⌜ length (now src) ≤ tapLimit ⌝ }
+    ensures { λ r. ⌜ r ≡ now (src .entry) ++ replicate (tapLimit - length (now (src .entry))) (pos 0) ⌝ }
 {
-    let mut out = [0i16; 16];
+    let mut out = [0i16; limits::TAPS];
     let n = src.len();
-    copy16(src, &mut out[..n]);
+    copy16(src, &mut out[0..n]);
     out
 }
 
-// Two lists, one after the other, at the front of thirty-two places.
-pub fn joined(first: &[i16], second: &[i16]) -> [i16; 32]
-    requires { ⌜ length (now first) + length (now second) ≤ 32 ⌝ }
+// Two lists, one after the other, at the front of PLACES places.
+pub fn joined(first: &[i16], second: &[i16]) -> [i16; limits::PLACES]
+    requires { ⌜ length (now first) + length (now second) ≤ places ⌝ }
     ensures { λ r. ⌜ r ≡ padded (now (first .entry) ++ now (second .entry)) ⌝ }
 {
-    let mut out = [0i16; 32];
+    let mut out = [0i16; limits::PLACES];
     let n = first.len();
     let end = n + second.len();
-    copy16(first, &mut out[..n]);
+    copy16(first, &mut out[0..n]);
     copy16(second, &mut out[n..end]);
     out
 }

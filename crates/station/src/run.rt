@@ -1,49 +1,93 @@
 // Running a block.
 ghost use mathlib.Core.Path.{_≡_};
-ghost use mathlib.Core.Bool.{false};
-ghost use Rattle.block.specs.Calls.{blockOf};
-ghost use Rattle.station.specs.Answers.{Run};
-ghost use Rattle.station.specs.Calls.{Parts, Done-is, Ended, doneOf};
+ghost use Rattle.block.specs.Calls.{blockOf, outputsOf, OutputsLong};
+ghost use Rattle.filter.specs.Calls.{settingsOf};
+ghost use Rattle.state.specs.State.{settings};
 ghost use Rattle.checks.specs.Calls.{lentOf, Checked};
-use block::run::Ran;
+ghost use Rattle.station.specs.Answers.{Run};
+ghost use Rattle.station.specs.Calls.{Parts, ResultBytes, nextOf, RunChecked, handedOr};
+use block::run::BlockResult;
 use filter::sample::Settings;
 use state::equaliser::Answer;
 use state::equaliser::Equaliser;
+use steps::limits;
 
-// Whether ψ kept its limit, and then the next state and what is handed out.
-pub struct Done {
-    pub done: bool,
-    pub state: Equaliser,
-    pub y: [i32; 128],
-    pub xi: [u8; 128],
-    pub decision: [i8; 128],
-    pub z: [i32; 128],
-    pub theta: [u8; 128],
+fn settings(e: Equaliser) -> Settings
+    ensures { λ k. ⌜ settingsOf k ≡ settings e ⌝ }
+{
+    Settings {
+        p: e.p as u32,
+        q: e.q as u32,
+        n: e.n as u32,
+        r: e.r as u32,
+        l: e.l as u32,
+        m: e.m,
+    }
+}
+
+// The state that a block leaves, from its numbers, its weights and its data.
+fn next(
+    e: Equaliser,
+    r: BlockResult,
+    ws: [i16; limits::PLACES],
+    ds: [i16; limits::PLACES],
+) -> Equaliser
+    requires { ⌜ ResultBytes r ⌝ }
+    ensures { λ s. ⌜ s ≡ nextOf e r ws ds ⌝ }
+{
+    Equaliser {
+        p: e.p,
+        q: e.q,
+        n: e.n,
+        r: e.r,
+        l: e.l,
+        psi: r.psi as u8,
+        b: r.b as u8,
+        big: r.big as u8,
+        m: e.m,
+        weights: ws,
+        past: ds,
+    }
 }
 
 // The run of a block that passed the checks.
-pub fn run_checked(e: Equaliser, m: &[i16], gains: &[u8], entries: &[i8]) -> Done
-    requires { ⌜ Checked e (blockOf (now m) (now gains) (now entries)) ⌝ }
-    ensures { λ r. ⌜ Done-is e (blockOf (now (m .entry)) (now (gains .entry)) (now (entries .entry))) r ⌝ }
+pub fn run_checked(
+    e: Equaliser,
+    m: &[i16],
+    gains: &[u8],
+    entries: &[i8],
+    y: &mut [i32],
+    xi: &mut [u8],
+    decision: &mut [i8],
+    z: &mut [i32],
+    theta: &mut [u8],
+) -> Answer
+    requires { ⌜ (Checked e (blockOf (now m) (now gains) (now entries))) × (OutputsLong (settings e) (outputsOf (now y) (now xi) (now decision) (now z) (now theta))) ⌝ }
+    ensures { λ a. ⌜ RunChecked e (blockOf (now (m .entry)) (now (gains .entry)) (now (entries .entry))) (outputsOf (now (y .entry)) (now (xi .entry)) (now (decision .entry)) (now (z .entry)) (now (theta .entry))) a (outputsOf (now (y .exit)) (now (xi .exit)) (now (decision .exit)) (now (z .exit)) (now (theta .exit))) ⌝ }
 {
     let p = e.p as usize;
     let q = e.q as usize;
     let taps = p + q;
     let weights = e.weights;
     let past = e.past;
-    let mut forward = super::copies::fronted(&weights[..p]);
+    let mut forward = super::copies::fronted(&weights[0..p]);
     let mut back = super::copies::fronted(&weights[p..taps]);
-    let mut window = super::copies::fronted(&past[..p]);
+    let mut window = super::copies::fronted(&past[0..p]);
     let mut symbols = super::copies::fronted(&past[p..taps]);
     run_parts(
         e,
         m,
         gains,
         entries,
-        &mut forward[..p],
-        &mut back[..q],
-        &mut window[..p],
-        &mut symbols[..q],
+        &mut forward[0..p],
+        &mut back[0..q],
+        &mut window[0..p],
+        &mut symbols[0..q],
+        y,
+        xi,
+        decision,
+        z,
+        theta,
     )
 }
 
@@ -57,20 +101,17 @@ fn run_parts(
     back: &mut [i16],
     window: &mut [i16],
     symbols: &mut [i16],
-) -> Done
-    requires { ⌜ Parts e (blockOf (now m) (now gains) (now entries)) (now forward) (now back) (now window) (now symbols) ⌝ }
-    ensures { λ r. ⌜ Done-is e (blockOf (now (m .entry)) (now (gains .entry)) (now (entries .entry))) r ⌝ }
+    y: &mut [i32],
+    xi: &mut [u8],
+    decision: &mut [i8],
+    z: &mut [i32],
+    theta: &mut [u8],
+) -> Answer
+    requires { ⌜ Parts e (blockOf (now m) (now gains) (now entries)) (now forward) (now back) (now window) (now symbols) (outputsOf (now y) (now xi) (now decision) (now z) (now theta)) ⌝ }
+    ensures { λ a. ⌜ RunChecked e (blockOf (now (m .entry)) (now (gains .entry)) (now (entries .entry))) (outputsOf (now (y .entry)) (now (xi .entry)) (now (decision .entry)) (now (z .entry)) (now (theta .entry))) a (outputsOf (now (y .exit)) (now (xi .exit)) (now (decision .exit)) (now (z .exit)) (now (theta .exit))) ⌝ }
 {
-    let k = Settings {
-        p: e.p as u32,
-        q: e.q as u32,
-        n: e.n as u32,
-        r: e.r as u32,
-        l: e.l as u32,
-        m: e.m,
-    };
-    let ran = block::run::run(
-        k,
+    let r = block::run::run(
+        settings(e),
         e.psi as u32,
         e.b as u32,
         e.big as u32,
@@ -81,69 +122,59 @@ fn run_parts(
         back,
         window,
         symbols,
+        y,
+        xi,
+        decision,
+        z,
+        theta,
     );
-    if !ran.done {
-        return stopped(e, ran);
+    if limits::EXPONENT < r.psi {
+        return Answer {
+            number: 6,
+            state: e,
+        };
     }
     let last = window.len() - 1;
     window[last] = 0;
     let ws = super::copies::joined(forward, back);
     let ds = super::copies::joined(window, symbols);
-    finished(e, ran, ws, ds)
-}
-
-// A block at which ψ would pass its limit leaves no next state.
-fn stopped(e: Equaliser, ran: Ran) -> Done
-    ensures { λ r. ⌜ r .done ≡ false ⌝ }
-{
-    let y = ran.y;
-    let xi = ran.xi;
-    let decision = ran.decision;
-    let z = ran.z;
-    let theta = ran.theta;
-    Done {
-        done: false,
-        state: e,
-        y: y,
-        xi: xi,
-        decision: decision,
-        z: z,
-        theta: theta,
+    let s = next(e, r, ws, ds);
+    Answer {
+        number: 0,
+        state: s,
     }
 }
 
-// The state from its parts, beside what the block hands out.
-fn finished(e: Equaliser, ran: Ran, ws: [i16; 32], ds: [i16; 32]) -> Done
-    requires { ⌜ Ended e ran ⌝ }
-    ensures { λ r. ⌜ r ≡ doneOf e ran ws ds ⌝ }
+// The run on work areas, which are handed out where the block is accepted.
+fn run_areas(
+    e: Equaliser,
+    m: &[i16],
+    gains: &[u8],
+    entries: &[i8],
+    ay: &mut [i32],
+    ax: &mut [u8],
+    ad: &mut [i8],
+    az: &mut [i32],
+    at: &mut [u8],
+    y: &mut [i32],
+    xi: &mut [u8],
+    decision: &mut [i8],
+    z: &mut [i32],
+    theta: &mut [u8],
+) -> Answer
+    requires { ⌜ (Checked e (blockOf (now m) (now gains) (now entries))) × (OutputsLong (settings e) (outputsOf (now ay) (now ax) (now ad) (now az) (now at))) × (OutputsLong (settings e) (outputsOf (now y) (now xi) (now decision) (now z) (now theta))) ⌝ }
+    ensures { λ a. ⌜ (RunChecked e (blockOf (now (m .entry)) (now (gains .entry)) (now (entries .entry))) (outputsOf (now (ay .entry)) (now (ax .entry)) (now (ad .entry)) (now (az .entry)) (now (at .entry))) a (outputsOf (now (ay .exit)) (now (ax .exit)) (now (ad .exit)) (now (az .exit)) (now (at .exit)))) × ((outputsOf (now (y .exit)) (now (xi .exit)) (now (decision .exit)) (now (z .exit)) (now (theta .exit))) ≡ handedOr e (blockOf (now (m .entry)) (now (gains .entry)) (now (entries .entry))) (outputsOf (now (y .entry)) (now (xi .entry)) (now (decision .entry)) (now (z .entry)) (now (theta .entry)))) ⌝ }
 {
-    let y = ran.y;
-    let xi = ran.xi;
-    let decision = ran.decision;
-    let z = ran.z;
-    let theta = ran.theta;
-    let next = Equaliser {
-        p: e.p,
-        q: e.q,
-        n: e.n,
-        r: e.r,
-        l: e.l,
-        psi: ran.psi as u8,
-        b: ran.b as u8,
-        big: ran.big as u8,
-        m: e.m,
-        weights: ws,
-        past: ds,
-    };
-    Done {
-        done: ran.done,
-        state: next,
-        y: y,
-        xi: xi,
-        decision: decision,
-        z: z,
-        theta: theta,
+    let r = run_checked(e, m, gains, entries, ay, ax, ad, az, at);
+    if r.number != 0 {
+        return r;
     }
+    super::copies::copy32(ay, y);
+    super::copies::copy_bytes(ax, xi);
+    super::copies::copy8(ad, decision);
+    super::copies::copy32(az, z);
+    super::copies::copy_bytes(at, theta);
+    r
 }
 
 // One block: the next state and five lists, or the number of the refusal and everything as it was.
@@ -168,27 +199,26 @@ pub fn run(
         };
     }
     checks::lists::sixteen_bits(m);
-    let r = run_checked(e, m, gains, entries);
-    if !r.done {
-        return Answer {
-            number: 6,
-            state: e,
-        };
-    }
     let n = e.n as usize;
-    let ry = r.y;
-    let rx = r.xi;
-    let rd = r.decision;
-    let rz = r.z;
-    let rt = r.theta;
-    super::copies::copy32(&ry[..n], y);
-    super::copies::copy_bytes(&rx[..n], xi);
-    super::copies::copy8(&rd[..n], decision);
-    super::copies::copy32(&rz[..n], z);
-    super::copies::copy_bytes(&rt[..n], theta);
-    let next = r.state;
-    Answer {
-        number: 0,
-        state: next,
-    }
+    let mut ay = [0i32; limits::BLOCK];
+    let mut ax = [0u8; limits::BLOCK];
+    let mut ad = [0i8; limits::BLOCK];
+    let mut az = [0i32; limits::BLOCK];
+    let mut at = [0u8; limits::BLOCK];
+    run_areas(
+        e,
+        m,
+        gains,
+        entries,
+        &mut ay[0..n],
+        &mut ax[0..n],
+        &mut ad[0..n],
+        &mut az[0..n],
+        &mut at[0..n],
+        y,
+        xi,
+        decision,
+        z,
+        theta,
+    )
 }

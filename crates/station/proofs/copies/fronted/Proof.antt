@@ -1,25 +1,25 @@
 -- The list is copied to the front of an array of zeros.
-use mathlib.Core.Path.{sym}
-use native.Mathlib.Omega.{arith}
 use lib.IntN.{pos}
-use lib.Seq.{length-take-le}
 use borrow.Author.Needs.{needs}
+use Rattle.steps.specs.Limits.{tapLimit}
 use Rattle.station.proofs.CopyLaws.{fronted-is}
 use Rattle.station.proofs.copies.fronted.Statement.{statement}
 use Rattle.station.proofs.copies.fronted.Tie as tie
 
-array-borrow-prefix-out : tie.Need-array-borrow-prefix-out
-array-borrow-prefix-out c = search needs
+sub-copy16 : tie.Need-sub-copy16
+sub-copy16 c = search needs
 
-slice-aggregate-copy16 : tie.Need-slice-aggregate-copy16
-slice-aggregate-copy16 c = sym (length-take-le _ _ (omega arith))
+part-out-start : tie.Need-part-out-start
+part-out-start c = search needs
+
+part-out-end : tie.Need-part-out-end
+part-out-end c = search needs
 
 copy16-requires : tie.Need-copy16-requires
-copy16-requires c κs = slice-aggregate-copy16 c
+copy16-requires c κs = search needs
 
 returns : tie.Need-returns
-returns c = fronted-is (pos 0) 16 _ _ (c .before .copy16 .ensures)
+returns c = fronted-is (pos 0) tapLimit _ _ (c .before .copy16 .ensures)
 
 pub fronted-spec : {M : Type 1} → statement M
-fronted-spec =
-    tie.close (tie.spec array-borrow-prefix-out slice-aggregate-copy16 copy16-requires returns)
+fronted-spec = tie.close (tie.spec sub-copy16 part-out-start part-out-end copy16-requires returns)

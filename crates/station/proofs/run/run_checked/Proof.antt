@@ -1,13 +1,14 @@
 -- The four parts of a state are copied, and the block is run on the copies.
-use mathlib.Core.Path.{_≡_, sym, ap, _∙_}
+use mathlib.Core.Path.{_≡_, ap, _∙_}
+use Prim.Native.Nat.{_-_}
 use native.Mathlib.Omega.{arith}
 use lib.ListN.{length, take}
-use lib.Seq.{length-take-le}
 use borrow.Author.Needs.{needs}
+use Rattle.steps.specs.Limits.{tapLimit}
 use Rattle.block.specs.Sound.{Sound}
 use Rattle.state.specs.State.{settings, memory, forward, back, symbols}
 use Rattle.state.specs.declared.equaliser.Equaliser.{Equaliser}
-use Rattle.station.proofs.RunLaws.{front-part, middle, weights-room, past-room, window-is}
+use Rattle.station.proofs.RunLaws.{first-part, middle-part, copied-part, weights-room, past-room, weights-first, past-first, past-long, window-is}
 use Rattle.station.proofs.run.run_checked.Statement.{statement}
 use Rattle.station.proofs.run.run_checked.Tie as tie
 
@@ -15,46 +16,46 @@ abbrev state : tie.Start → Equaliser
 state c = c .args .e
 
 abbrev sound : (c : tie.Start) → Sound (settings (state c)) (memory (state c))
-sound c = c .pre .sound
+sound c = c .pre .0 .sound
 
--- the places from copy to copy
-abbrev start : tie.After-past → tie.Start
-start c = c .before .before .before .before .before
+-- ---- the copies
 
 abbrev first : tie.After-fronted → tie.Start
-first c = start (c .before .before)
+first c = c .before .before .before .before .before .before .before .before .before .before
 
 abbrev second : tie.After-fronted2 → tie.Start
 second c = first (c .before .before .before)
 
 abbrev third : tie.After-fronted3 → tie.Start
-third c = second (c .before .before)
+third c = second (c .before .before .before)
 
 abbrev fourth : tie.After-fronted4 → tie.Start
 fourth c = third (c .before .before .before)
 
--- ---- the copies
+forward-copy : (c : tie.After-fronted) → let e = state (first c) in take (e .p - 0) (c .fronted .result) ≡ forward e
+forward-copy c = let s = first c in copied-part _ (state s .p) (first-part (state s .p) (state s .weights)) (c .fronted .ensures) (sound s .forward-long)
 
-past-long : (c : tie.Start) → length (take (state c .p) (state c .past)) ≡ state c .p
-past-long c = length-take-le (state c .p) (state c .past) (omega (arith, past-room _ _ (c .pre)))
+back-copy : (c : tie.After-fronted2) → let e = state (second c) in take (e .q - 0) (c .fronted2 .result) ≡ back e
+back-copy c = let s = second c in let e = state s in copied-part _ (e .q) (middle-part (e .p) (e .q) (e .weights)) (c .fronted2 .ensures) (sound s .back-long)
 
-forward-copy : (c : tie.After-fronted) → let e = state (first c) in take (e .p) (c .fronted .result) ≡ forward e
-forward-copy c = let s = first c in front-part (forward (state s)) _ _ (state s .p) (sound s .forward-long) (c .fronted .ensures)
+window-copy : (c : tie.After-fronted3) → let e = state (third c) in take (e .p - 0) (c .fronted3 .result) ≡ take (e .p) (e .past)
+window-copy c = let s = third c in copied-part _ (state s .p) (first-part (state s .p) (state s .past)) (c .fronted3 .ensures) (past-long _ _ (s .pre .0))
 
-back-copy : (c : tie.After-fronted2) → let e = state (second c) in take (e .q) (c .fronted2 .result) ≡ back e
-back-copy c =
-    let e = state (second c) in
-    let m = middle (e .p) (e .q) (e .weights) in
-    front-part _ _ _ (e .q) (ap length m ∙ sound (second c) .back-long) (c .fronted2 .ensures) ∙ m
+symbols-copy : (c : tie.After-fronted4) → let e = state (fourth c) in take (e .q - 0) (c .fronted4 .result) ≡ symbols e
+symbols-copy c = let s = fourth c in let e = state s in copied-part _ (e .q) (middle-part (e .p) (e .q) (e .past)) (c .fronted4 .ensures) (sound s .symbols-long)
 
-window-copy : (c : tie.After-fronted3) → let e = state (third c) in take (e .p) (c .fronted3 .result) ≡ take (e .p) (e .past)
-window-copy c = let e = state (third c) in front-part (take (e .p) (e .past)) _ _ (e .p) (past-long (third c)) (c .fronted3 .ensures)
+-- each has TAPS places
+forward-long : (c : tie.After-fronted) → length (c .fronted .result) ≡ tapLimit
+forward-long c = search needs
 
-symbols-copy : (c : tie.After-fronted4) → let e = state (fourth c) in take (e .q) (c .fronted4 .result) ≡ symbols e
-symbols-copy c =
-    let e = state (fourth c) in
-    let m = middle (e .p) (e .q) (e .past) in
-    front-part _ _ _ (e .q) (ap length m ∙ sound (fourth c) .symbols-long) (c .fronted4 .ensures) ∙ m
+back-long : (c : tie.After-fronted2) → length (c .fronted2 .result) ≡ tapLimit
+back-long c = search needs
+
+window-long : (c : tie.After-fronted3) → length (c .fronted3 .result) ≡ tapLimit
+window-long c = search needs
+
+symbols-long : (c : tie.After-fronted4) → length (c .fronted4 .result) ≡ tapLimit
+symbols-long c = search needs
 
 -- ---- what the code asks
 
@@ -67,18 +68,6 @@ cast-q c = search needs
 add-taps : tie.Need-add-taps
 add-taps c = search needs
 
-array-share-prefix-weights : tie.Need-array-share-prefix-weights
-array-share-prefix-weights c = omega (arith, weights-room _ _ (start c .pre))
-
-slice-aggregate-fronted : tie.Need-slice-aggregate-fronted
-slice-aggregate-fronted c = search needs
-
-fronted-requires : tie.Need-fronted-requires
-fronted-requires c κs = search needs
-
-mul-fronted : tie.Need-mul-fronted
-mul-fronted c = search needs
-
 sub-fronted : tie.Need-sub-fronted
 sub-fronted c = search needs
 
@@ -86,22 +75,13 @@ part-fronted-start : tie.Need-part-fronted-start
 part-fronted-start c = search needs
 
 part-fronted-end : tie.Need-part-fronted-end
-part-fronted-end c = weights-room _ _ (first (c .before) .pre)
+part-fronted-end c = weights-first _ _ (c .before .before .before .before .before .before .before .before .pre .0)
 
-fronted-requires-2 : tie.Need-fronted-requires-2
-fronted-requires-2 c κs = search needs
+fronted-requires : tie.Need-fronted-requires
+fronted-requires c κs = search needs
 
-array-share-prefix-past : tie.Need-array-share-prefix-past
-array-share-prefix-past c = omega (arith, past-room _ _ (second c .pre))
-
-slice-aggregate-fronted-2 : tie.Need-slice-aggregate-fronted-2
-slice-aggregate-fronted-2 c = sym (past-long (second (c .before)))
-
-fronted-requires-3 : tie.Need-fronted-requires-3
-fronted-requires-3 c κs = omega (arith, past-long (second (c .before)), sound (second (c .before)) .within .p-most)
-
-mul-fronted-2 : tie.Need-mul-fronted-2
-mul-fronted-2 c = search needs
+mul-fronted : tie.Need-mul-fronted
+mul-fronted c = search needs
 
 sub-fronted-2 : tie.Need-sub-fronted-2
 sub-fronted-2 c = search needs
@@ -110,54 +90,101 @@ part-fronted-start-2 : tie.Need-part-fronted-start-2
 part-fronted-start-2 c = search needs
 
 part-fronted-end-2 : tie.Need-part-fronted-end-2
-part-fronted-end-2 c = past-room _ _ (third (c .before) .pre)
+part-fronted-end-2 c = weights-room _ _ (c .before .before .before .before .before .before .before .before .before .before .before .pre .0)
+
+fronted-requires-2 : tie.Need-fronted-requires-2
+fronted-requires-2 c κs = search needs
+
+sub-fronted-3 : tie.Need-sub-fronted-3
+sub-fronted-3 c = search needs
+
+part-fronted-start-3 : tie.Need-part-fronted-start-3
+part-fronted-start-3 c = search needs
+
+part-fronted-end-3 : tie.Need-part-fronted-end-3
+part-fronted-end-3 c = past-first _ _ (c .before .before .before .before .before .before .before .before .before .before .before .before .before .before .pre .0)
+
+fronted-requires-3 : tie.Need-fronted-requires-3
+fronted-requires-3 c κs = search needs
+
+mul-fronted-2 : tie.Need-mul-fronted-2
+mul-fronted-2 c = search needs
+
+sub-fronted-4 : tie.Need-sub-fronted-4
+sub-fronted-4 c = search needs
+
+part-fronted-start-4 : tie.Need-part-fronted-start-4
+part-fronted-start-4 c = search needs
+
+part-fronted-end-4 : tie.Need-part-fronted-end-4
+part-fronted-end-4 c = past-room _ _ (c .before .before .before .before .before .before .before .before .before .before .before .before .before .before .before .before .before .pre .0)
 
 fronted-requires-4 : tie.Need-fronted-requires-4
 fronted-requires-4 c κs = search needs
 
-array-borrow-prefix-forward : tie.Need-array-borrow-prefix-forward
-array-borrow-prefix-forward c = search needs
+sub-run-parts : tie.Need-sub-run-parts
+sub-run-parts c = search needs
 
-slice-aggregate-run-parts : tie.Need-slice-aggregate-run-parts
-slice-aggregate-run-parts c =
-    let k = c .before .before .before .before .before .before .before .before .before in
-    sym (ap length (forward-copy k) ∙ sound (first k) .forward-long)
+part-forward-start : tie.Need-part-forward-start
+part-forward-start c = search needs
 
-array-borrow-prefix-back : tie.Need-array-borrow-prefix-back
-array-borrow-prefix-back c = search needs
+part-forward-end : tie.Need-part-forward-end
+part-forward-end c = let k = c .before .before .before .before .before .before .before .before .before in omega (arith, forward-long k, sound (first k) .within .p-most)
 
-slice-aggregate-run-parts-2 : tie.Need-slice-aggregate-run-parts-2
-slice-aggregate-run-parts-2 c =
-    let k = c .before .before .before .before .before .before .before in
-    sym (ap length (back-copy k) ∙ sound (second k) .back-long)
+sub-run-parts-2 : tie.Need-sub-run-parts-2
+sub-run-parts-2 c = search needs
 
-array-borrow-prefix-window : tie.Need-array-borrow-prefix-window
-array-borrow-prefix-window c = search needs
+part-back-start : tie.Need-part-back-start
+part-back-start c = search needs
 
-slice-aggregate-run-parts-3 : tie.Need-slice-aggregate-run-parts-3
-slice-aggregate-run-parts-3 c =
-    let k = c .before .before .before .before .before .before in
-    sym (ap length (window-copy k) ∙ past-long (third k))
+part-back-end : tie.Need-part-back-end
+part-back-end c = let k = c .before .before .before .before .before .before .before in omega (arith, back-long k, sound (second k) .within .q-most)
 
-array-borrow-prefix-symbols : tie.Need-array-borrow-prefix-symbols
-array-borrow-prefix-symbols c = search needs
+sub-run-parts-3 : tie.Need-sub-run-parts-3
+sub-run-parts-3 c = search needs
 
-slice-aggregate-run-parts-4 : tie.Need-slice-aggregate-run-parts-4
-slice-aggregate-run-parts-4 c =
-    let k = c .before .before .before .before in
-    sym (ap length (symbols-copy k) ∙ sound (fourth k) .symbols-long)
+part-window-start : tie.Need-part-window-start
+part-window-start c = search needs
+
+part-window-end : tie.Need-part-window-end
+part-window-end c = let k = c .before .before .before .before .before in omega (arith, window-long k, sound (third k) .within .p-most)
+
+sub-run-parts-4 : tie.Need-sub-run-parts-4
+sub-run-parts-4 c = search needs
+
+part-symbols-start : tie.Need-part-symbols-start
+part-symbols-start c = search needs
+
+part-symbols-end : tie.Need-part-symbols-end
+part-symbols-end c = let k = c .before .before .before in omega (arith, symbols-long k, sound (fourth k) .within .q-most)
 
 run-parts-requires : tie.Need-run-parts-requires
 run-parts-requires c κs =
-    let k = c .before .before .before .before in
+    let k = c .before .before .before .before .before .before .before .before .before in
     let s = fourth k in
     record {
-      checked = s .pre;
-      forward-is = forward-copy (k .before .before .before .before .before .before .before .before);
-      back-is = back-copy (k .before .before .before .before .before);
-      window-is = window-copy (k .before .before .before) ∙ window-is _ _ (s .pre);
+      checked = s .pre .0;
+      forward-is = forward-copy (k .before .before .before .before .before .before .before .before .before);
+      back-is = back-copy (k .before .before .before .before .before .before);
+      window-is = window-copy (k .before .before .before) ∙ window-is _ _ (s .pre .0);
       symbols-are = symbols-copy k;
+      outputs-long = s .pre .1;
     }
+
+same-length : tie.Need-same-length
+same-length c = search needs
+
+same-length-2 : tie.Need-same-length-2
+same-length-2 c = search needs
+
+same-length-3 : tie.Need-same-length-3
+same-length-3 c = search needs
+
+same-length-4 : tie.Need-same-length-4
+same-length-4 c = search needs
+
+same-length-5 : tie.Need-same-length-5
+same-length-5 c = search needs
 
 returns : tie.Need-returns
 returns c = search needs
@@ -169,29 +196,40 @@ run-checked-spec =
     cast-p
     cast-q
     add-taps
-    array-share-prefix-weights
-    slice-aggregate-fronted
-    fronted-requires
-    mul-fronted
     sub-fronted
     part-fronted-start
     part-fronted-end
-    fronted-requires-2
-    array-share-prefix-past
-    slice-aggregate-fronted-2
-    fronted-requires-3
-    mul-fronted-2
+    fronted-requires
+    mul-fronted
     sub-fronted-2
     part-fronted-start-2
     part-fronted-end-2
+    fronted-requires-2
+    sub-fronted-3
+    part-fronted-start-3
+    part-fronted-end-3
+    fronted-requires-3
+    mul-fronted-2
+    sub-fronted-4
+    part-fronted-start-4
+    part-fronted-end-4
     fronted-requires-4
-    array-borrow-prefix-forward
-    slice-aggregate-run-parts
-    array-borrow-prefix-back
-    slice-aggregate-run-parts-2
-    array-borrow-prefix-window
-    slice-aggregate-run-parts-3
-    array-borrow-prefix-symbols
-    slice-aggregate-run-parts-4
+    sub-run-parts
+    part-forward-start
+    part-forward-end
+    sub-run-parts-2
+    part-back-start
+    part-back-end
+    sub-run-parts-3
+    part-window-start
+    part-window-end
+    sub-run-parts-4
+    part-symbols-start
+    part-symbols-end
     run-parts-requires
+    same-length
+    same-length-2
+    same-length-3
+    same-length-4
+    same-length-5
     returns)

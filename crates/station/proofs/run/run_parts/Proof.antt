@@ -1,32 +1,50 @@
 -- The block is run on the parts; what it leaves is joined to the next state.
-use mathlib.Core.Path.{_≡_, sym, _∙_, subst}
+use mathlib.Core.Path.{_≡_, _∙_}
 use mathlib.Core.List.{List}
 use Prim.Native.Nat.{ℕ, _+_, _≤_}
 use native.Mathlib.Omega.{arith}
 use lib.ListN.{length, length-set}
 use lib.IntN.{ℤ, pos}
 use borrow.Author.Needs.{needs}
-use borrow.Author.Tests.{not-true, not-false}
-use Rattle.block.specs.Block.{Block, Memory}
-use Rattle.block.specs.Calls.{blockOf, Ran-is}
+use Rattle.steps.specs.Limits.{places}
+use Rattle.block.specs.Block.{Block, Outputs}
+use Rattle.block.specs.Calls.{blockOf, outputsOf, BlockResult-is}
 use Rattle.state.specs.State.{settings, memory}
-use Rattle.station.specs.Calls.{Done-is}
 use Rattle.state.specs.declared.equaliser.Equaliser.{Equaliser}
-use Rattle.station.specs.declared.run.Done.{Done}
 use Rattle.station.proofs.RunLaws as R
 use Rattle.station.proofs.run.run_parts.Statement.{statement}
 use Rattle.station.proofs.run.run_parts.Tie as tie
 
 abbrev state : tie.Start → Equaliser
-state c = c .args .e
+state s = s .args .e
 
 abbrev block : tie.Start → Block
-block c = blockOf (c .args .m .now) (c .args .gains .now) (c .args .entries .now)
+block s = blockOf (s .args .m .now) (s .args .gains .now) (s .args .entries .now)
 
-abbrev start : tie.After-run-arg4 → tie.Start
-start c = c .before .before .before .before .before .before .before .before .before .before .before .before .before
+abbrev lent : tie.Start → Outputs
+lent s = outputsOf (s .args .y .now) (s .args .xi .now) (s .args .decision .now) (s .args .z .now) (s .args .theta .now)
 
--- the parts after the run
+settings-requires : tie.Need-settings-requires
+settings-requires c κs = search needs
+
+cast-run : tie.Need-cast-run
+cast-run c = search needs
+
+cast-run-2 : tie.Need-cast-run-2
+cast-run-2 c = search needs
+
+cast-run-3 : tie.Need-cast-run-3
+cast-run-3 c = search needs
+
+run-requires : tie.Need-run-requires
+run-requires c κs = R.runnable (c .before .before .before .before .before .before .before .before .before .before .before .before .before .before .before .before .pre) (c .before .before .before .before .before .before .before .before .before .before .before .before .settings .ensures)
+
+-- ---- after the run
+
+abbrev start : tie.After-run → tie.Start
+start c = c .before .before .before .before .before .before .before .before .before .before .before .before .before .before .before .before .before
+
+-- the parts then
 abbrev ahead : tie.After-run → List ℤ
 ahead c = c .run .last .1 .1 .1 .1 .1 .1 .1 .0
 
@@ -39,68 +57,28 @@ window c = c .run .last .1 .1 .1 .1 .1 .1 .1 .1 .1 .0
 abbrev recent : tie.After-run → List ℤ
 recent c = c .run .last .1 .1 .1 .1 .1 .1 .1 .1 .1 .1 .0
 
-long : (c : tie.After-run-arg4) → let s = start c in R.Long (state s) (block s) (s .args .forward .now) (s .args .back .now) (s .args .window .now) (s .args .symbols .now) (s .pre)
-long c = R.long _ _ _ _ _ _ (start c .pre)
+abbrev left : tie.After-run → Outputs
+left c =
+    let o = c .run .last .1 .1 .1 .1 .1 .1 .1 .1 .1 .1 .1 in
+    outputsOf (o .0) (o .1 .0) (o .1 .1 .0) (o .1 .1 .1 .0) (o .1 .1 .1 .1 .0)
 
-cast-run : tie.Need-cast-run
-cast-run c = search needs
+result-is : (c : tie.After-run) → let s = start c in
+    BlockResult-is (settings (state s)) (memory (state s)) (block s) (lent s) (c .run .result) (ahead c) (behind c) (window c) (recent c) (left c)
+result-is c = R.result-is (start c .pre) (c .before .before .before .before .before .before .before .before .before .before .before .before .before .settings .ensures) (c .run .ensures)
 
-cast-t15 : tie.Need-cast-t15
-cast-t15 c = search needs
+window-long : (c : tie.After-run) → length (window c) ≡ state (start c) .p
+window-long c = c .run .kept .1 .1 .1 .1 .1 .1 .1 .1 .1 .0 ∙ R.long (start c .pre) .window-long
 
-cast-t16 : tie.Need-cast-t16
-cast-t16 c = search needs
-
-cast-run-2 : tie.Need-cast-run-2
-cast-run-2 c = search needs
-
-cast-run-3 : tie.Need-cast-run-3
-cast-run-3 c = search needs
-
-cast-run-4 : tie.Need-cast-run-4
-cast-run-4 c = search needs
-
-cast-run-5 : tie.Need-cast-run-5
-cast-run-5 c = search needs
-
-cast-run-6 : tie.Need-cast-run-6
-cast-run-6 c = search needs
-
-run-requires : tie.Need-run-requires
-run-requires c κs = R.runnable _ _ _ _ _ _ (start c .pre)
-
--- ---- after the run
-
-ran-is : (c : tie.After-run) → let s = start (c .before) in
-    Ran-is (settings (state s)) (memory (state s)) (block s) (c .run .result) (ahead c) (behind c) (window c) (recent c)
-ran-is c =
-    let s = start (c .before) in
-    subst (λ (o : Memory). Ran-is (settings (state s)) o (block s) (c .run .result) (ahead c) (behind c) (window c) (recent c))
-    (R.memory-is (state s) (block s) _ _ _ _ (s .pre)) (c .run .ensures)
-
-window-long : (c : tie.After-run) → length (window c) ≡ state (start (c .before)) .p
-window-long c = c .run .kept .1 .1 .1 .1 .1 .1 .1 .1 .1 .0 ∙ long (c .before) .window-long
-
-weights-room : (c : tie.After-run) → length (ahead c) + length (behind c) ≤ 32
+weights-room : (c : tie.After-run) → length (ahead c) + length (behind c) ≤ places
 weights-room c =
-    let w = start (c .before) .pre .checked .sound .within in
-    omega (
-      arith,
-      c .run .kept .1 .1 .1 .1 .1 .1 .1 .0,
-      c .run .kept .1 .1 .1 .1 .1 .1 .1 .1 .0,
-      long (c .before) .forward-long,
-      long (c .before) .back-long,
-      w .p-most,
-      w .q-most,
-    )
+    let l = R.long (start c .pre) in
+    let w = start c .pre .checked .sound .within in
+    omega (arith, c .run .kept .1 .1 .1 .1 .1 .1 .1 .0, c .run .kept .1 .1 .1 .1 .1 .1 .1 .1 .0, l .forward-long, l .back-long, w .p-most, w .q-most)
 
-past-room : (c : tie.After-run) (n : ℕ) → n ≡ length (window c) → n + length (recent c) ≤ 32
+past-room : (c : tie.After-run) (n : ℕ) → n ≡ length (window c) → n + length (recent c) ≤ places
 past-room c n e =
-    let w = start (c .before) .pre .checked .sound .within in
-    omega (arith, window-long c, c .run .kept .1 .1 .1 .1 .1 .1 .1 .1 .1 .1 .0, long (c .before) .symbols-long, w .p-most, w .q-most)
-
-stopped-requires : tie.Need-stopped-requires
-stopped-requires c κs = search needs
+    let w = start c .pre .checked .sound .within in
+    omega (arith, window-long c, c .run .kept .1 .1 .1 .1 .1 .1 .1 .1 .1 .1 .0, R.long (start c .pre) .symbols-long, w .p-most, w .q-most)
 
 same-length : tie.Need-same-length
 same-length c = search needs
@@ -114,41 +92,6 @@ same-length-3 c = search needs
 same-length-4 : tie.Need-same-length-4
 same-length-4 c = search needs
 
-returns : tie.Need-returns
-returns c =
-    let r = c .before .before .before .before .before .before .before in
-    let s = start (r .before) in
-    R.stopped (state s) (block s) (s .pre .checked) _ _ _ _ _ (ran-is r) (c .stopped .result) (not-true _ (c .before .if1 .taken)) (c .stopped .ensures)
-
--- ---- the next state
-
-abbrev ran : tie.Else1 → tie.After-run
-ran c = c .before .before .before .before .before .before
-
-abbrev going : tie.After-joined2 → tie.Else1
-going c = c .before .before .before .before .before .before
-
-sub-last : tie.Need-sub-last
-sub-last c = omega (arith, window-long (ran c), start (ran c .before) .pre .checked .sound .within .p-least)
-
-mul-window : tie.Need-mul-window
-mul-window c = record { fits = omega (arith, window-long (ran c), start (ran c .before) .pre .checked .sound .within .p-most) }
-
-slice-set-of-window : tie.Need-slice-set-of-window
-slice-set-of-window c = omega (arith, window-long (ran c), start (ran c .before) .pre .checked .sound .within .p-least)
-
-joined-requires : tie.Need-joined-requires
-joined-requires c κs = weights-room (ran (c .before .before))
-
-joined-requires-2 : tie.Need-joined-requires-2
-joined-requires-2 c κs = let r = ran (c .before .before .before .before .before) in past-room r _ (length-set (window r) _ (pos 0))
-
-finished-requires : tie.Need-finished-requires
-finished-requires c κs =
-    let r = ran (going c) in
-    let s = start (r .before) in
-    R.ended (state s) (block s) (s .pre .checked) _ _ _ _ _ (ran-is r) (not-false _ (going c .if1 .left))
-
 same-length-5 : tie.Need-same-length-5
 same-length-5 c = search needs
 
@@ -161,40 +104,104 @@ same-length-7 c = search needs
 same-length-8 : tie.Need-same-length-8
 same-length-8 c = search needs
 
+same-length-9 : tie.Need-same-length-9
+same-length-9 c = search needs
+
+returns : tie.Need-returns
+returns c =
+    let r = c .before .before .before .before .before .before .before .before .before .before .before .before .before in
+    R.stopped (start r .pre .checked) (result-is r) (c .if1 .taken)
+
+-- ---- the next state
+
+abbrev ran : tie.Else1 → tie.After-run
+ran c = c .before .before .before .before .before .before .before .before .before .before .before .before .before
+
+sub-last : tie.Need-sub-last
+sub-last c = omega (arith, window-long (ran c), start (ran c) .pre .checked .sound .within .p-least)
+
+mul-window : tie.Need-mul-window
+mul-window c = record { fits = omega (arith, window-long (ran c), start (ran c) .pre .checked .sound .within .p-most) }
+
+slice-set-of-window : tie.Need-slice-set-of-window
+slice-set-of-window c = omega (arith, window-long (ran c), start (ran c) .pre .checked .sound .within .p-least)
+
+joined-requires : tie.Need-joined-requires
+joined-requires c κs = weights-room (ran (c .before .before))
+
+joined-requires-2 : tie.Need-joined-requires-2
+joined-requires-2 c κs = let r = ran (c .before .before .before .before .before) in past-room r _ (length-set (window r) _ (pos 0))
+
+next-requires : tie.Need-next-requires
+next-requires c κs =
+    let d = c .before .before .before .before .before .before in
+    R.result-bytes (start (ran d) .pre .checked) (result-is (ran d)) (d .if1 .left)
+
+same-length-10 : tie.Need-same-length-10
+same-length-10 c = search needs
+
+same-length-11 : tie.Need-same-length-11
+same-length-11 c = search needs
+
+same-length-12 : tie.Need-same-length-12
+same-length-12 c = search needs
+
+same-length-13 : tie.Need-same-length-13
+same-length-13 c = search needs
+
+same-length-14 : tie.Need-same-length-14
+same-length-14 c = search needs
+
+same-length-15 : tie.Need-same-length-15
+same-length-15 c = search needs
+
+same-length-16 : tie.Need-same-length-16
+same-length-16 c = search needs
+
+same-length-17 : tie.Need-same-length-17
+same-length-17 c = search needs
+
+same-length-18 : tie.Need-same-length-18
+same-length-18 c = search needs
+
 returns-2 : tie.Need-returns-2
 returns-2 c =
-    let r = ran (going (c .before)) in
-    let s = start (r .before) in
-    subst (λ (d : Done). Done-is (state s) (block s) d) (sym (c .finished .ensures))
-    (R.done-is (state s) (block s) (s .pre .checked) _ _ _ _ _ (ran-is r) _ _ (c .before .before .before .before .joined .ensures) (c .before .joined2 .ensures) (window-long r))
+    let d = c .before .before .before .before .before .before .before in
+    let r = ran d in
+    R.finished (start r .pre .checked) (result-is r) (d .if1 .left) (c .next .ensures) (c .before .before .before .before .joined .ensures) (c .before .joined2 .ensures) (window-long r)
 
 pub run-parts-spec : {M : Type 1} → statement M
 run-parts-spec =
     tie.close
     (tie.spec
+    settings-requires
     cast-run
-    cast-t15
-    cast-t16
     cast-run-2
     cast-run-3
-    cast-run-4
-    cast-run-5
-    cast-run-6
     run-requires
-    stopped-requires
     same-length
     same-length-2
     same-length-3
     same-length-4
+    same-length-5
+    same-length-6
+    same-length-7
+    same-length-8
+    same-length-9
     returns
     sub-last
     mul-window
     slice-set-of-window
     joined-requires
     joined-requires-2
-    finished-requires
-    same-length-5
-    same-length-6
-    same-length-7
-    same-length-8
+    next-requires
+    same-length-10
+    same-length-11
+    same-length-12
+    same-length-13
+    same-length-14
+    same-length-15
+    same-length-16
+    same-length-17
+    same-length-18
     returns-2)
