@@ -33,8 +33,8 @@ pub fn is_entry(v: i16, r: u32) -> bool
     requires { ⌜ r ≤ symbolLimit ⌝ }
     ensures { λ f. ⌜ f ≡ isEntry r v ⌝ }
 {
-    let size = numbers::bit_length::magnitude(v as i64);
-    (size == 0) | ((size % 2 == 1) & (size <= (1u64 << (r + 1)) - 1))
+    let size = numbers::bit_length::magnitude(v as i64) as u16;
+    (size == 0) | ((size % 2 == 1) & (size <= (1u16 << (r + 1)) - 1))
 }
 
 pub fn all_symbols(xs: &[i16], r: u32) -> bool

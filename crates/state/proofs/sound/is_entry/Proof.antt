@@ -5,10 +5,10 @@ use Prim.Native.Nat.{ℕ, _+_, _*_, _-_, _%_, _^_}
 use native.Mathlib.Omega.{arith}
 use lib.Dec.{leb, eqb}
 use lib.IntN.{natAbs}
-use mir.Syntax.{w64}
+use mir.Syntax.{w16}
 use mir.Facts.{toZ-ofZ}
 use borrow.Author.Needs.{needs}
-use Rattle.laws.specs.Machine.{one-shifted}
+use Rattle.laws.specs.Machine.{abs-fits, one-shifted}
 use Rattle.laws.specs.Powers.{positive}
 use Rattle.steps.proofs.SideLaws.{fits-64}
 use Rattle.state.proofs.sound.is_entry.Statement.{statement}
@@ -20,6 +20,12 @@ cast-magnitude c = simp (toZ-ofZ (c .fits .v)) (fits-64 (c .fits .v))
 magnitude-requires : tie.Need-magnitude-requires
 magnitude-requires c κs = search needs
 
+size : (c : tie.After-magnitude) → c .magnitude .result ≡ natAbs (c .before .args .v)
+size c = c .magnitude .ensures ∙ simp (toZ-ofZ (c .before .fits .v), toZ-ofZ (fits-64 (c .before .fits .v)))
+
+cast-size : tie.Need-cast-size
+cast-size c = record { fits = omega (arith, size c, abs-fits (c .before .fits .v)) }
+
 add-result : tie.Need-add-result
 add-result c = search needs
 
@@ -29,14 +35,11 @@ cast-result c = search needs
 shl-result : tie.Need-shl-result
 shl-result c = search needs
 
-shifted : (c : tie.Start) → 1 * 2 ^ (c .args .r + 1) % 2 ^ 64 ≡ 2 ^ (c .args .r + 1)
-shifted c = one-shifted w64 (c .args .r + 1) (omega (arith, c .pre))
+shifted : (c : tie.Start) → 1 * 2 ^ (c .args .r + 1) % 2 ^ 16 ≡ 2 ^ (c .args .r + 1)
+shifted c = one-shifted w16 (c .args .r + 1) (omega (arith, c .pre))
 
 sub-result : tie.Need-sub-result
 sub-result c = omega (arith, shifted (c .before), positive (c .before .args .r + 1))
-
-size : (c : tie.After-magnitude) → c .magnitude .result ≡ natAbs (c .before .args .v)
-size c = c .magnitude .ensures ∙ simp (toZ-ofZ (c .before .fits .v), toZ-ofZ (fits-64 (c .before .fits .v)))
 
 returns : tie.Need-returns
 returns c = ap₂ (λ (n m : ℕ). eqb n 0 || (eqb (n % 2) 1 && leb n (m - 1))) (size c) (shifted (c .before))
@@ -47,6 +50,7 @@ is-entry-spec =
     (tie.spec
     cast-magnitude
     magnitude-requires
+    cast-size
     add-result
     cast-result
     shl-result
