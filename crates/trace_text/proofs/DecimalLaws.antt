@@ -13,8 +13,8 @@ use lib.IntN.{ℤ, pos, negsuc, natAbs}
 use lib.Signed.{_≤ℤ_, _<ℤ_}
 use borrow.Author.Tests.{lt-ltb, le-ltb}
 use Rattle.trace_text.specs.Decimal.{digits, decimal, signedDecimal}
-use Rattle.trace_text.specs.Written.{WrittenAt}
-use Rattle.trace_text.proofs.WrittenLaws.{same-drop, written-none}
+use Rattle.trace_text.specs.TextAt.{TextAt}
+use Rattle.trace_text.proofs.TextAtLaws.{same-drop, text-none}
 
 -- ---- the digits, one after the other
 
@@ -153,9 +153,9 @@ module _ (n at : ℕ) (before : List ℕ) where
       }
 
   pub digits-all : (i left : ℕ) (after : List ℕ) (count : ℕ) → DigitsFrom n at before i left after → i ≡ 0 → count ≡ length (decimal n) →
-      WrittenAt at (decimal n) before (at + count) after
+      TextAt at (decimal n) before (at + count) after
   digits-all i left after count d e k = record {
     end-is = ap (λ (m : ℕ). at + m) k;
     contents =
-        written-none at after .contents ∙ ap (λ (j : ℕ). take at after ++ lastDigits j left ++ drop (at + j) after) (sym e) ∙ d .is;
+        text-none at after .contents ∙ ap (λ (j : ℕ). take at after ++ lastDigits j left ++ drop (at + j) after) (sym e) ∙ d .is;
   }

@@ -1,4 +1,4 @@
-pub mod WrittenLaws
+pub mod TextAtLaws
 pub mod DecimalLaws
 pub mod LineLaws
 pub mod ReadLaws

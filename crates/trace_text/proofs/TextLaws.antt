@@ -15,11 +15,11 @@ use Rattle.station.specs.Answers.{runNumber, runState}
 use Rattle.station.proofs.NumberLaws.{run-settings, run-long}
 use Rattle.trace_text.specs.Trace.{byteAt, settingsIn, countIn, wellFormed, lentAt}
 use Rattle.trace_text.specs.Text.{blockText, textFrom, lineLimit, textLimit}
-use Rattle.trace_text.specs.Written.{WrittenAt}
+use Rattle.trace_text.specs.TextAt.{TextAt}
 use Rattle.trace_text.specs.Calls.{OfTrace, Added-is}
 use Rattle.trace_text.specs.declared.blocks.Added.{Added}
 use Rattle.trace_text.proofs.ReadLaws.{well-long, well-most}
-use Rattle.trace_text.proofs.WrittenLaws.{written-none, written-text, written-long, written-then}
+use Rattle.trace_text.proofs.TextAtLaws.{text-none, text-same, text-long, text-then}
 use Rattle.trace_text.proofs.BlockLaws.{sampled, block-few, accepted-text, block-short}
 
 -- ---- one block more
@@ -41,7 +41,7 @@ pub record Going (t : List ℕ) (first : Equaliser) (before : List ℕ) (i at : 
   pub weights-long : length (e .weights) ≡ places
   pub past-long : length (e .past) ≡ places
   pub done : List ℕ
-  pub written : WrittenAt 0 done before at out
+  pub written : TextAt 0 done before at out
   pub text-is : textFrom t (countIn t) 0 first ≡ done ++ textFrom t (countIn t - i) i e
   pub short : length done ≤ lineLimit * (i * settingsIn t .N)
 
@@ -52,7 +52,7 @@ going-none t e out h w d = record {
   weights-long = w;
   past-long = d;
   done = [];
-  written = written-none 0 out;
+  written = text-none 0 out;
   text-is = ap (λ (n : ℕ). textFrom t n 0 e) (omega arith);
   short = omega arith;
 }
@@ -80,7 +80,7 @@ module _ (t : List ℕ) (first : Equaliser) (before : List ℕ) (i at : ℕ) (e 
         weights-long = ap (λ (s : Equaliser). length (s .weights)) (a .state) ∙ long .0;
         past-long = ap (λ (s : Equaliser). length (s .past)) (a .state) ∙ long .1;
         done = w .done ++ blockText t e i;
-        written = written-then (w .written) (omega arith) (a .written);
+        written = text-then (w .written) (omega arith) (a .written);
         text-is =
             left-over h ∙ ap (λ (s : List ℕ). w .done ++ s) (goes-on t e i (countIn t - (i + 1)) none)
             ∙ sym (append-assoc (w .done) (blockText t e i) (textFrom t (countIn t - (i + 1)) (suc i) (runState e l)))
@@ -98,22 +98,22 @@ module _ (t : List ℕ) (first : Equaliser) (before : List ℕ) (i at : ℕ) (e 
 
   -- the next block is refused
   pub going-stops : (r : Added) (p : List ℕ) → i < countIn t → Added-is t e i at r out p → (r .number ≡ 0 → ⊥) →
-      WrittenAt 0 (textFrom t (countIn t) 0 first) before (r .end) p
+      TextAt 0 (textFrom t (countIn t) 0 first) before (r .end) p
   going-stops r p h a f =
-      written-text
+      text-same
       (sym (left-over h ∙ ap (λ (s : List ℕ). w .done ++ s) (stops t e i (countIn t - (i + 1)) (λ z. f (a .number ∙ z)))))
-      (written-then (w .written) (omega arith) (a .written))
+      (text-then (w .written) (omega arith) (a .written))
 
   -- all blocks are written
-  pub going-all : countIn t ≤ i → WrittenAt 0 (textFrom t (countIn t) 0 first) before at out
+  pub going-all : countIn t ≤ i → TextAt 0 (textFrom t (countIn t) 0 first) before at out
   unfolding textFrom
   going-all h =
       let none : countIn t - i ≡ 0 = omega arith in
-      written-text (sym (w .text-is ∙ ap (λ (n : ℕ). w .done ++ textFrom t n i e) none ∙ append-nil (w .done))) (w .written)
+      text-same (sym (w .text-is ∙ ap (λ (n : ℕ). w .done ++ textFrom t n i e) none ∙ append-nil (w .done))) (w .written)
 
   module _ (h : wellFormed t ≡ true) (k : textLimit ≤ length before) where
     pub going-long : length out ≡ length before
-    going-long = written-long (w .written) (omega (arith, k, w .short, well-long t h, well-most t h, mul-le-mul-right (settingsIn t .N) (w .within)))
+    going-long = text-long (w .written) (omega (arith, k, w .short, well-long t h, well-most t h, mul-le-mul-right (settingsIn t .N) (w .within)))
 
     -- there is room for another block
     pub going-room : i < countIn t → at + lineLimit * (e .n + 1) ≤ length out

@@ -16,7 +16,7 @@ use Rattle.state.proofs.SizesLaws.{settings-tests, fit-within}
 use Rattle.state.proofs.NumberLaws.{fresh-settings}
 use Rattle.trace_text.specs.Trace.{settingsIn, countIn, wellFormed}
 use Rattle.trace_text.specs.Text.{stopLine, textFrom, traceText, textLimit}
-use Rattle.trace_text.specs.Written.{WrittenAt}
+use Rattle.trace_text.specs.TextAt.{TextAt}
 use Rattle.trace_text.specs.Calls.{Traceable, Text-is}
 
 -- ---- the answer, from the text at the front of the bytes
@@ -31,9 +31,9 @@ module _ (t before : List ℕ) where
         contents = sym (ap (λ (b : Bool). cond b (traceText t ++ drop (length (traceText t)) before) before) e);
       }
 
-  pub text-written : (count : ℕ) (after : List ℕ) → textLimit ≤ length before → WrittenAt 0 (traceText t) before count after →
+  pub text-fits : (count : ℕ) (after : List ℕ) → textLimit ≤ length before → TextAt 0 (traceText t) before count after →
       Text-is t before (record { fits = true; length = count }) after
-  text-written count after h f =
+  text-fits count after h f =
       let e = le-leb textLimit (length before) h in
       let none : 0 + length (traceText t) ≡ length (traceText t) = omega arith in
       record {

@@ -15,7 +15,7 @@ use Rattle.checks.specs.Checks.{Lent, block}
 use Rattle.station.specs.Answers.{runNumber, runState, accepted}
 use Rattle.trace_text.specs.Trace.{traceLimit, settingsIn, countIn, samplesIn, wellFormed, samplesFrom, gainsFrom, entriesFrom, lentAt}
 use Rattle.trace_text.specs.Text.{blockText, traceText, lineLimit, textLimit}
-use Rattle.trace_text.specs.Written.{WrittenAt}
+use Rattle.trace_text.specs.TextAt.{TextAt}
 use Rattle.trace_text.specs.declared.blocks.Added.{Added}
 use Rattle.trace_text.specs.declared.Written.{Written}
 
@@ -78,7 +78,7 @@ pub record Blockable (t : List ℕ) (e : Equaliser) (i at : ℕ) (out : List ℕ
 pub record Added-is (t : List ℕ) (e : Equaliser) (i at : ℕ) (r : Added) (before after : List ℕ) : Type 0 where
   pub number : r .number ≡ runNumber e (lentAt t (i * e .n))
   pub state : r .state ≡ runState e (lentAt t (i * e .n))
-  pub written : WrittenAt at (blockText t e i) before (r .end) after
+  pub written : TextAt at (blockText t e i) before (r .end) after
 
 -- ---- the whole trace
 

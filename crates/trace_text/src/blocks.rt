@@ -1,7 +1,7 @@
 // The text of the blocks of a trace.
 ghost use Rattle.trace_text.specs.Text.{textFrom};
 ghost use Rattle.trace_text.specs.Trace.{countIn, lentWith};
-ghost use Rattle.trace_text.specs.Written.{WrittenAt};
+ghost use Rattle.trace_text.specs.TextAt.{TextAt};
 ghost use Rattle.trace_text.specs.Calls.{Runnable, Ran-is, Blockable, Added-is, Traceable};
 use state::equaliser::Answer;
 use state::equaliser::Equaliser;
@@ -78,7 +78,7 @@ pub fn block_text(t: &[u8], e: Equaliser, i: usize, at: usize, out: &mut [u8]) -
 // The blocks one after the other, up to a refusal.
 pub fn all_blocks(t: &[u8], e: Equaliser, out: &mut [u8]) -> usize
     requires { ⌜ Traceable (now t) e (now out) ⌝ }
-    ensures { λ r. ⌜ WrittenAt 0 (textFrom (now (t .entry)) (countIn (now (t .entry))) 0 e) (now (out .entry)) r (now (out .exit)) ⌝ }
+    ensures { λ r. ⌜ TextAt 0 (textFrom (now (t .entry)) (countIn (now (t .entry))) 0 e) (now (out .entry)) r (now (out .exit)) ⌝ }
 {
     let count = image::bytes::number16(t[6], t[7]) as usize;
     let mut state = e;

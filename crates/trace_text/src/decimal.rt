@@ -3,7 +3,7 @@ ghost use mathlib.Core.Path.{_≡_};
 ghost use Prim.Native.Nat.{_+_, _≤_};
 ghost use lib.ListN.{length};
 ghost use Rattle.trace_text.specs.Decimal.{decimal, signedDecimal};
-ghost use Rattle.trace_text.specs.Written.{WrittenAt};
+ghost use Rattle.trace_text.specs.TextAt.{TextAt};
 
 // How many digits a number has.
 fn width(n: u32) -> usize
@@ -20,7 +20,7 @@ fn width(n: u32) -> usize
 
 pub fn decimal(n: u32, at: usize, out: &mut [u8]) -> usize
     requires { ⌜ at + length (decimal n) ≤ length (now out) ⌝ }
-    ensures { λ r. ⌜ WrittenAt at (decimal n) (now (out .entry)) r (now (out .exit)) ⌝ }
+    ensures { λ r. ⌜ TextAt at (decimal n) (now (out .entry)) r (now (out .exit)) ⌝ }
 {
     let count = width(n);
     let mut left = n;
@@ -36,7 +36,7 @@ pub fn decimal(n: u32, at: usize, out: &mut [u8]) -> usize
 // A number that may be negative.
 pub fn signed_decimal(z: i32, at: usize, out: &mut [u8]) -> usize
     requires { ⌜ at + length (signedDecimal z) ≤ length (now out) ⌝ }
-    ensures { λ r. ⌜ WrittenAt at (signedDecimal z) (now (out .entry)) r (now (out .exit)) ⌝ }
+    ensures { λ r. ⌜ TextAt at (signedDecimal z) (now (out .entry)) r (now (out .exit)) ⌝ }
 {
     let size = numbers::bit_length::magnitude(z as i64) as u32;
     if z < 0 {

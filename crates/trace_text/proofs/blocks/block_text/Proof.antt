@@ -12,7 +12,7 @@ use Rattle.station.proofs.NumberLaws.{run-most}
 use Rattle.trace_text.specs.Trace.{traceLimit, byteAt, lentAt}
 use Rattle.trace_text.specs.Text.{stopLine}
 use Rattle.trace_text.specs.Calls.{OfTrace, Ran-is}
-use Rattle.trace_text.proofs.WrittenLaws.{written-text}
+use Rattle.trace_text.proofs.TextAtLaws.{text-same}
 use Rattle.trace_text.proofs.BlockLaws.{zeros-long, front-long, front-within, sampled, lent-zeros, block-within, block-few, accepts, handed-long, front-printable, front-lines, refused-text, accepted-text}
 use Rattle.trace_text.proofs.blocks.block_text.Statement.{statement}
 use Rattle.trace_text.proofs.blocks.block_text.Tie as tie
@@ -102,7 +102,7 @@ returns c =
       number = ran r .number;
       state = ran r .state;
       written =
-          written-text
+          text-same
           (ap (λ (n : ℕ). stopLine n (start r .args .i)) (ran r .number) ∙ refused-text (start r .args .t .now) (start r .args .e) (start r .args .i) (λ z. w .before .before .if1 .taken (ran r .number ∙ z)))
           (w .stop-line .ensures);
     }
@@ -164,7 +164,7 @@ returns-2 c =
     record {
       number = sym none;
       state = ran r .state;
-      written = written-text (front-lines (ran r) h _ _ _ _ ∙ accepted-text (s .args .t .now) (s .args .e) (s .args .i) none) (w .lines .ensures);
+      written = text-same (front-lines (ran r) h _ _ _ _ ∙ accepted-text (s .args .t .now) (s .args .e) (s .args .i) none) (w .lines .ensures);
     }
 
 pub block-text-spec : {M : Type 1} → statement M

@@ -11,9 +11,9 @@ use mir.Facts.{toZ-ofZ, sfits-widen}
 use borrow.Author.Needs.{needs}
 use Rattle.laws.specs.Machine.{abs-fits, lt-tested, lt-refuted}
 use Rattle.trace_text.specs.Decimal.{decimal, signedDecimal}
-use Rattle.trace_text.specs.Written.{WrittenAt}
+use Rattle.trace_text.specs.TextAt.{TextAt}
 use Rattle.trace_text.proofs.DecimalLaws.{signed-below, signed-whole}
-use Rattle.trace_text.proofs.WrittenLaws.{written-text, written-byte, written-then, written-long, written-room}
+use Rattle.trace_text.proofs.TextAtLaws.{text-same, text-byte, text-then, text-long, text-room}
 use Rattle.trace_text.proofs.decimal.signed_decimal.Statement.{statement}
 use Rattle.trace_text.proofs.decimal.signed_decimal.Tie as tie
 
@@ -45,14 +45,14 @@ whole c =
 slice-write-out : tie.Need-slice-write-out
 slice-write-out c = omega (arith, ap length (negative c))
 
-sign : (c : tie.Then1) → let a = c .before .before .before .args in WrittenAt (a .at) (45 ∷ []) (a .out .now) (a .at + 1) (set (a .out .now) (a .at) 45)
-sign c = written-byte _ 45 _ (slice-write-out c)
+sign : (c : tie.Then1) → let a = c .before .before .before .args in TextAt (a .at) (45 ∷ []) (a .out .now) (a .at + 1) (set (a .out .now) (a .at) 45)
+sign c = text-byte _ 45 _ (slice-write-out c)
 
 add-decimal : tie.Need-add-decimal
 add-decimal c = search needs
 
 decimal-requires : tie.Need-decimal-requires
-decimal-requires c κs = written-room (sign (c .before)) (decimal (c .before .before .magnitude .result)) (omega (arith, ap length (negative (c .before))))
+decimal-requires c κs = text-room (sign (c .before)) (decimal (c .before .before .magnitude .result)) (omega (arith, ap length (negative (c .before))))
 
 decimal-requires-2 : tie.Need-decimal-requires-2
 decimal-requires-2 c κs = omega (arith, ap length (whole (c .before)))
@@ -60,16 +60,16 @@ decimal-requires-2 c κs = omega (arith, ap length (whole (c .before)))
 returns : tie.Need-returns
 returns c =
     let t = c .before .before .before .before in
-    written-text (sym (negative t)) (written-then (sign t) (omega arith) (c .before .before .decimal .ensures))
+    text-same (sym (negative t)) (text-then (sign t) (omega arith) (c .before .before .decimal .ensures))
 
 same-length : tie.Need-same-length
-same-length c = written-long (returns c) (omega arith)
+same-length c = text-long (returns c) (omega arith)
 
 same-length-2 : tie.Need-same-length-2
 same-length-2 c = search needs
 
 returns-2 : tie.Need-returns-2
-returns-2 c = written-text (sym (whole (c .before .before .before .before))) (c .before .before .decimal2 .ensures)
+returns-2 c = text-same (sym (whole (c .before .before .before .before))) (c .before .before .decimal2 .ensures)
 
 pub signed-decimal-spec : {M : Type 1} → statement M
 signed-decimal-spec =

@@ -9,7 +9,7 @@ use mir.Facts.{toZ-ofZ}
 use borrow.Author.Needs.{needs}
 use Rattle.trace_text.specs.Decimal.{signedDecimal}
 use Rattle.trace_text.specs.Text.{field}
-use Rattle.trace_text.proofs.WrittenLaws.{written-text, written-byte, written-then, written-room}
+use Rattle.trace_text.proofs.TextAtLaws.{text-same, text-byte, text-then, text-room}
 use Rattle.trace_text.proofs.line.field.Statement.{statement}
 use Rattle.trace_text.proofs.line.field.Tie as tie
 
@@ -27,7 +27,7 @@ slice-write-out : tie.Need-slice-write-out
 unfolding field
 slice-write-out c =
     let s = c .before .before .before .before .before in
-    omega (arith, written-room (written-text (same s) (c .before .before .signed-decimal .ensures)) (s .args .last ∷ []) (s .pre))
+    omega (arith, text-room (text-same (same s) (c .before .before .signed-decimal .ensures)) (s .args .last ∷ []) (s .pre))
 
 add-result : tie.Need-add-result
 add-result c = omega (arith, slice-write-out c)
@@ -39,7 +39,7 @@ returns : tie.Need-returns
 unfolding field
 returns c =
     let s = c .before .before .before .before .before in
-    written-then (written-text (same s) (c .before .before .signed-decimal .ensures)) (omega (arith, s .pre)) (written-byte _ (s .args .last) _ (slice-write-out c))
+    text-then (text-same (same s) (c .before .before .signed-decimal .ensures)) (omega (arith, s .pre)) (text-byte _ (s .args .last) _ (slice-write-out c))
 
 pub field-spec : {M : Type 1} → statement M
 field-spec =

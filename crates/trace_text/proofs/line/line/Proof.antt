@@ -9,9 +9,9 @@ use mir.Val.{SFits, toZ, ofZ}
 use mir.Facts.{toZ-pos, toZ-ofZ, sfits-widen}
 use borrow.Author.Needs.{needs}
 use Rattle.trace_text.specs.Text.{space, newline, field, line}
-use Rattle.trace_text.specs.Written.{WrittenAt}
+use Rattle.trace_text.specs.TextAt.{TextAt}
 use Rattle.trace_text.proofs.LineLaws.{line-short}
-use Rattle.trace_text.proofs.WrittenLaws.{written-text, written-then, written-room, room-front}
+use Rattle.trace_text.proofs.TextAtLaws.{text-same, text-then, text-room, room-front}
 use Rattle.trace_text.proofs.line.line.Statement.{statement}
 use Rattle.trace_text.proofs.line.line.Tie as tie
 
@@ -57,12 +57,12 @@ module _ (s : tie.Start) where
 abbrev start : tie.After-field → tie.Start
 start c = c .before .before .before
 
-text₂ : (c : tie.After-field2) → let s = start (c .before .before .before .before) in WrittenAt (s .args .at) (A s ++ B s) (s .args .out .now) (c .field2 .result) (c .field2 .last .1 .1 .1 .0)
-text₂ c = written-then (c .before .before .before .before .field .ensures) (omega arith) (c .field2 .ensures)
+text₂ : (c : tie.After-field2) → let s = start (c .before .before .before .before) in TextAt (s .args .at) (A s ++ B s) (s .args .out .now) (c .field2 .result) (c .field2 .last .1 .1 .1 .0)
+text₂ c = text-then (c .before .before .before .before .field .ensures) (omega arith) (c .field2 .ensures)
 
 text₃ : (c : tie.After-field3) → let s = start (c .before .before .before .before .before .before .before .before) in
-    WrittenAt (s .args .at) (A s ++ B s ++ C s) (s .args .out .now) (c .field3 .result) (c .field3 .last .1 .1 .1 .0)
-text₃ c = written-then (text₂ (c .before .before .before .before)) (omega arith) (c .field3 .ensures)
+    TextAt (s .args .at) (A s ++ B s ++ C s) (s .args .out .now) (c .field3 .result) (c .field3 .last .1 .1 .1 .0)
+text₃ c = text-then (text₂ (c .before .before .before .before)) (omega arith) (c .field3 .ensures)
 
 -- ---- the needs
 
@@ -73,7 +73,7 @@ field-requires : tie.Need-field-requires
 field-requires c κs = let s = c .before .before in room-front (s .args .at) (A s) (B s) (room₂ s)
 
 field-requires-2 : tie.Need-field-requires-2
-field-requires-2 c κs = let f = c .before .before .before in written-room (f .field .ensures) (B (start f)) (room₂ (start f))
+field-requires-2 c κs = let f = c .before .before .before in text-room (f .field .ensures) (B (start f)) (room₂ (start f))
 
 cast-field-2 : tie.Need-cast-field-2
 cast-field-2 c = search needs
@@ -82,7 +82,7 @@ field-requires-3 : tie.Need-field-requires-3
 field-requires-3 c κs =
     let f = c .before .before .before in
     let s = start (f .before .before .before .before) in
-    written-room (text₂ f) (C s) (room₃ s)
+    text-room (text₂ f) (C s) (room₃ s)
 
 cast-field-3 : tie.Need-cast-field-3
 cast-field-3 c =
@@ -93,7 +93,7 @@ field-requires-4 : tie.Need-field-requires-4
 field-requires-4 c κs =
     let f = c .before .before .before in
     let s = start (f .before .before .before .before .before .before .before .before) in
-    written-room (text₃ f) (D s) (room s)
+    text-room (text₃ f) (D s) (room s)
 
 same-length : tie.Need-same-length
 same-length c = search needs
@@ -102,7 +102,7 @@ returns : tie.Need-returns
 returns c =
     let f = c .before .before .before .before .before .before in
     let s = start (f .before .before .before .before .before .before .before .before) in
-    written-text (same s) (written-then (text₃ f) (omega (arith, s .pre .1)) (c .before .before .field4 .ensures))
+    text-same (same s) (text-then (text₃ f) (omega (arith, s .pre .1)) (c .before .before .field4 .ensures))
 
 pub line-spec : {M : Type 1} → statement M
 line-spec =

@@ -11,21 +11,21 @@ use mir.Val.{SFits}
 use mir.Facts.{toZ-ofZ}
 use borrow.Author.Needs.{sfits-of}
 use Rattle.trace_text.specs.Text.{line, lines, lineLimit}
-use Rattle.trace_text.specs.Written.{WrittenAt}
-use Rattle.trace_text.proofs.WrittenLaws.{written-none, written-text, written-long, written-then}
+use Rattle.trace_text.specs.TextAt.{TextAt}
+use Rattle.trace_text.proofs.TextAtLaws.{text-none, text-same, text-long, text-then}
 use Rattle.trace_text.proofs.LineLaws.{lines-short}
 use Rattle.trace_text.proofs.line.lines.Statement.{statement}
 use Rattle.trace_text.proofs.line.lines.Tie as tie
 
 abbrev Inv-loop : tie.InvT-loop
-Inv-loop place y xi decision at out₀ end₀ i₀ out end i = (i ≤ length y) × WrittenAt at (lines place y xi decision i) out₀ end out
+Inv-loop place y xi decision at out₀ end₀ i₀ out end i = (i ≤ length y) × TextAt at (lines place y xi decision i) out₀ end out
 
 abbrev μ-loop : tie.MeasureT-loop
 μ-loop place y xi decision at out₀ end₀ i₀ out end i = length y - i
 
 loop-holds : tie.Need-loop-holds Inv-loop μ-loop
 unfolding lines
-loop-holds c = (omega arith, written-none _ _)
+loop-holds c = (omega arith, text-none _ _)
 
 cast-line : tie.Need-cast-line Inv-loop μ-loop
 cast-line c = omega (arith, c .before .before .before .before .pre .0 .short)
@@ -66,7 +66,7 @@ so-far c =
     let s = start c in
     let h = c .loop .inv .0 in
     let short = lines-short (s .args .place) (s .args .y .now) (s .args .xi .now) (s .args .decision .now) (c .loop .i) (s .pre .0) h in
-    (short, written-long (c .loop .inv .1) (omega (arith, s .pre .1, h, short)))
+    (short, text-long (c .loop .inv .1) (omega (arith, s .pre .1, h, short)))
 
 line-requires : tie.Need-line-requires Inv-loop μ-loop
 line-requires c κs =
@@ -93,9 +93,9 @@ loop-again c =
     let s = start l in
     let h = turn b .loop-test .taken in (
       omega (arith, h),
-      written-text (ap (lines (s .args .place) (s .args .y .now) (s .args .xi .now) (s .args .decision .now)) (sym (add-one (l .loop .i))))
-          (written-then (l .loop .inv .1) (omega (arith, s .pre .1))
-          (written-text (ap₂ (λ (Y d : ℤ). line (s .args .place + l .loop .i) Y (getD (s .args .xi .now) (l .loop .i) 0) d) (toZ-ofZ (Y-fits b)) (toZ-ofZ (decision-fits b)))
+      text-same (ap (lines (s .args .place) (s .args .y .now) (s .args .xi .now) (s .args .decision .now)) (sym (add-one (l .loop .i))))
+          (text-then (l .loop .inv .1) (omega (arith, s .pre .1))
+          (text-same (ap₂ (λ (Y d : ℤ). line (s .args .place + l .loop .i) Y (getD (s .args .xi .now) (l .loop .i) 0) d) (toZ-ofZ (Y-fits b)) (toZ-ofZ (decision-fits b)))
           (c .before .before .line .ensures))),
     )
 
@@ -106,7 +106,7 @@ returns : tie.Need-returns Inv-loop μ-loop
 returns c =
     let s = start (c .before) in
     let l = c .before .loop in
-    written-text (ap (lines (s .args .place) (s .args .y .now) (s .args .xi .now) (s .args .decision .now)) (le-antisymm (l .inv .0) (c .loop-test .left))) (l .inv .1)
+    text-same (ap (lines (s .args .place) (s .args .y .now) (s .args .xi .now) (s .args .decision .now)) (le-antisymm (l .inv .0) (c .loop-test .left))) (l .inv .1)
 
 pub lines-spec : {M : Type 1} → statement M
 lines-spec =

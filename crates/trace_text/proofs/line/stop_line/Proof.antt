@@ -9,9 +9,9 @@ use mir.Val.{toZ}
 use mir.Facts.{toZ-pos}
 use borrow.Author.Needs.{needs}
 use Rattle.trace_text.specs.Text.{space, newline, field, stopLine}
-use Rattle.trace_text.specs.Written.{WrittenAt}
+use Rattle.trace_text.specs.TextAt.{TextAt}
 use Rattle.trace_text.proofs.LineLaws.{stop-short}
-use Rattle.trace_text.proofs.WrittenLaws.{written-text, written-then, written-room, room-front}
+use Rattle.trace_text.proofs.TextAtLaws.{text-same, text-then, text-room, room-front}
 use Rattle.trace_text.proofs.line.stop_line.Statement.{statement}
 use Rattle.trace_text.proofs.line.stop_line.Tie as tie
 
@@ -38,8 +38,8 @@ start c = c .before .before .before .before
 abbrev start₂ : tie.After-field → tie.Start
 start₂ c = start (c .before .before .before .before)
 
-text₂ : (c : tie.After-field) → WrittenAt (start₂ c .args .at) (A (start₂ c) ++ B (start₂ c)) (start₂ c .args .out .now) (c .field .result) (c .field .last .1 .1 .1 .0)
-text₂ c = written-then (c .before .before .before .before .word .ensures) (omega arith) (c .field .ensures)
+text₂ : (c : tie.After-field) → TextAt (start₂ c .args .at) (A (start₂ c) ++ B (start₂ c)) (start₂ c .args .out .now) (c .field .result) (c .field .last .1 .1 .1 .0)
+text₂ c = text-then (c .before .before .before .before .word .ensures) (omega arith) (c .field .ensures)
 
 slice-aggregate-word : tie.Need-slice-aggregate-word
 slice-aggregate-word c = search needs
@@ -54,7 +54,7 @@ field-requires : tie.Need-field-requires
 field-requires c κs =
     let w = c .before .before .before in
     let s = start w in
-    written-room (w .word .ensures) (B s) (room-front (s .args .at) (A s ++ B s) (C s) (room s))
+    text-room (w .word .ensures) (B s) (room-front (s .args .at) (A s ++ B s) (C s) (room s))
 
 cast-field-2 : tie.Need-cast-field-2
 cast-field-2 c = search needs
@@ -62,7 +62,7 @@ cast-field-2 c = search needs
 field-requires-2 : tie.Need-field-requires-2
 field-requires-2 c κs =
     let f = c .before .before .before in
-    written-room (text₂ f) (C (start₂ f)) (room (start₂ f))
+    text-room (text₂ f) (C (start₂ f)) (room (start₂ f))
 
 same-length : tie.Need-same-length
 same-length c = search needs
@@ -70,7 +70,7 @@ same-length c = search needs
 returns : tie.Need-returns
 returns c =
     let f = c .before .before .before .before .before .before in
-    written-text (same (start₂ f)) (written-then (text₂ f) (omega (arith, start₂ f .pre .2)) (c .before .before .field2 .ensures))
+    text-same (same (start₂ f)) (text-then (text₂ f) (omega (arith, start₂ f .pre .2)) (c .before .before .field2 .ensures))
 
 pub stop-line-spec : {M : Type 1} → statement M
 stop-line-spec =

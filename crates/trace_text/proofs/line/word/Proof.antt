@@ -5,7 +5,7 @@ use native.Mathlib.Omega.{arith}
 use native.Mathlib.Nat.{le-antisymm}
 use lib.ListN.{length}
 use lib.Seq.{paste, paste-zero, length-paste}
-use Rattle.trace_text.proofs.WrittenLaws.{pasted-next, pasted-all}
+use Rattle.trace_text.proofs.TextAtLaws.{pasted-next, pasted-all}
 use Rattle.trace_text.proofs.line.word.Statement.{statement}
 use Rattle.trace_text.proofs.line.word.Tie as tie
 

@@ -6,33 +6,33 @@ use native.Mathlib.Omega.{arith}
 use native.Mathlib.Numerals.{add-one}
 use lib.ListN.{length, getD, take, drop, set, length-append, length-drop, take-append-drop}
 use lib.Seq.{take-at, take-length, drop-at, drop-drop, length-take-le, set-split, append-snoc, paste, paste-suc}
-use Rattle.trace_text.specs.Written.{WrittenAt}
+use Rattle.trace_text.specs.TextAt.{TextAt}
 
 pub same-drop : (o : List ℕ) (m n : ℕ) → m ≡ n → drop m o ≡ drop n o
 same-drop o m n e = ap (λ (k : ℕ). drop k o) e
 
-pub written-none : (a : ℕ) (o : List ℕ) → WrittenAt a [] o a o
-written-none a o = record {
+pub text-none : (a : ℕ) (o : List ℕ) → TextAt a [] o a o
+text-none a o = record {
   end-is = omega arith;
   contents = sym (ap₂ _++_ (append-nil (take a o)) (same-drop o (a + 0) a (omega arith)) ∙ take-append-drop a o);
 }
 
-pub written-byte : (a : ℕ) (x : ℕ) (o : List ℕ) → a < length o → WrittenAt a (x ∷ []) o (a + 1) (set o a x)
-written-byte a x o h = record {
+pub text-byte : (a : ℕ) (x : ℕ) (o : List ℕ) → a < length o → TextAt a (x ∷ []) o (a + 1) (set o a x)
+text-byte a x o h = record {
   end-is = refl;
   contents = set-split o a x h ∙ sym (append-snoc (take a o) x (drop (suc a) o)) ∙ ap (λ (n : ℕ). take a o ++ (x ∷ []) ++ drop n o) (sym (add-one a));
 }
 
-pub written-text : {a b : ℕ} {s t o o₁ : List ℕ} → s ≡ t → WrittenAt a s o b o₁ → WrittenAt a t o b o₁
-written-text {a} {b} {o = o} {o₁ = o₁} e f = subst (λ (l : List ℕ). WrittenAt a l o b o₁) e f
+pub text-same : {a b : ℕ} {s t o o₁ : List ℕ} → s ≡ t → TextAt a s o b o₁ → TextAt a t o b o₁
+text-same {a} {b} {o = o} {o₁ = o₁} e f = subst (λ (l : List ℕ). TextAt a l o b o₁) e f
 
 -- a text has room where a longer one has
 pub room-front : (a : ℕ) {n : ℕ} (s t : List ℕ) → a + length (s ++ t) ≤ n → a + length s ≤ n
 room-front a s t h = omega (arith, length-append s t)
 
-module _ {a b : ℕ} {s o o₁ : List ℕ} (f : WrittenAt a s o b o₁) where
-  pub written-long : a + length s ≤ length o → length o₁ ≡ length o
-  written-long h =
+module _ {a b : ℕ} {s o o₁ : List ℕ} (f : TextAt a s o b o₁) where
+  pub text-long : a + length s ≤ length o → length o₁ ≡ length o
+  text-long h =
       omega (
         arith,
         ap length (f .contents),
@@ -43,16 +43,16 @@ module _ {a b : ℕ} {s o o₁ : List ℕ} (f : WrittenAt a s o b o₁) where
       )
 
   -- what is left has room for the rest
-  pub written-room : (t : List ℕ) → a + length (s ++ t) ≤ length o → b + length t ≤ length o₁
-  written-room t h = omega (arith, f .end-is, written-long (room-front a s t h), length-append s t)
+  pub text-room : (t : List ℕ) → a + length (s ++ t) ≤ length o → b + length t ≤ length o₁
+  text-room t h = omega (arith, f .end-is, text-long (room-front a s t h), length-append s t)
 
   module _ (h : a ≤ length o) where
     until : length (take a o ++ s) ≡ b
     until = length-append (take a o) s ∙ ap (λ (n : ℕ). n + length s) (length-take-le a o h) ∙ sym (f .end-is)
 
     -- another text behind it
-    pub written-then : {t o₂ : List ℕ} {c : ℕ} → WrittenAt b t o₁ c o₂ → WrittenAt a (s ++ t) o c o₂
-    written-then {t} {o₂} {c} g = record {
+    pub text-then : {t o₂ : List ℕ} {c : ℕ} → TextAt b t o₁ c o₂ → TextAt a (s ++ t) o c o₂
+    text-then {t} {o₂} {c} g = record {
       end-is = g .end-is ∙ omega (arith, f .end-is, length-append s t);
       contents =
           g .contents
@@ -69,7 +69,7 @@ module _ (o : List ℕ) (at : ℕ) (text : List ℕ) where
   pasted-next i o₁ h k e =
       ap (λ (l : List ℕ). set l (at + i) (getD text i 0)) e ∙ paste-suc o at text i 0 (omega arith) k ∙ ap (paste o at text) (sym (add-one i))
 
-  pub pasted-all : (i : ℕ) (o₁ : List ℕ) → o₁ ≡ paste o at text i → i ≡ length text → WrittenAt at text o (at + i) o₁
+  pub pasted-all : (i : ℕ) (o₁ : List ℕ) → o₁ ≡ paste o at text i → i ≡ length text → TextAt at text o (at + i) o₁
   pasted-all i o₁ e k = record {
     end-is = ap (λ (n : ℕ). at + n) k;
     contents = e ∙ ap (paste o at text) k ∙ ap (λ (l : List ℕ). take at o ++ l ++ drop (at + length text) o) (take-length text);

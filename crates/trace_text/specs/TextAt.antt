@@ -4,6 +4,6 @@ use mathlib.Core.List.{List, _++_}
 use Prim.Native.Nat.{ℕ, _+_}
 use lib.ListN.{length, take, drop}
 
-pub record WrittenAt (at : ℕ) (text before : List ℕ) (end : ℕ) (after : List ℕ) : Type 0 where
+pub record TextAt (at : ℕ) (text before : List ℕ) (end : ℕ) (after : List ℕ) : Type 0 where
   pub end-is : end ≡ at + length text
   pub contents : after ≡ take at before ++ text ++ drop (at + length text) before
