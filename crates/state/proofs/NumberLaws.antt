@@ -4,9 +4,8 @@ use mathlib.Core.Bool.{Bool, true, false, cond}
 use Prim.Native.Nat.{ℕ, _≤_}
 use native.Mathlib.Omega.{arith}
 use Rattle.steps.specs.Settings.{Settings}
-use Rattle.block.specs.Block.{Memory}
 use Rattle.state.specs.Sizes.{sizesFit, admits, settingsNumber}
-use Rattle.state.specs.State.{settings, isSound, stateOf, fresh}
+use Rattle.state.specs.State.{settings, isSound, fresh}
 use Rattle.state.specs.Answers.{examined}
 use Rattle.state.specs.declared.equaliser.Equaliser.{Equaliser}
 
@@ -31,7 +30,3 @@ settings-most k = three (sizesFit k) (admits k) true
 pub fresh-settings : (k : Settings) → settings (fresh k) ≡ k
 unfolding fresh
 fresh-settings k = refl
-
-pub made-settings : (k : Settings) (o : Memory) → settings (stateOf k o) ≡ k
-unfolding stateOf
-made-settings k o = refl

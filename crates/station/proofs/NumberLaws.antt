@@ -11,11 +11,11 @@ use Rattle.block.specs.Block.{goes, left}
 use Rattle.block.proofs.BlockSound.{left-sound}
 use Rattle.state.specs.State.{settings, memory, stateOf}
 use Rattle.state.specs.declared.equaliser.Equaliser.{Equaliser}
-use Rattle.state.proofs.NumberLaws.{made-settings}
-use Rattle.state.proofs.KeptLaws.{kept-long}
+use Rattle.state.proofs.SoundLaws.{examined-tests}
+use Rattle.state.proofs.KeptLaws.{settings-is, kept-accepted}
 use Rattle.checks.specs.Checks.{Lent, block, checkNumber}
 use Rattle.checks.specs.Calls.{Sampled}
-use Rattle.checks.proofs.CheckLaws.{checked-is}
+use Rattle.checks.proofs.CheckLaws.{check-tests, checked-is}
 use Rattle.checks.proofs.NumberLaws.{check-most}
 use Rattle.station.specs.Answers.{runNumber, runState}
 use Rattle.station.proofs.AnswerLaws.{run-tests}
@@ -35,7 +35,7 @@ module _ (e : Equaliser) (l : Lent) where
   run-settings = go (eqb (runNumber e l) 0)
     where
       go : (b : Bool) → settings (cond b (stateOf (settings e) (left (settings e) (memory e) (block l))) e) ≡ settings e
-      go true = made-settings (settings e) (left (settings e) (memory e) (block l))
+      go true = settings-is (settings e) (left (settings e) (memory e) (block l))
       go false = refl
 
   -- both arrays of the state that an accepted block leaves have their places
@@ -45,5 +45,7 @@ module _ (e : Equaliser) (l : Lent) where
     run-long =
         let t = run-tests e l ok in
         let c = checked-is e l (t .0) w d m in
-        rw (eq-eqb (runNumber e l) 0 ok)
-        (kept-long (settings e) (left (settings e) (memory e) (block l)) (left-sound (settings e) (memory e) (block l) (c .sound) (c .acceptable) (t .1)))
+        let x = examined-tests e (check-tests e l (t .0) .0) in
+        let next = left-sound (settings e) (memory e) (block l) (c .sound) (c .acceptable) (t .1) in
+        let a = kept-accepted (settings e) (left (settings e) (memory e) (block l)) next (x .0) (x .1) in
+        rw (eq-eqb (runNumber e l) 0 ok) (a .weights-long, a .past-long)
