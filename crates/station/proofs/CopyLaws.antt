@@ -1,11 +1,17 @@
 -- Lists that are copied to the front of an array that is filled with one value.
 use mathlib.Core.Path.{_≡_, refl, sym, ap, ap₂, _∙_}
 use mathlib.Core.List.{List, _++_, append-assoc}
-use Prim.Native.Nat.{ℕ, zero, suc, _+_, _-_, _≤_}
+use Prim.Native.Nat.{ℕ, zero, suc, _+_, _-_, _≤_, _<_}
 use native.Mathlib.Omega.{arith}
 use native.Mathlib.Nat.{sub-zero, zero-sub, suc-sub-suc, add-sub-cancel-left, sub-add-eq}
-use lib.ListN.{length, take, drop, replicate, length-append, length-replicate}
+use lib.ListN.{length, getD, take, drop, set, replicate, length-append, length-replicate}
 use lib.Seq.{take-append-seam, drop-append-seam}
+use Rattle.laws.specs.Lists.{Written, written-next}
+
+-- one element more
+pub copied-next : {A : Type 0} {src dst₀ dst : List A} {i : ℕ} → Written src dst₀ i dst → (d : A) → length src ≡ length dst₀ → i < length src →
+    {x : A} → x ≡ getD src i d → Written src dst₀ (i + 1) (set dst i x)
+copied-next w d h l e = written-next w d _ l (omega arith) e
 
 module _ {A : Type 0} (x : A) where
   drop-replicate : (n m : ℕ) → drop n (replicate m x) ≡ replicate (m - n) x

@@ -19,6 +19,30 @@ pub fn copy16(src: &[i16], dst: &mut [i16])
     }
 }
 
+// A list at the front of TAPS places.
+pub fn fronted(src: &[i16]) -> [i16; limits::TAPS]
+    requires { ⌜ length (now src) ≤ tapLimit ⌝ }
+    ensures { λ r. ⌜ r ≡ now (src .entry) ++ replicate (tapLimit - length (now (src .entry))) (pos 0) ⌝ }
+{
+    let mut out = [0i16; limits::TAPS];
+    let n = src.len();
+    copy16(src, &mut out[0..n]);
+    out
+}
+
+// Two lists, one after the other, at the front of PLACES places.
+pub fn joined(first: &[i16], second: &[i16]) -> [i16; limits::PLACES]
+    requires { ⌜ length (now first) + length (now second) ≤ places ⌝ }
+    ensures { λ r. ⌜ r ≡ padded (now (first .entry) ++ now (second .entry)) ⌝ }
+{
+    let mut out = [0i16; limits::PLACES];
+    let n = first.len();
+    let end = n + second.len();
+    copy16(first, &mut out[0..n]);
+    copy16(second, &mut out[n..end]);
+    out
+}
+
 pub fn copy32(src: &[i32], dst: &mut [i32])
     requires { ⌜ length (now src) ≡ length (now dst) ⌝ }
     ensures { λ _. ⌜ now (dst .exit) ≡ now (src .entry) ⌝ }
@@ -50,28 +74,4 @@ pub fn copy_bytes(src: &[u8], dst: &mut [u8])
         dst[i] = src[i];
         i += 1;
     }
-}
-
-// A list at the front of TAPS places.
-pub fn fronted(src: &[i16]) -> [i16; limits::TAPS]
-    requires { ⌜ length (now src) ≤ tapLimit ⌝ }
-    ensures { λ r. ⌜ r ≡ now (src .entry) ++ replicate (tapLimit - length (now (src .entry))) (pos 0) ⌝ }
-{
-    let mut out = [0i16; limits::TAPS];
-    let n = src.len();
-    copy16(src, &mut out[0..n]);
-    out
-}
-
-// Two lists, one after the other, at the front of PLACES places.
-pub fn joined(first: &[i16], second: &[i16]) -> [i16; limits::PLACES]
-    requires { ⌜ length (now first) + length (now second) ≤ places ⌝ }
-    ensures { λ r. ⌜ r ≡ padded (now (first .entry) ++ now (second .entry)) ⌝ }
-{
-    let mut out = [0i16; limits::PLACES];
-    let n = first.len();
-    let end = n + second.len();
-    copy16(first, &mut out[0..n]);
-    copy16(second, &mut out[n..end]);
-    out
 }
