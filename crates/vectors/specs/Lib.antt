@@ -1,0 +1,4 @@
+pub mod Compare
+pub mod Trace
+pub mod Record
+pub mod Block
