@@ -1,6 +1,7 @@
 // Vectors of a second implementation, one at the front of some bytes: what the product gives for it, held to what is expected.
 pub mod blocks;
 mod compare;
+pub mod kind;
 mod record;
 pub mod trace;
 mod values;
