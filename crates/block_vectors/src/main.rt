@@ -2,5 +2,5 @@
 use vectors::kind::Kind;
 
 fn main() {
-    vector_files::run_file(b"blocks.bin", Kind::Block, b" blocks", b"block ");
+    vector_files::run_file(b"blocks.bin", Kind::Block);
 }

@@ -2,5 +2,5 @@
 use vectors::kind::Kind;
 
 fn main() {
-    vector_files::run_file(b"traces.bin", Kind::Trace, b" traces", b"trace ");
+    vector_files::run_file(b"traces.bin", Kind::Trace);
 }

@@ -103,51 +103,51 @@ fn next(fd: i32, kind: Kind, buf: &mut [u8], out: &mut [u8]) -> Outcome {
     }
 }
 
-fn say_same(count: u64, kinds: &[u8]) {
+fn say_same(count: u64, kind: Kind) {
     io::print_decimal(STDOUT_FILENO, count);
-    io::write_all(STDOUT_FILENO, kinds);
+    match kind {
+        Kind::Trace => io::write_all(STDOUT_FILENO, b" traces"),
+        Kind::Block => io::write_all(STDOUT_FILENO, b" blocks"),
+    }
+    ;
     io::write_all(STDOUT_FILENO, b": no difference\n");
 }
 
-fn say_other(place: u64, name: &[u8]) {
-    io::write_all(STDOUT_FILENO, name);
+fn say_other(place: u64, kind: Kind) {
+    match kind {
+        Kind::Trace => io::write_all(STDOUT_FILENO, b"trace "),
+        Kind::Block => io::write_all(STDOUT_FILENO, b"block "),
+    }
+    ;
     io::print_decimal(STDOUT_FILENO, place);
     io::write_all(STDOUT_FILENO, b" differs\n");
 }
 
 // Runs the next vector, and answers whether to go on. Where there is no next one or it differs, it says so.
-fn turn(
-    fd: i32,
-    kind: Kind,
-    many: &[u8],
-    one: &[u8],
-    buf: &mut [u8],
-    out: &mut [u8],
-    place: u64,
-) -> bool {
+fn turn(fd: i32, kind: Kind, buf: &mut [u8], out: &mut [u8], place: u64) -> bool {
     match next(fd, kind, buf, out) {
         Outcome::Same => true,
         Outcome::End => {
-            say_same(place, many);
+            say_same(place, kind);
             false
         }
         Outcome::Other => {
-            say_other(place, one);
+            say_other(place, kind);
             false
         }
     }
 }
 
 // A proved loop has to end, so it stops at more vectors than a file has.
-fn run(fd: i32, kind: Kind, many: &[u8], one: &[u8], buf: &mut [u8], out: &mut [u8]) {
+fn run(fd: i32, kind: Kind, buf: &mut [u8], out: &mut [u8]) {
     let mut place: u64 = 0;
-    while place < MOST && turn(fd, kind, many, one, buf, out, place) {
+    while place < MOST && turn(fd, kind, buf, out, place) {
         place += 1;
     }
 }
 
-// Runs the vectors of a file, with the names of many and of one in the line that it prints.
-pub fn run_file(path: &[u8], kind: Kind, many: &[u8], one: &[u8]) {
+// Runs the vectors of a file, and prints a line.
+pub fn run_file(path: &[u8], kind: Kind) {
     let fd = os::open_read(path);
     if fd < 0 {
         os::fail(path);
@@ -155,6 +155,6 @@ pub fn run_file(path: &[u8], kind: Kind, many: &[u8], one: &[u8]) {
     }
     let mut buf = room();
     let mut out = room();
-    run(fd, kind, many, one, &mut buf, &mut out);
+    run(fd, kind, &mut buf, &mut out);
     libc::close(fd);
 }

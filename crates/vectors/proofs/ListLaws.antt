@@ -43,17 +43,21 @@ module _ {A : Type 0} (x : A) where
   drop-replicate (suc n) zero = ap (λ (m : ℕ). replicate m x) {x = 0} {y = 0 - suc n} (omega arith)
   drop-replicate (suc n) (suc k) = drop-replicate n k ∙ ap (λ (m : ℕ). replicate m x) {x = k - n} {y = suc k - suc n} (omega arith)
 
--- ---- a list of k elements, of which n are lent
+-- ---- a list of one element in k places, of which n are lent
 
-module _ {A : Type 0} (x : A) (k : ℕ) (l : List A) (e : l ≡ replicate k x) (a n : ℕ) (f : a ≡ n) (h : n ≤ k) where
-  pub lent-within : a ≤ length l
-  lent-within = omega (arith, ap length e, length-replicate k x)
+pub record Lending {A : Type 0} (x : A) (k n a : ℕ) (l : List A) : Type 0 where
+  pub within : a ≤ length l
+  pub long : a ≡ length (take a l)
+  pub front : take a l ≡ replicate n x
+  pub rest : drop a l ≡ replicate (k - n) x
 
-  pub lent-long : a ≡ length (take a l)
-  lent-long = sym (length-take-le a l lent-within)
-
-  pub lent-front : take a l ≡ replicate n x
-  lent-front = ap₂ take f e ∙ take-replicate x n k h
-
-  pub lent-rest : drop a l ≡ replicate (k - n) x
-  lent-rest = ap₂ drop f e ∙ drop-replicate x n k
+pub lending : {A : Type 0} {x : A} {k n a : ℕ} {l : List A} → l ≡ replicate k x → a ≡ n → n ≤ k → Lending x k n a l
+lending {A} {x} {k} {n} {a} {l} e f h = record {
+  within = inside;
+  long = sym (length-take-le a l inside);
+  front = ap₂ take f e ∙ take-replicate x n k h;
+  rest = ap₂ drop f e ∙ drop-replicate x n k;
+}
+  where
+    inside : a ≤ length l
+    inside = omega (arith, ap length e, length-replicate k x)

@@ -2,7 +2,7 @@
 use mathlib.Core.Path.{_≡_, sym, ap, _∙_}
 use mathlib.Core.Bool.{Bool}
 use mathlib.Core.List.{List}
-use Prim.Native.Nat.{ℕ, _+_, _*_, _^_, _≤_, _<_}
+use Prim.Native.Nat.{ℕ, _+_, _^_, _≤_, _<_}
 use native.Mathlib.Omega.{arith}
 use lib.Dec.{eqb}
 use lib.IntN.{ℤ}
@@ -12,16 +12,8 @@ use mir.Facts.{toZ-ofZ, ofZ-toZ}
 use lib.ListN.{length, List·getD-eq-default}
 use Rattle.trace_text.specs.Trace.{byteAt, number16, number32}
 
-module _ (v : List ℕ) (at : ℕ) (h : length v ≤ at) where
-  pub byte-beyond : (i : ℕ) → at ≤ i → 0 ≡ byteAt v i
-  byte-beyond i k = sym (List·getD-eq-default v 0 {n = i} (omega arith))
-
-  pub beyond16 : 0 ≡ number16 v at
-  beyond16 = omega (arith, byte-beyond at (omega arith), byte-beyond (at + 1) (omega arith))
-
-  pub beyond32 : 0 ≡ number32 v at
-  beyond32 =
-      omega (arith, byte-beyond at (omega arith), byte-beyond (at + 1) (omega arith), byte-beyond (at + 2) (omega arith), byte-beyond (at + 2 + 1) (omega arith))
+pub beyond : (v : List ℕ) (at : ℕ) → length v ≤ at → 0 ≡ byteAt v at
+beyond v at h = sym (List·getD-eq-default v 0 h)
 
 -- the bits of a signed number are those that it was read from
 pub bits-back : (w : Width) (z : ℤ) (n m : ℕ) → n < 2 ^ bits w → z ≡ toZ w n → n ≡ m → ofZ w z ≡ m

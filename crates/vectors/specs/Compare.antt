@@ -1,7 +1,7 @@
 -- Comparisons of bytes, and of what a block hands out with bytes.
 use mathlib.Core.Bool.{Bool, true, false, _&&_}
 use mathlib.Core.List.{List, [], _∷_}
-use Prim.Native.Nat.{ℕ, zero, suc, _+_, _-_, _*_}
+use Prim.Native.Nat.{ℕ, zero, suc, _+_, _-_, _*_, _^_}
 use lib.Dec.{eqb}
 use lib.ListN.{getD, take, drop}
 use lib.IntN.{ℤ, pos}
@@ -9,6 +9,10 @@ use mir.Syntax.{w8, w32}
 use mir.Val.{ofZ}
 use Rattle.trace_text.specs.Trace.{byteAt, number32}
 use Rattle.vectors.specs.declared.compare.BlockResult.{BlockResult}
+
+-- no place that is read lies as far
+abbrev pub farthest : ℕ
+farthest = 2 ^ 40
 
 abbrev pub equal : List ℕ → List ℕ → Bool
 equal [] [] = true

@@ -1,13 +1,13 @@
 // Bytes and outputs held to bytes.
 ghost use mathlib.Core.Path.{_≡_};
-ghost use Prim.Native.Nat.{_*_, _≤_};
+ghost use Prim.Native.Nat.{_*_, _<_, _≤_};
 ghost use lib.Dec.{eqb};
 ghost use lib.ListN.{length};
 ghost use mir.Syntax.{w8, w32};
 ghost use mir.Val.{ofZ};
 ghost use Rattle.trace_text.specs.Trace.{byteAt, number32};
 ghost use Rattle.vectors.specs.Block.{listLimit};
-ghost use Rattle.vectors.specs.Compare.{equal, sampleBytes, sameSample, sameOutputs};
+ghost use Rattle.vectors.specs.Compare.{farthest, equal, sampleBytes, sameSample, sameOutputs};
 use super::values::byte_at;
 use super::values::number32_at;
 use super::values::signed8_at;
@@ -57,6 +57,7 @@ pub fn same_bytes(a: &[u8], b: &[u8]) -> bool
 
 // Whether v has a number at a place.
 fn same_long(v: &[u8], at: usize, z: i32) -> bool
+    requires { ⌜ at < farthest ⌝ }
     ensures { λ r. ⌜ r ≡ eqb (ofZ w32 z) (number32 (now (v .entry)) at) ⌝ }
 {
     z == signed32(number32_at(v, at))

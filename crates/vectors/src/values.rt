@@ -1,8 +1,9 @@
 // Numbers at a place of some bytes, lowest byte first. A place beyond the end holds 0.
 ghost use mathlib.Core.Path.{_≡_};
-ghost use Prim.Native.Nat.{_^_, _<_};
+ghost use Prim.Native.Nat.{_<_};
 ghost use mir.Syntax.{w8, w16, w32};
 ghost use mir.Val.{toZ};
+ghost use Rattle.vectors.specs.Compare.{farthest};
 ghost use Rattle.trace_text.specs.Trace.{byteAt, number16, number32};
 
 pub fn byte_at(v: &[u8], at: usize) -> u8
@@ -12,28 +13,23 @@ pub fn byte_at(v: &[u8], at: usize) -> u8
 }
 
 pub fn number16_at(v: &[u8], at: usize) -> u32
+    requires { ⌜ at < farthest ⌝ }
     ensures { λ r. ⌜ r ≡ number16 (now (v .entry)) at ⌝ }
 {
-    if at < v.len() {
-        image::bytes::number16(v[at], byte_at(v, at + 1))
-    } else {
-        0
-    }
+    image::bytes::number16(byte_at(v, at), byte_at(v, at + 1))
 }
 
 pub fn number32_at(v: &[u8], at: usize) -> u32
+    requires { ⌜ at < farthest ⌝ }
     ensures { λ r. ⌜ r ≡ number32 (now (v .entry)) at ⌝ }
 {
-    if at < v.len() {
-        image::bytes::number32(
-            v[at],
-            byte_at(v, at + 1),
-            byte_at(v, at + 2),
-            byte_at(v, at + 3),
-        )
-    } else {
-        0
-    }
+    let high = at + 2;
+    image::bytes::number32(
+        byte_at(v, at),
+        byte_at(v, at + 1),
+        byte_at(v, high),
+        byte_at(v, high + 1),
+    )
 }
 
 pub fn signed32(n: u32) -> i32
@@ -53,7 +49,7 @@ pub fn signed8_at(v: &[u8], at: usize) -> i8
 }
 
 pub fn signed16_at(v: &[u8], at: usize) -> i16
-    requires { ⌜ at < 2 ^ 32 ⌝ }
+    requires { ⌜ at < farthest ⌝ }
     ensures { λ r. ⌜ r ≡ toZ w16 (number16 (now (v .entry)) at) ⌝ }
 {
     image::bytes::signed16(byte_at(v, at), byte_at(v, at + 1))

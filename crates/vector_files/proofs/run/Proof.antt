@@ -6,10 +6,10 @@ use Rattle.vector_files.proofs.run.Statement.{statement}
 use Rattle.vector_files.proofs.run.Tie as tie
 
 abbrev Inv-loop : tie.InvT-loop
-Inv-loop fd kind many one buf₀ out₀ place₀ buf out place = (length buf ≡ length buf₀) × (length out ≡ length out₀)
+Inv-loop fd kind buf₀ out₀ place₀ buf out place = (length buf ≡ length buf₀) × (length out ≡ length out₀)
 
 abbrev μ-loop : tie.MeasureT-loop
-μ-loop fd kind many one buf₀ out₀ place₀ buf out place = 1000000 - place
+μ-loop fd kind buf₀ out₀ place₀ buf out place = 1000000 - place
 
 loop-holds : tie.Need-loop-holds Inv-loop μ-loop
 loop-holds c = search needs

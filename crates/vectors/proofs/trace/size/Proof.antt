@@ -1,4 +1,5 @@
 use borrow.Author.Needs.{needs}
+use Prim.Native.Nat.{_^_, _<_}
 use native.Mathlib.Omega.{arith}
 use Rattle.vectors.proofs.ReadLaws.{below32}
 use Rattle.vectors.proofs.TraceLaws.{text-end}
@@ -11,14 +12,18 @@ text-place-requires c κs = search needs
 sub-number32-at : tie.Need-sub-number32-at
 sub-number32-at c = search needs
 
+-- the text's place is small
+small : (c : tie.After-text-place) → c .text-place .result < 2 ^ 33
+small c = omega (arith, c .text-place .ensures, below32 (c .before .before .args .v .now) 0 (λ i. omega (arith, c .before .shared-slice-known .given i)))
+
 number32-at-requires : tie.Need-number32-at-requires
-number32-at-requires c κs = search needs
+number32-at-requires c κs = omega (arith, small c)
 
 cast-result : tie.Need-cast-result
 cast-result c = search needs
 
 add-result : tie.Need-add-result
-add-result c = omega (arith, c .before .text-place .ensures, below32 (c .before .before .before .args .v .now) 0 (λ i. omega (arith, c .before .before .shared-slice-known .given i)))
+add-result c = omega (arith, small (c .before))
 
 returns : tie.Need-returns
 returns c = text-end (c .before .before .before .args .v .now) _ _ (c .before .text-place .ensures) (c .number32-at .ensures)
