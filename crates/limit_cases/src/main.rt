@@ -2,6 +2,9 @@
 use libc::STDOUT_FILENO;
 use numbers::bit_length::magnitude;
 use state::equaliser::Equaliser;
+use steps::limits::PLACES;
+use vectors::sample::IMAGE;
+use vectors::sample::run_sample;
 
 fn text(s: &[u8]) {
     io::write_all(STDOUT_FILENO, s);
@@ -50,8 +53,8 @@ fn set_up(p: u8, q: u8, n: u8, r: u8, l: u8, m: u32) {
 
 // A state of one tap each, with its weights and its past symbol.
 fn state(r: u8, psi: u8, m: u32, forward: i16, back: i16, symbol: i16) -> Equaliser {
-    let mut weights = [0i16; 32];
-    let mut past = [0i16; 32];
+    let mut weights = [0i16; PLACES];
+    let mut past = [0i16; PLACES];
     weights[0] = forward;
     weights[1] = back;
     past[1] = symbol;
@@ -73,7 +76,7 @@ fn state(r: u8, psi: u8, m: u32, forward: i16, back: i16, symbol: i16) -> Equali
 // What the image and the weights of a state say.
 fn say_state(e: Equaliser) {
     let weights = e.weights;
-    let mut image = [0u8; 20];
+    let mut image = [0u8; IMAGE];
     let saved = image::save::save(e, &mut image);
     byte(b", save ", saved.number);
     byte(b", psi ", image[5]);
@@ -86,27 +89,13 @@ fn say_state(e: Equaliser) {
 
 // A block of one sample with the gain 0.
 fn block(about: &[u8], e: Equaliser, sample: i16, entry: i8) -> Equaliser {
-    let samples = [sample];
-    let gains = [0u8];
-    let entries = [entry];
-    let mut y = [0i32];
-    let mut xi = [0u8];
-    let mut decision = [0i8];
-    let mut z = [0i32];
-    let mut theta = [0u8];
-    let r = station::run::run(
-        e,
-        &samples,
-        &gains,
-        &entries,
-        &mut y,
-        &mut xi,
-        &mut decision,
-        &mut z,
-        &mut theta,
-    );
-    let s = r.state;
-    byte(about, r.number);
+    let r = run_sample(e, sample, entry);
+    let answer = r.answer;
+    let y = r.y;
+    let xi = r.xi;
+    let decision = r.decision;
+    let s = answer.state;
+    byte(about, answer.number);
     signed_long(b", Y ", y[0]);
     byte(b", xi ", xi[0]);
     signed_byte(b", decision ", decision[0]);

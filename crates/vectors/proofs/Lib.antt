@@ -1,2 +1,6 @@
-pub mod Signed
-pub mod Parts
+pub mod ReadLaws
+pub mod CompareLaws
+pub mod TraceLaws
+pub mod RecordLaws
+pub mod ListLaws
+pub mod BlockLaws

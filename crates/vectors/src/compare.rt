@@ -1,146 +1,108 @@
-// Lists held to bytes, and lists that nothing has touched.
+// Bytes and outputs held to bytes.
 ghost use mathlib.Core.Path.{_≡_};
-ghost use mathlib.Core.Bool.{true};
-ghost use lib.ListN.{length, take, drop};
+ghost use Prim.Native.Nat.{_*_, _<_, _≤_};
+ghost use lib.Dec.{eqb};
+ghost use lib.ListN.{length};
+ghost use mir.Syntax.{w8, w32};
+ghost use mir.Val.{ofZ};
+ghost use Rattle.trace_text.specs.Trace.{byteAt, number32};
+ghost use Rattle.vectors.specs.Block.{listLimit};
+ghost use Rattle.vectors.specs.Compare.{farthest, equal, sampleBytes, sameSample, sameOutputs};
 use super::values::byte_at;
-use super::values::signed_byte_at;
-use super::values::signed_long_at;
-use super::values::signed_short_at;
+use super::values::number32_at;
+use super::values::signed8_at;
+use super::values::signed32;
+use state::equaliser::Equaliser;
 
-// What a list is filled with before it is lent. No block hands out any of these.
-pub const BYTE: u8 = 165;
+// A list of a vector is no longer than this.
+pub const LIST: usize = 4 * steps::limits::BLOCK;
 
-const SIGNED_BYTE: i8 = -91;
+// What a sample hands out, in bytes: Y, ξ, decision, Z and θ.
+const XI: usize = 4;
 
-const LONG: i32 = -1515870811;
+const DECISION: usize = XI + 1;
 
-pub fn filled_bytes() -> [u8; 512]
-    ensures { λ r. ⌜ 512 ≡ length r ⌝ }
-{
-    [BYTE; 512]
+const Z: usize = DECISION + 1;
+
+const THETA: usize = Z + 4;
+
+pub const SAMPLE: usize = THETA + 1;
+
+// What running a block answers, each list at the front of its places.
+pub struct BlockResult {
+    pub number: u8,
+    pub state: Equaliser,
+    pub y: [i32; LIST],
+    pub xi: [u8; LIST],
+    pub decision: [i8; LIST],
+    pub z: [i32; LIST],
+    pub theta: [u8; LIST],
 }
 
-pub fn filled_signed_bytes() -> [i8; 512]
-    ensures { λ r. ⌜ 512 ≡ length r ⌝ }
+pub fn same_bytes(a: &[u8], b: &[u8]) -> bool
+    ensures { λ r. ⌜ r ≡ equal (now (a .entry)) (now (b .entry)) ⌝ }
 {
-    [SIGNED_BYTE; 512]
-}
-
-pub fn filled_longs() -> [i32; 512]
-    ensures { λ r. ⌜ 512 ≡ length r ⌝ }
-{
-    [LONG; 512]
-}
-
-// Whether the n bytes of a from i on are those of b from j on.
-pub fn same_bytes(a: &[u8], i: usize, b: &[u8], j: usize, n: usize) -> bool
-    ensures { λ r. ⌜ (r ≡ true → take n (drop i (now (a .entry))) ≡ take n (drop j (now (b .entry)))) ⌝ }
-{
-    if a.len() < i {
+    if a.len() != b.len() {
         return false;
     }
-    if a.len() - i < n {
-        return false;
-    }
-    if b.len() < j {
-        return false;
-    }
-    if b.len() - j < n {
-        return false;
-    }
-    let mut k: usize = 0;
-    while k < n {
-        if a[i + k] != b[j + k] {
-            return false;
-        }
-        k += 1;
-    }
-    true
-}
-
-// Whether v has the numbers of a list at its front.
-pub fn same_shorts(a: &[i16; 32], v: &[u8]) -> bool {
     let mut i: usize = 0;
-    while i < 32 {
-        if a[i] != signed_short_at(v, 2 * i) {
+    while i < a.len() {
+        if a[i] != b[i] {
             return false;
         }
         i += 1;
     }
     true
+}
+
+// Whether v has a number at a place.
+fn same_long(v: &[u8], at: usize, z: i32) -> bool
+    requires { ⌜ at < farthest ⌝ }
+    ensures { λ r. ⌜ r ≡ eqb (ofZ w32 z) (number32 (now (v .entry)) at) ⌝ }
+{
+    z == signed32(number32_at(v, at))
+}
+
+fn same_byte(v: &[u8], at: usize, d: i8) -> bool
+    ensures { λ r. ⌜ r ≡ eqb (ofZ w8 d) (byteAt (now (v .entry)) at) ⌝ }
+{
+    d == signed8_at(v, at)
 }
 
 // Whether v has what one sample hands out at its front.
-fn same_sample(v: &[u8], y: i32, xi: u8, decision: i8, z: i32, theta: u8) -> bool {
-    if y != signed_long_at(v, 0) {
+fn same_sample(v: &[u8], y: i32, xi: u8, decision: i8, z: i32, theta: u8) -> bool
+    ensures { λ r. ⌜ r ≡ sameSample (now (v .entry)) y xi decision z theta ⌝ }
+{
+    if !same_long(v, 0, y) {
         return false;
     }
-    if xi != byte_at(v, 4) {
+    if xi != byte_at(v, XI) {
         return false;
     }
-    if decision != signed_byte_at(v, 5) {
+    if !same_byte(v, DECISION, decision) {
         return false;
     }
-    if z != signed_long_at(v, 6) {
+    if !same_long(v, Z, z) {
         return false;
     }
-    theta == byte_at(v, 10)
+    theta == byte_at(v, THETA)
 }
 
-// The same for a block of n samples.
-pub fn same_outputs(
-    v: &[u8],
-    n: usize,
-    y: &[i32; 512],
-    xi: &[u8; 512],
-    decision: &[i8; 512],
-    z: &[i32; 512],
-    theta: &[u8; 512],
-) -> bool {
-    if n > 512 {
-        return false;
-    }
-    if v.len() < 11 * n {
-        return false;
-    }
+// Whether v has what n samples hand out at its front.
+pub fn same_outputs(v: &[u8], n: usize, r: BlockResult) -> bool
+    requires { ⌜ (n ≤ listLimit) × (sampleBytes * n ≤ length (now v)) ⌝ }
+    ensures { λ t. ⌜ t ≡ sameOutputs (now (v .entry)) n r ⌝ }
+{
+    let y = r.y;
+    let xi = r.xi;
+    let decision = r.decision;
+    let z = r.z;
+    let theta = r.theta;
     let mut i: usize = 0;
     while i < n {
-        let at = 11 * i;
-        if !same_sample(&v[at..], y[i], xi[i], decision[i], z[i], theta[i]) {
-            return false;
-        }
-        i += 1;
-    }
-    true
-}
-
-// Whether a list holds its filling from the place on.
-pub fn untouched_bytes(a: &[u8], from: usize) -> bool {
-    let mut i = from;
-    while i < a.len() {
-        if a[i] != BYTE {
-            return false;
-        }
-        i += 1;
-    }
-    true
-}
-
-pub fn untouched_signed_bytes(a: &[i8]) -> bool {
-    let mut i: usize = 0;
-    while i < a.len() {
-        if a[i] != SIGNED_BYTE {
-            return false;
-        }
-        i += 1;
-    }
-    true
-}
-
-pub fn untouched_longs(a: &[i32]) -> bool {
-    let mut i: usize = 0;
-    while i < a.len() {
-        if a[i] != LONG {
+        let at = SAMPLE * i;
+        let end = at + SAMPLE;
+        if !same_sample(&v[at..end], y[i], xi[i], decision[i], z[i], theta[i]) {
             return false;
         }
         i += 1;

@@ -1,7 +1,9 @@
 // Vectors of a second implementation, one at the front of some bytes: what the product gives for it, held to what is expected.
 pub mod blocks;
 mod compare;
+pub mod kind;
 mod record;
+pub mod sample;
 pub mod trace;
 mod values;
 

@@ -1,79 +1,109 @@
-// A record at the front of some bytes: twelve as in the image, 32 weights, 32 data.
-use super::compare::BYTE;
+// A record in bytes: twelve as in the image, the weights, the data.
+ghost use mathlib.Core.Path.{_≡_};
+ghost use Prim.Native.Nat.{_≤_};
+ghost use lib.ListN.{length};
+ghost use Rattle.image.specs.Image.{words};
+ghost use Rattle.vectors.specs.Compare.{equal};
+ghost use Rattle.vectors.specs.Record.{recordLength, recordIn, sameRecord, buffer, sameSaved};
 use super::compare::same_bytes;
-use super::compare::same_shorts;
-use super::compare::untouched_bytes;
-use super::values::byte_at;
-use super::values::fill_signed_shorts;
-use super::values::long_at;
-use super::values::rest;
+use image::bytes::number32;
+use image::load::words_in;
+use image::save::put_header;
+use image::save::put_words;
 use state::equaliser::Equaliser;
+use steps::limits::PLACES;
 
-// The state that it says.
-pub fn state(v: &[u8]) -> Equaliser {
-    let mut weights = [0i16; 32];
-    let mut past = [0i16; 32];
-    fill_signed_shorts(rest(v, 12), &mut weights);
-    fill_signed_shorts(rest(v, 76), &mut past);
+// What lists and buffers are filled with before they are lent. No block hands out any of it.
+pub const FILL: u8 = 165;
+
+pub const RECORD: usize = Equaliser::IMAGE;
+
+const WORDS: usize = 2 * PLACES;
+
+const HEADER: usize = RECORD - 2 * WORDS;
+
+const PAST: usize = HEADER + WORDS;
+
+// A buffer for any image, and bytes behind it.
+const BUFFER: usize = RECORD + 20;
+
+// The state that bytes say.
+pub fn state(v: &[u8]) -> Equaliser
+    requires { ⌜ recordLength ≤ length (now v) ⌝ }
+    ensures { λ e. ⌜ e ≡ recordIn (now (v .entry)) ⌝ }
+{
+    let weights = words_in(&v[HEADER..PAST]);
+    let past = words_in(&v[PAST..RECORD]);
     Equaliser {
-        p: byte_at(v, 0),
-        q: byte_at(v, 1),
-        n: byte_at(v, 2),
-        r: byte_at(v, 3),
-        l: byte_at(v, 4),
-        psi: byte_at(v, 5),
-        b: byte_at(v, 6),
-        big: byte_at(v, 7),
-        m: long_at(v, 8),
+        p: v[0],
+        q: v[1],
+        n: v[2],
+        r: v[3],
+        l: v[4],
+        psi: v[5],
+        b: v[6],
+        big: v[7],
+        m: number32(v[8], v[9], v[10], v[11]),
         weights: weights,
         past: past,
     }
 }
 
-// Whether a state is the one that it says, spare places among them.
-pub fn same_state(s: Equaliser, v: &[u8]) -> bool {
-    let header = [s.p, s.q, s.n, s.r, s.l, s.psi, s.b, s.big];
+fn same_words(a: &[i16; PLACES], v: &[u8]) -> bool
+    ensures { λ r. ⌜ r ≡ equal (words (now (a .entry))) (now (v .entry)) ⌝ }
+{
+    let mut bytes = [0u8; WORDS];
+    put_words(a, &mut bytes);
+    same_bytes(&bytes, v)
+}
+
+// Whether a state is the one that bytes say, spare places among them.
+pub fn same_record(s: Equaliser, v: &[u8]) -> bool
+    requires { ⌜ recordLength ≤ length (now v) ⌝ }
+    ensures { λ r. ⌜ r ≡ sameRecord s (now (v .entry)) ⌝ }
+{
     let weights = s.weights;
     let past = s.past;
-    if s.m != long_at(v, 8) {
+    let mut header = [0u8; HEADER];
+    put_header(s, &mut header);
+    if !same_bytes(&header, &v[0..HEADER]) {
         return false;
     }
-    if !same_bytes(&header, 0, v, 0, 8) {
+    if !same_words(&weights, &v[HEADER..PAST]) {
         return false;
     }
-    if !same_shorts(&weights, rest(v, 12)) {
-        return false;
-    }
-    same_shorts(&past, rest(v, 76))
+    same_words(&past, &v[PAST..RECORD])
 }
 
-// Whether the bytes are the record's image of k taps and then untouched.
-fn same_image(image: &[u8], v: &[u8], k: usize) -> bool {
-    if k > 32 {
-        return false;
-    }
-    if !same_bytes(image, 0, v, 0, 12) {
-        return false;
-    }
-    if !same_bytes(image, 12, v, 12, 2 * k) {
-        return false;
-    }
-    if !same_bytes(image, 12 + 2 * k, v, 76, 2 * k) {
-        return false;
-    }
-    untouched_bytes(image, 12 + 4 * k)
+fn filled_buffer() -> [u8; BUFFER]
+    ensures { λ r. ⌜ r ≡ buffer ⌝ }
+{
+    [FILL; BUFFER]
 }
 
-// Whether a state saves as the record's image, and leaves the bytes after it alone.
-pub fn same_saved(s: Equaliser, v: &[u8]) -> bool {
-    let mut image = [BYTE; 160];
-    let saved = image::save::save(s, &mut image);
-    let k = (byte_at(v, 0) as usize) + (byte_at(v, 1) as usize);
+// Whether a state saves as the image of the record in v, and leaves the bytes after it alone.
+pub fn same_saved(s: Equaliser, v: &[u8]) -> bool
+    requires { ⌜ recordLength ≤ length (now v) ⌝ }
+    ensures { λ r. ⌜ r ≡ sameSaved s (now (v .entry)) ⌝ }
+{
+    let before = filled_buffer();
+    let mut after = filled_buffer();
+    let saved = image::save::save(s, &mut after);
     if saved.number != 0 {
         return false;
     }
-    if saved.length != 12 + 4 * k {
+    let taps = (s.p as usize) + (s.q as usize);
+    if taps > PLACES {
         return false;
     }
-    same_image(&image, v, k)
+    let mid = HEADER + 2 * taps;
+    let end = mid + 2 * taps;
+    let past = PAST + 2 * taps;
+    if !same_bytes(&after[0..mid], &v[0..mid]) {
+        return false;
+    }
+    if !same_bytes(&after[mid..end], &v[PAST..past]) {
+        return false;
+    }
+    same_bytes(&after[end..BUFFER], &before[end..BUFFER])
 }

@@ -2,29 +2,16 @@
 ghost use Prim.Native.Nat.{_<_};
 use libc::STDOUT_FILENO;
 use state::equaliser::Equaliser;
+use vectors::sample::IMAGE;
+use vectors::sample::run_sample;
 
-// A block of one sample.
+const LAST: usize = IMAGE - 1;
+
+// A block of one sample of 16384.
 fn block(e: Equaliser, entry: i8) -> Equaliser {
-    let samples = [16384i16];
-    let gains = [0u8];
-    let entries = [entry];
-    let mut y = [0i32];
-    let mut xi = [0u8];
-    let mut decision = [0i8];
-    let mut z = [0i32];
-    let mut theta = [0u8];
-    let r = station::run::run(
-        e,
-        &samples,
-        &gains,
-        &entries,
-        &mut y,
-        &mut xi,
-        &mut decision,
-        &mut z,
-        &mut theta,
-    );
-    r.state
+    let r = run_sample(e, 16384, entry);
+    let answer = r.answer;
+    answer.state
 }
 
 fn digit(d: u8) -> u8
@@ -39,22 +26,22 @@ fn put(b: u8, after: u8) {
     io::write_all(STDOUT_FILENO, &text);
 }
 
-fn put_all(image: &[u8; 20]) {
+fn put_all(image: &[u8; IMAGE]) {
     let mut i: usize = 0;
-    while i < 19 {
+    while i < LAST {
         put(image[i], b' ');
         i += 1;
     }
-    put(image[19], b'\n');
+    put(image[LAST], b'\n');
 }
 
 fn main() {
     let fresh = Equaliser::set_up(1, 1, 1, 0, 0, 67108864);
     let first = block(fresh.state, 1);
     let second = block(first, 0);
-    let mut image = [0u8; 20];
+    let mut image = [0u8; IMAGE];
     let saved = image::save::save(second, &mut image);
-    if saved.length == 20 {
+    if saved.length == IMAGE {
         put_all(&image);
     }
 }

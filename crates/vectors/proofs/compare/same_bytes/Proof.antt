@@ -1,77 +1,56 @@
-use mathlib.Core.Path.{_≡_, refl, subst}
-use Prim.Native.Nat.{ℕ, _-_, _≤_}
+use mathlib.Core.Path.{_≡_, refl, sym, _∙_}
+use Prim.Native.Nat.{_-_}
 use native.Mathlib.Omega.{arith}
-use native.Mathlib.Nat.{le-antisymm}
-use lib.ListN.{take, drop}
+use lib.ListN.{length, drop}
 use borrow.Author.Needs.{needs}
-use Rattle.vectors.proofs.Parts.{never, same-next}
+use Rattle.vectors.specs.Compare.{equal}
+use Rattle.vectors.proofs.CompareLaws.{lengths-differ, equal-next, equal-stop, equal-end}
 use Rattle.vectors.proofs.compare.same_bytes.Statement.{statement}
 use Rattle.vectors.proofs.compare.same_bytes.Tie as tie
 
 abbrev Inv-loop : tie.InvT-loop
-Inv-loop a i b j n k₀ k = (k ≤ n) × (take k (drop i a) ≡ take k (drop j b))
+Inv-loop a b i₀ i = (length a ≡ length b) × (equal a b ≡ equal (drop i a) (drop i b))
 
 abbrev μ-loop : tie.MeasureT-loop
-μ-loop a i b j n k₀ k = n - k
+μ-loop a b i₀ i = length a - i
 
 returns : tie.Need-returns Inv-loop μ-loop
-returns c e = never e
-
-sub-if2 : tie.Need-sub-if2 Inv-loop μ-loop
-sub-if2 c = search needs
-
-returns-2 : tie.Need-returns-2 Inv-loop μ-loop
-returns-2 c e = never e
-
-returns-3 : tie.Need-returns-3 Inv-loop μ-loop
-returns-3 c e = never e
-
-sub-if4 : tie.Need-sub-if4 Inv-loop μ-loop
-sub-if4 c = search needs
-
-returns-4 : tie.Need-returns-4 Inv-loop μ-loop
-returns-4 c e = never e
+returns c = let a = c .before .args in sym (lengths-differ (a .a .now) (a .b .now) (c .if1 .taken))
 
 loop-holds : tie.Need-loop-holds Inv-loop μ-loop
-loop-holds c = (omega arith, refl)
+loop-holds c = (c .if1 .left, refl)
 
-add-if5 : tie.Need-add-if5 Inv-loop μ-loop
-add-if5 c = search needs
+shared-slice-read-if2 : tie.Need-shared-slice-read-if2 Inv-loop μ-loop
+shared-slice-read-if2 c = search needs
 
-shared-slice-read-if5 : tie.Need-shared-slice-read-if5 Inv-loop μ-loop
-shared-slice-read-if5 c = search needs
+shared-slice-read-if2-2 : tie.Need-shared-slice-read-if2-2 Inv-loop μ-loop
+shared-slice-read-if2-2 c = search needs
 
-add-if5-2 : tie.Need-add-if5-2 Inv-loop μ-loop
-add-if5-2 c = search needs
+returns-2 : tie.Need-returns-2 Inv-loop μ-loop
+returns-2 c =
+    let o = c .before .before .before .before .loop in
+    let t = c .before .before .before .loop-test .taken in
+    let a = c .before .before .before .before .before .before .args in
+    sym (o .inv .1 ∙ equal-stop (a .a .now) (a .b .now) (o .i) t (omega (arith, t, o .inv .0)) (c .if2 .taken))
 
-shared-slice-read-if5-2 : tie.Need-shared-slice-read-if5-2 Inv-loop μ-loop
-shared-slice-read-if5-2 c = search needs
-
-returns-5 : tie.Need-returns-5 Inv-loop μ-loop
-returns-5 c e = never e
-
-add-k : tie.Need-add-k Inv-loop μ-loop
-add-k c = search needs
+add-i : tie.Need-add-i Inv-loop μ-loop
+add-i c = search needs
 
 loop-less : tie.Need-loop-less Inv-loop μ-loop
 loop-less c = search needs
 
 loop-again : tie.Need-loop-again Inv-loop μ-loop
 loop-again c =
-    let a = c .before .before .before .before .before .before .before .before .before .args in
     let o = c .before .before .before .before .loop in
-    let k = c .before .before .before .loop-test .taken in
-    let first = c .before .before .before .before .before .before .before .if2 .left in
-    let second = c .before .before .before .before .before .if4 .left in
-    let front = c .before .before .before .before .before .before .before .before .if1 .left in
-    let back = c .before .before .before .before .before .before .if3 .left in
-    (omega (arith, k), same-next (a .a .now) (a .b .now) (a .i) (a .j) (o .k) (omega (arith, k, first, front)) (omega (arith, k, second, back)) (o .inv .1) (c .if5 .left))
-
-returns-6 : tie.Need-returns-6 Inv-loop μ-loop
-returns-6 c e =
+    let t = c .before .before .before .loop-test .taken in
     let a = c .before .before .before .before .before .before .args in
+    (o .inv .0, o .inv .1 ∙ equal-next (a .a .now) (a .b .now) (o .i) t (omega (arith, t, o .inv .0)) (c .if2 .left))
+
+returns-3 : tie.Need-returns-3 Inv-loop μ-loop
+returns-3 c =
     let o = c .before .loop in
-    subst (λ (m : ℕ). take m (drop (a .i) (a .a .now)) ≡ take m (drop (a .j) (a .b .now))) (le-antisymm (o .inv .0) (c .loop-test .left)) (o .inv .1)
+    let a = c .before .before .before .args in
+    sym (o .inv .1 ∙ equal-end (a .a .now) (a .b .now) (o .i) (o .inv .0) (c .loop-test .left))
 
 pub same-bytes-spec : {M : Type 1} → statement M
 same-bytes-spec =
@@ -80,18 +59,11 @@ same-bytes-spec =
     Inv-loop
     μ-loop
     returns
-    sub-if2
-    returns-2
-    returns-3
-    sub-if4
-    returns-4
     loop-holds
-    add-if5
-    shared-slice-read-if5
-    add-if5-2
-    shared-slice-read-if5-2
-    returns-5
-    add-k
+    shared-slice-read-if2
+    shared-slice-read-if2-2
+    returns-2
+    add-i
     loop-less
     loop-again
-    returns-6)
+    returns-3)

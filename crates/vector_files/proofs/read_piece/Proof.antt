@@ -1,0 +1,53 @@
+use borrow.Author.Needs.{needs}
+use mathlib.Core.Path.{_∙_}
+use Prim.Native.Nat.{_-_}
+use native.Mathlib.Omega.{arith}
+use borrow.Rule.Slice.PartMut.{mid-len, take-put, drop-put}
+use Rattle.vector_files.proofs.read_piece.Statement.{statement}
+use Rattle.vector_files.proofs.read_piece.Tie as tie
+
+returns : tie.Need-returns
+returns c = search needs
+
+returns-2 : tie.Need-returns-2
+returns-2 c = search needs
+
+part-read-full-start : tie.Need-part-read-full-start
+part-read-full-start c = search needs
+
+part-read-full-end : tie.Need-part-read-full-end
+part-read-full-end c = search needs
+
+read-full-requires : tie.Need-read-full-requires
+read-full-requires c κs = search needs
+
+same-length : tie.Need-same-length
+same-length c = search needs
+
+returns-3 : tie.Need-returns-3
+returns-3 c =
+    let r = c .before .before in
+    let e = r .before .before in
+    let a = e .before .before .before .args in
+    let to = e .before .if1 .left in
+    let from = e .if2 .left in
+    let len = r .read-full .kept .1 .0 ∙ mid-len (a .from) (a .to) (a .buf .now) to in
+    record {
+      few = omega (arith, r .read-full .ensures .0, len);
+      kept = record {
+        front = take-put (a .from) (a .to - a .from) (a .buf .now) (r .read-full .last .1 .0) (omega (arith, to, from));
+        rest = drop-put (a .from) (a .to) (a .buf .now) (r .read-full .last .1 .0) from to len;
+      };
+    }
+
+pub read-piece-spec : {M : Type 1} → statement M
+read-piece-spec =
+    tie.close
+    (tie.spec
+    returns
+    returns-2
+    part-read-full-start
+    part-read-full-end
+    read-full-requires
+    same-length
+    returns-3)

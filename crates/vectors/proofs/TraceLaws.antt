@@ -1,0 +1,67 @@
+-- What a trace vector answers.
+use mathlib.Core.Path.{_≡_, refl, sym, ap, ap₂, _∙_}
+use mathlib.Core.Bool.{Bool, true, false, _&&_, cond}
+use mathlib.Core.List.{List, _++_}
+use Prim.Native.Nat.{ℕ, _+_, _-_, _≤_, _<_}
+use native.Mathlib.Omega.{arith}
+use lib.Dec.{leb}
+use lib.ListN.{length, take, drop, length-append}
+use lib.Seq.{take-append-seam}
+use borrow.Author.Tests.{le-leb, lt-leb}
+use Rattle.trace_text.specs.Trace.{number32}
+use Rattle.trace_text.specs.Text.{traceText, textLimit}
+use Rattle.trace_text.specs.Calls.{Text-is}
+use Rattle.trace_text.specs.declared.Written.{Written}
+use Rattle.vectors.specs.Compare.{equal}
+use Rattle.vectors.specs.Trace.{lengthBytes, textPlace, textLength, textEnd, traceIn, textIn, TraceVector}
+use Rattle.vectors.specs.declared.Step.{Step}
+
+pub text-end : (v : List ℕ) (place n : ℕ) → place ≡ textPlace v → n ≡ number32 v (place - lengthBytes) → place + n ≡ textEnd v
+text-end v place n p e =
+    ap₂ (λ (a b : ℕ). a + b) p (e ∙ ap (number32 v) {x = place - lengthBytes} {y = lengthBytes + number32 v 0} (omega arith))
+
+module _ (v before : List ℕ) (place end : ℕ) (p : place ≡ textPlace v) (e : end ≡ textEnd v) where
+  -- the bytes are no vector
+  pub vector-none : length v < end → TraceVector v before (record { size = 0; same = false }) before
+  vector-none h =
+      let t = lt-leb (textEnd v) (length v) (omega arith) in
+      record { size = simp t; same = simp t; contents = simp t }
+
+  module _ (h : end ≤ length v) (w : Written) (after : List ℕ) (x : Text-is (take (place - lengthBytes - lengthBytes) (drop lengthBytes v)) before w after) where
+    whole-is : leb (textEnd v) (length v) ≡ true
+    whole-is = le-leb (textEnd v) (length v) (omega arith)
+
+    trace-is : take (place - lengthBytes - lengthBytes) (drop lengthBytes v) ≡ traceIn v
+    trace-is = ap (λ (n : ℕ). take n (drop lengthBytes v)) {x = place - lengthBytes - lengthBytes} {y = number32 v 0} (omega arith)
+
+    text-in : take (end - place) (drop place v) ≡ textIn v
+    text-in = ap (λ (n : ℕ). take n (drop place v)) {x = end - place} {y = textLength v} (omega arith) ∙ ap (λ (m : ℕ). take (textLength v) (drop m v)) p
+
+    -- too little room for any text
+    pub vector-short : w .fits ≡ false → TraceVector v before (record { size = end; same = false }) after
+    vector-short f =
+        let t = sym (x .fits) ∙ f in
+        record { size = e ∙ simp whole-is; same = simp (whole-is, t); contents = x .contents ∙ simp (whole-is, t) }
+
+    module _ (f : w .fits ≡ true) where
+      room : leb textLimit (length before) ≡ true
+      room = sym (x .fits) ∙ f
+
+      text-front : after ≡ traceText (traceIn v) ++ drop (length (traceText (traceIn v))) before
+      text-front = x .contents ∙ simp (room, trace-is)
+
+      long : w .length ≡ length (traceText (traceIn v))
+      long = x .text-length ∙ simp (room, trace-is)
+
+      pub text-within : w .length ≤ length after
+      text-within = omega (arith, long, simp length-append at (ap length text-front))
+
+      compared : ((leb (textEnd v) (length v) && leb textLimit (length before)) && equal (traceText (traceIn v)) (textIn v)) ≡ equal (traceText (traceIn v)) (textIn v)
+      compared = simp (whole-is, room)
+
+      pub vector-held : (s : Bool) → s ≡ equal (take (w .length - 0) after) (take (end - place) (drop place v)) → TraceVector v before (record { size = end; same = s }) after
+      vector-held s h = record {
+        size = e ∙ simp whole-is;
+        same = h ∙ ap₂ equal (ap₂ take {x = w .length - 0} {y = length (traceText (traceIn v))} (omega (arith, long)) text-front ∙ take-append-seam (traceText (traceIn v)) (drop (length (traceText (traceIn v))) before)) text-in ∙ sym compared;
+        contents = text-front ∙ simp (whole-is, room);
+      }

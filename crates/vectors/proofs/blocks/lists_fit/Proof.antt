@@ -1,0 +1,66 @@
+use mathlib.Core.Path.{_≡_, refl, sym}
+use mathlib.Core.Bool.{true}
+use Prim.Native.Nat.{_-_}
+use native.Mathlib.Omega.{arith}
+use lib.Dec.{leb}
+use borrow.Author.Needs.{needs}
+use borrow.Author.Tests.{le-leb, lt-leb}
+use Rattle.vectors.specs.Compare.{below}
+use Rattle.vectors.specs.Block.{listCount, listLimit, lengthAt, listsFit}
+use Rattle.vectors.proofs.CompareLaws.{below-next, below-stop, below-end}
+use Rattle.vectors.proofs.blocks.lists_fit.Statement.{statement}
+use Rattle.vectors.proofs.blocks.lists_fit.Tie as tie
+
+abbrev Inv-loop : tie.InvT-loop
+Inv-loop v k₀ k = below k (λ j. leb (lengthAt v j) listLimit) ≡ true
+
+abbrev μ-loop : tie.MeasureT-loop
+μ-loop v k₀ k = listCount - k
+
+loop-holds : tie.Need-loop-holds Inv-loop μ-loop
+loop-holds c = refl
+
+length-at-requires : tie.Need-length-at-requires Inv-loop μ-loop
+length-at-requires c κs = search needs
+
+cast-if1 : tie.Need-cast-if1 Inv-loop μ-loop
+cast-if1 c = search needs
+
+returns : tie.Need-returns Inv-loop μ-loop
+unfolding listsFit
+returns c =
+    let l = c .before .before .before in
+    let a = l .before .before .args in
+    sym (below-stop (λ j. leb (lengthAt (a .v .now) j) listLimit) listCount (l .loop .k) (c .before .before .loop-test .taken) (lt-leb (lengthAt (a .v .now) (l .loop .k)) listLimit (omega (arith, c .before .length-at .ensures, c .if1 .taken))))
+
+add-k : tie.Need-add-k Inv-loop μ-loop
+add-k c = search needs
+
+loop-less : tie.Need-loop-less Inv-loop μ-loop
+loop-less c = search needs
+
+loop-again : tie.Need-loop-again Inv-loop μ-loop
+loop-again c =
+    let l = c .before .before .before in
+    let a = l .before .before .args in
+    below-next (λ j. leb (lengthAt (a .v .now) j) listLimit) (l .loop .k) (l .loop .inv) (le-leb (lengthAt (a .v .now) (l .loop .k)) listLimit (omega (arith, c .before .length-at .ensures, c .if1 .left)))
+
+returns-2 : tie.Need-returns-2 Inv-loop μ-loop
+unfolding listsFit
+returns-2 c =
+    sym (below-end (λ j. leb (lengthAt (c .before .before .before .args .v .now) j) listLimit) listCount (c .before .loop .k) (c .loop-test .left) (c .before .loop .inv))
+
+pub lists-fit-spec : {M : Type 1} → statement M
+lists-fit-spec =
+    tie.close
+    (tie.spec
+    Inv-loop
+    μ-loop
+    loop-holds
+    length-at-requires
+    cast-if1
+    returns
+    add-k
+    loop-less
+    loop-again
+    returns-2)

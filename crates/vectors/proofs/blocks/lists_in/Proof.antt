@@ -1,0 +1,93 @@
+use mathlib.Core.Path.{ap₂, _∙_}
+use mathlib.Core.List.{List}
+use Prim.Native.Nat.{_-_}
+use lib.ListN.{replicate}
+use lib.IntN.{ℤ, pos}
+use mir.Syntax.{w8, w16}
+use borrow.Author.Needs.{needs}
+use Rattle.laws.specs.Machine.{kept}
+use Rattle.laws.specs.Lists.{Written, written-none}
+use Rattle.block.specs.Block.{values}
+use Rattle.vectors.specs.Block.{listLimit, sampleIn, entryIn}
+use Rattle.vectors.specs.declared.blocks.Lists.{Lists}
+use Rattle.vectors.proofs.ListLaws.{read-next, read-all}
+use Rattle.vectors.proofs.blocks.lists_in.Statement.{statement}
+use Rattle.vectors.proofs.blocks.lists_in.Tie as tie
+
+abbrev Inv-loop : tie.InvT-loop
+Inv-loop v at samples₀ entries₀ i₀ samples entries i =
+    (Written (values (sampleIn v) listLimit) (replicate listLimit (pos 0)) i samples) × (Written (values (entryIn v at) listLimit) (replicate listLimit (pos 0)) i entries)
+
+abbrev μ-loop : tie.MeasureT-loop
+μ-loop v at samples₀ entries₀ i₀ samples entries i = listLimit - i
+
+loop-holds : tie.Need-loop-holds Inv-loop μ-loop
+loop-holds c = (written-none _ _, written-none _ _)
+
+mul-signed16-at : tie.Need-mul-signed16-at Inv-loop μ-loop
+mul-signed16-at c = search needs
+
+add-signed16-at : tie.Need-add-signed16-at Inv-loop μ-loop
+add-signed16-at c = search needs
+
+signed16-at-requires : tie.Need-signed16-at-requires Inv-loop μ-loop
+signed16-at-requires c κs = search needs
+
+mul-samples : tie.Need-mul-samples Inv-loop μ-loop
+mul-samples c = search needs
+
+array-set-from-samples : tie.Need-array-set-from-samples Inv-loop μ-loop
+array-set-from-samples c = search needs
+
+add-signed8-at : tie.Need-add-signed8-at Inv-loop μ-loop
+add-signed8-at c = search needs
+
+signed8-at-requires : tie.Need-signed8-at-requires Inv-loop μ-loop
+signed8-at-requires c κs = search needs
+
+array-set-from-entries : tie.Need-array-set-from-entries Inv-loop μ-loop
+array-set-from-entries c = search needs
+
+add-i : tie.Need-add-i Inv-loop μ-loop
+add-i c = search needs
+
+loop-less : tie.Need-loop-less Inv-loop μ-loop
+loop-less c = search needs
+
+loop-again : tie.Need-loop-again Inv-loop μ-loop
+loop-again c =
+    let l = c .before .before .before in
+    let a = l .before .before .args in
+    let h = c .before .before .loop-test .taken in
+    let x = c .before .signed16-at in (
+      read-next (sampleIn (a .v .now)) listLimit (l .loop .i) (pos 0) (l .loop .samples) (l .loop .inv .0) (pos 0) _ h (kept w16 (x .result) (x .ok) ∙ x .ensures),
+      read-next (entryIn (a .v .now) (a .at)) listLimit (l .loop .i) (pos 0) (l .loop .entries) (l .loop .inv .1) (pos 0) _ h (kept w8 (c .signed8-at .result) (c .signed8-at .ok) ∙ c .signed8-at .ensures),
+    )
+
+returns : tie.Need-returns Inv-loop μ-loop
+returns c =
+    let l = c .before in
+    let a = l .before .before .args in
+    ap₂ (λ (s e : List ℤ). record { samples = s; entries = e })
+    (read-all (sampleIn (a .v .now)) listLimit (l .loop .i) (pos 0) (l .loop .samples) (l .loop .inv .0) (c .loop-test .left))
+    (read-all (entryIn (a .v .now) (a .at)) listLimit (l .loop .i) (pos 0) (l .loop .entries) (l .loop .inv .1) (c .loop-test .left))
+
+pub lists-in-spec : {M : Type 1} → statement M
+lists-in-spec =
+    tie.close
+    (tie.spec
+    Inv-loop
+    μ-loop
+    loop-holds
+    mul-signed16-at
+    add-signed16-at
+    signed16-at-requires
+    mul-samples
+    array-set-from-samples
+    add-signed8-at
+    signed8-at-requires
+    array-set-from-entries
+    add-i
+    loop-less
+    loop-again
+    returns)

@@ -1,0 +1,153 @@
+use borrow.Author.Needs.{needs}
+use Prim.Native.Nat.{ℕ, _≤_, _<_}
+use native.Mathlib.Omega.{arith}
+use Rattle.vectors.specs.Record.{fill}
+use Rattle.vectors.specs.Block.{listCount, listLimit, lengthAt, fillLong, fillSigned, lentOn}
+use Rattle.vectors.proofs.ListLaws.{Lending, lending}
+use Rattle.vectors.proofs.BlockLaws.{list-fits, lent-on, result-on}
+use Rattle.vectors.proofs.blocks.run_on.Statement.{statement}
+use Rattle.vectors.proofs.blocks.run_on.Tie as tie
+
+filled-longs-requires : tie.Need-filled-longs-requires
+filled-longs-requires c κs = search needs
+
+filled-bytes-requires : tie.Need-filled-bytes-requires
+filled-bytes-requires c κs = search needs
+
+filled-signed-requires : tie.Need-filled-signed-requires
+filled-signed-requires c κs = search needs
+
+filled-longs-requires-2 : tie.Need-filled-longs-requires-2
+filled-longs-requires-2 c κs = search needs
+
+filled-bytes-requires-2 : tie.Need-filled-bytes-requires-2
+filled-bytes-requires-2 c κs = search needs
+
+state-requires : tie.Need-state-requires
+state-requires c κs = search needs
+
+length-at-requires : tie.Need-length-at-requires
+length-at-requires c κs = search needs
+
+cast-a : tie.Need-cast-a
+cast-a c = search needs
+
+length-at-requires-2 : tie.Need-length-at-requires-2
+length-at-requires-2 c κs = search needs
+
+cast-b : tie.Need-cast-b
+cast-b c = search needs
+
+length-at-requires-3 : tie.Need-length-at-requires-3
+length-at-requires-3 c κs = search needs
+
+cast-c : tie.Need-cast-c
+cast-c c = search needs
+
+length-at-requires-4 : tie.Need-length-at-requires-4
+length-at-requires-4 c κs = search needs
+
+cast-d : tie.Need-cast-d
+cast-d c = search needs
+
+length-at-requires-5 : tie.Need-length-at-requires-5
+length-at-requires-5 c κs = search needs
+
+cast-f : tie.Need-cast-f
+cast-f c = search needs
+
+abbrev start : tie.After-length-at5 → tie.Start
+start c = c .before .before .before .before .before .before .before .before .before .before .before .before .before
+
+fits : (c : tie.After-length-at5) (k : ℕ) → k < listCount → lengthAt (start c .args .v .now) k ≤ listLimit
+fits c = list-fits (start c .args .v .now) (start c .pre .fits)
+
+y-lent : (c : tie.After-length-at5) → Lending fillLong listLimit (lengthAt (start c .args .v .now) 3) (c .before .before .before .before .length-at .result) (c .before .before .before .before .before .before .before .before .before .before .filled-longs .result)
+y-lent c = lending (c .before .before .before .before .before .before .before .before .before .before .filled-longs .ensures) (c .before .before .before .before .length-at .ensures) (fits c 3 (omega arith))
+
+xi-lent : (c : tie.After-length-at5) → Lending fill listLimit (lengthAt (start c .args .v .now) 4) (c .before .before .before .length-at2 .result) (c .before .before .before .before .before .before .before .before .before .filled-bytes .result)
+xi-lent c = lending (c .before .before .before .before .before .before .before .before .before .filled-bytes .ensures) (c .before .before .before .length-at2 .ensures) (fits c 4 (omega arith))
+
+decision-lent : (c : tie.After-length-at5) → Lending fillSigned listLimit (lengthAt (start c .args .v .now) 5) (c .before .before .length-at3 .result) (c .before .before .before .before .before .before .before .before .filled-signed .result)
+decision-lent c = lending (c .before .before .before .before .before .before .before .before .filled-signed .ensures) (c .before .before .length-at3 .ensures) (fits c 5 (omega arith))
+
+z-lent : (c : tie.After-length-at5) → Lending fillLong listLimit (lengthAt (start c .args .v .now) 6) (c .before .length-at4 .result) (c .before .before .before .before .before .before .before .filled-longs2 .result)
+z-lent c = lending (c .before .before .before .before .before .before .before .filled-longs2 .ensures) (c .before .length-at4 .ensures) (fits c 6 (omega arith))
+
+theta-lent : (c : tie.After-length-at5) → Lending fill listLimit (lengthAt (start c .args .v .now) 7) (c .length-at5 .result) (c .before .before .before .before .before .before .filled-bytes2 .result)
+theta-lent c = lending (c .before .before .before .before .before .before .filled-bytes2 .ensures) (c .length-at5 .ensures) (fits c 7 (omega arith))
+
+array-borrow-prefix-y : tie.Need-array-borrow-prefix-y
+array-borrow-prefix-y c = y-lent c .within
+
+slice-aggregate-run : tie.Need-slice-aggregate-run
+slice-aggregate-run c = y-lent (c .before) .long
+
+array-borrow-prefix-xi : tie.Need-array-borrow-prefix-xi
+array-borrow-prefix-xi c = xi-lent (c .before) .within
+
+slice-aggregate-run-2 : tie.Need-slice-aggregate-run-2
+slice-aggregate-run-2 c = xi-lent (c .before .before) .long
+
+array-borrow-prefix-decision : tie.Need-array-borrow-prefix-decision
+array-borrow-prefix-decision c = decision-lent (c .before .before) .within
+
+slice-aggregate-run-3 : tie.Need-slice-aggregate-run-3
+slice-aggregate-run-3 c = decision-lent (c .before .before .before) .long
+
+array-borrow-prefix-z : tie.Need-array-borrow-prefix-z
+array-borrow-prefix-z c = z-lent (c .before .before .before) .within
+
+slice-aggregate-run-4 : tie.Need-slice-aggregate-run-4
+slice-aggregate-run-4 c = z-lent (c .before .before .before .before) .long
+
+array-borrow-prefix-theta : tie.Need-array-borrow-prefix-theta
+array-borrow-prefix-theta c = theta-lent (c .before .before .before .before) .within
+
+slice-aggregate-run-5 : tie.Need-slice-aggregate-run-5
+slice-aggregate-run-5 c = theta-lent (c .before .before .before .before .before) .long
+
+run-requires : tie.Need-run-requires
+run-requires c κs = search needs
+
+returns : tie.Need-returns
+returns c =
+    let r = c .before .before .before .before .before .before in
+    let l = r .before .before .before .before .before .before in
+    let a = start l .args in
+    result-on (a .v .now) _ _ (lentOn (a .v .now) (a .m .now) (a .gains .now) (a .entries .now)) (r .run .result) _ _ _ _ _ (l .before .before .before .before .before .state .ensures)
+    (lent-on (a .v .now) (a .m .now) (a .gains .now) (a .entries .now) _ _ _ _ _ (y-lent l .front) (xi-lent l .front) (decision-lent l .front) (z-lent l .front) (theta-lent l .front))
+    (r .run .ensures) _ _ _ _ _ (y-lent l .rest) (xi-lent l .rest) (decision-lent l .rest) (z-lent l .rest) (theta-lent l .rest)
+
+pub run-on-spec : {M : Type 1} → statement M
+run-on-spec =
+    tie.close
+    (tie.spec
+    filled-longs-requires
+    filled-bytes-requires
+    filled-signed-requires
+    filled-longs-requires-2
+    filled-bytes-requires-2
+    state-requires
+    length-at-requires
+    cast-a
+    length-at-requires-2
+    cast-b
+    length-at-requires-3
+    cast-c
+    length-at-requires-4
+    cast-d
+    length-at-requires-5
+    cast-f
+    array-borrow-prefix-y
+    slice-aggregate-run
+    array-borrow-prefix-xi
+    slice-aggregate-run-2
+    array-borrow-prefix-decision
+    slice-aggregate-run-3
+    array-borrow-prefix-z
+    slice-aggregate-run-4
+    array-borrow-prefix-theta
+    slice-aggregate-run-5
+    run-requires
+    returns)

@@ -1,0 +1,63 @@
+-- Comparisons of bytes, and of what a block hands out with bytes.
+use mathlib.Core.Bool.{Bool, true, false, _&&_}
+use mathlib.Core.List.{List, [], _∷_}
+use Prim.Native.Nat.{ℕ, zero, suc, _+_, _-_, _*_, _^_}
+use lib.Dec.{eqb}
+use lib.ListN.{getD, take, drop}
+use lib.IntN.{ℤ, pos}
+use mir.Syntax.{w8, w32}
+use mir.Val.{ofZ}
+use Rattle.trace_text.specs.Trace.{byteAt, number32}
+use Rattle.vectors.specs.declared.compare.BlockResult.{BlockResult}
+
+-- no place that is read lies as far
+abbrev pub farthest : ℕ
+farthest = 2 ^ 40
+
+abbrev pub equal : List ℕ → List ℕ → Bool
+equal [] [] = true
+equal [] (y ∷ b) = false
+equal (x ∷ a) [] = false
+equal (x ∷ a) (y ∷ b) = eqb x y && equal a b
+
+-- n bytes from a place on
+abbrev pub part : ℕ → ℕ → List ℕ → List ℕ
+part at n v = take n (drop at v)
+
+-- the bytes from one place to another
+abbrev pub between : ℕ → ℕ → List ℕ → List ℕ
+between from to v = part from (to - from) v
+
+-- a test of all numbers below n
+abbrev pub below : ℕ → (ℕ → Bool) → Bool
+below zero p = true
+below (suc n) p = below n p && p n
+
+-- what a sample hands out, in bytes: Y, ξ, decision, Z and θ
+abbrev pub ξPlace : ℕ
+ξPlace = 4
+
+abbrev pub decisionPlace : ℕ
+decisionPlace = ξPlace + 1
+
+abbrev pub ZPlace : ℕ
+ZPlace = decisionPlace + 1
+
+abbrev pub θPlace : ℕ
+θPlace = ZPlace + 4
+
+abbrev pub sampleBytes : ℕ
+sampleBytes = θPlace + 1
+
+-- the same at the front of bytes
+abbrev pub sameSample : List ℕ → ℤ → ℕ → ℤ → ℤ → ℕ → Bool
+sameSample v y ξ d z θ =
+    eqb (ofZ w32 y) (number32 v 0) && eqb ξ (byteAt v ξPlace) && eqb (ofZ w8 d) (byteAt v decisionPlace) && eqb (ofZ w32 z) (number32 v ZPlace) && eqb θ (byteAt v θPlace)
+
+-- for one sample of a block, and for its first n
+abbrev pub sameAt : List ℕ → BlockResult → ℕ → Bool
+sameAt v r i =
+    sameSample (part (sampleBytes * i) sampleBytes v) (getD (r .y) i (pos 0)) (getD (r .xi) i 0) (getD (r .decision) i (pos 0)) (getD (r .z) i (pos 0)) (getD (r .theta) i 0)
+
+unfoldable pub sameOutputs : List ℕ → ℕ → BlockResult → Bool
+sameOutputs v n r = below n (sameAt v r)

@@ -1,0 +1,6 @@
+pub mod Compare
+pub mod Trace
+pub mod Record
+pub mod Block
+pub mod Kind
+pub mod Sample

@@ -1,0 +1,69 @@
+-- A record in bytes: twelve as in the image, the weights, the data. The bytes of its saved image are among them.
+use mathlib.Core.Bool.{Bool, _&&_, cond}
+use mathlib.Core.List.{List, _++_}
+use Prim.Native.Nat.{ℕ, _+_, _-_, _*_}
+use lib.Dec.{leb, eqb}
+use lib.ListN.{take, drop, replicate}
+use Rattle.steps.specs.Limits.{places}
+use Rattle.state.specs.State.{taps, padded}
+use Rattle.state.specs.declared.equaliser.Equaliser.{Equaliser}
+use Rattle.image.specs.Image.{headerLength, header, words, image, imageLength, saveNumber}
+use Rattle.image.specs.Load.{wordsOf}
+use Rattle.trace_text.specs.Trace.{byteAt, number32}
+use Rattle.vectors.specs.Compare.{equal, part, between}
+
+abbrev pub wordsLength : ℕ
+wordsLength = 2 * places
+
+abbrev pub pastPlace : ℕ
+pastPlace = headerLength + wordsLength
+
+abbrev pub recordLength : ℕ
+recordLength = pastPlace + wordsLength
+
+-- the state that bytes say
+unfoldable pub recordIn : List ℕ → Equaliser
+recordIn v = record {
+  p = byteAt v 0;
+  q = byteAt v 1;
+  n = byteAt v 2;
+  r = byteAt v 3;
+  l = byteAt v 4;
+  psi = byteAt v 5;
+  b = byteAt v 6;
+  big = byteAt v 7;
+  m = number32 v 8;
+  weights = padded (wordsOf (part headerLength wordsLength v));
+  past = padded (wordsOf (part pastPlace wordsLength v));
+}
+
+-- whether a state is the one that bytes say, spare places among them
+unfoldable pub sameRecord : Equaliser → List ℕ → Bool
+sameRecord s v =
+    equal (header s) (take headerLength v) && equal (words (s .weights)) (part headerLength wordsLength v)
+    && equal (words (s .past)) (part pastPlace wordsLength v)
+
+-- ---- a lent buffer for the saved image
+
+-- what lists and buffers are filled with before they are lent
+abbrev pub fill : ℕ
+fill = 165
+
+-- room for any image, and bytes behind it
+abbrev pub bufferLength : ℕ
+bufferLength = recordLength + 20
+
+unfoldable pub buffer : List ℕ
+buffer = replicate bufferLength fill
+
+-- the buffer after the state is saved
+unfoldable pub saved : Equaliser → List ℕ
+saved s = cond (eqb (saveNumber s buffer) 0) (image s ++ drop (imageLength s) buffer) buffer
+
+-- whether the state saves as the image of the record in v, and the bytes after it are as they were
+unfoldable pub sameSaved : Equaliser → List ℕ → Bool
+sameSaved s v =
+    let mid = headerLength + 2 * taps s in
+    let end = mid + 2 * taps s in
+    eqb (saveNumber s buffer) 0 && leb (taps s) places && equal (between 0 mid (saved s)) (between 0 mid v)
+    && equal (between mid end (saved s)) (between pastPlace (pastPlace + 2 * taps s) v) && equal (between end bufferLength (saved s)) (between end bufferLength buffer)
