@@ -7,19 +7,23 @@ use lib.ListN.{take, drop, replicate}
 use Rattle.steps.specs.Limits.{places}
 use Rattle.state.specs.State.{taps, padded}
 use Rattle.state.specs.declared.equaliser.Equaliser.{Equaliser}
-use Rattle.image.specs.Image.{headerLength, header, words, image, imageLength, saveNumber}
+use Rattle.image.specs.Image.{width, headerLength, weightWord, datumWord, header, words, image, imageLength, dataPlace, endPlace, saveNumber}
 use Rattle.image.specs.Load.{wordsOf}
 use Rattle.trace_text.specs.Trace.{byteAt, number32}
 use Rattle.vectors.specs.Compare.{equal, part, between}
 
-abbrev pub wordsLength : ℕ
-wordsLength = 2 * places
+-- bytes of all weights, and of all data, the spare places among them
+abbrev pub weightsLength : ℕ
+weightsLength = width weightWord * places
+
+abbrev pub pastLength : ℕ
+pastLength = width datumWord * places
 
 abbrev pub pastPlace : ℕ
-pastPlace = headerLength + wordsLength
+pastPlace = dataPlace places
 
 abbrev pub recordLength : ℕ
-recordLength = pastPlace + wordsLength
+recordLength = endPlace places
 
 -- the state that bytes say
 unfoldable pub recordIn : List ℕ → Equaliser
@@ -33,15 +37,15 @@ recordIn v = record {
   b = byteAt v 6;
   big = byteAt v 7;
   m = number32 v 8;
-  weights = padded (wordsOf (part headerLength wordsLength v));
-  past = padded (wordsOf (part pastPlace wordsLength v));
+  weights = padded (wordsOf weightWord places (part headerLength weightsLength v));
+  past = padded (wordsOf datumWord places (part pastPlace pastLength v));
 }
 
 -- whether a state is the one that bytes say, spare places among them
 unfoldable pub sameRecord : Equaliser → List ℕ → Bool
 sameRecord s v =
-    equal (header s) (take headerLength v) && equal (words (s .weights)) (part headerLength wordsLength v)
-    && equal (words (s .past)) (part pastPlace wordsLength v)
+    equal (header s) (take headerLength v) && equal (words weightWord (s .weights)) (part headerLength weightsLength v)
+    && equal (words datumWord (s .past)) (part pastPlace pastLength v)
 
 -- ---- a lent buffer for the saved image
 
@@ -63,7 +67,7 @@ saved s = cond (eqb (saveNumber s buffer) 0) (image s ++ drop (imageLength s) bu
 -- whether the state saves as the image of the record in v, and the bytes after it are as they were
 unfoldable pub sameSaved : Equaliser → List ℕ → Bool
 sameSaved s v =
-    let mid = headerLength + 2 * taps s in
-    let end = mid + 2 * taps s in
+    let mid = dataPlace (taps s) in
+    let end = endPlace (taps s) in
     eqb (saveNumber s buffer) 0 && leb (taps s) places && equal (between 0 mid (saved s)) (between 0 mid v)
-    && equal (between mid end (saved s)) (between pastPlace (pastPlace + 2 * taps s) v) && equal (between end bufferLength (saved s)) (between end bufferLength buffer)
+    && equal (between mid end (saved s)) (between pastPlace (pastPlace + width datumWord * taps s) v) && equal (between end bufferLength (saved s)) (between end bufferLength buffer)

@@ -2,6 +2,7 @@
 ghost use mathlib.Core.Path.{_≡_};
 ghost use Prim.Native.Nat.{_≤_};
 ghost use lib.ListN.{length};
+ghost use mir.Syntax.{w16};
 ghost use Rattle.image.specs.Image.{words};
 ghost use Rattle.vectors.specs.Compare.{equal};
 ghost use Rattle.vectors.specs.Record.{recordLength, recordIn, sameRecord, buffer, sameSaved};
@@ -18,11 +19,12 @@ pub const FILL: u8 = 165;
 
 pub const RECORD: usize = Equaliser::IMAGE;
 
-const WORDS: usize = 2 * PLACES;
+const HEADER: usize = Equaliser::HEADER;
 
-const HEADER: usize = RECORD - 2 * WORDS;
+const PAST: usize = HEADER + Equaliser::WEIGHT * PLACES;
 
-const PAST: usize = HEADER + WORDS;
+// The bytes of all data, and of all weights.
+const WORDS: usize = Equaliser::DATUM * PLACES;
 
 // A buffer for any image, and bytes behind it.
 const BUFFER: usize = RECORD + 20;
@@ -32,8 +34,8 @@ pub fn state(v: &[u8]) -> Equaliser
     requires { ⌜ recordLength ≤ length (now v) ⌝ }
     ensures { λ e. ⌜ e ≡ recordIn (now (v .entry)) ⌝ }
 {
-    let weights = words_in(&v[HEADER..PAST]);
-    let past = words_in(&v[PAST..RECORD]);
+    let weights = words_in(&v[HEADER..PAST], PLACES);
+    let past = words_in(&v[PAST..RECORD], PLACES);
     Equaliser {
         p: v[0],
         q: v[1],
@@ -50,7 +52,7 @@ pub fn state(v: &[u8]) -> Equaliser
 }
 
 fn same_words(a: &[i16; PLACES], v: &[u8]) -> bool
-    ensures { λ r. ⌜ r ≡ equal (words (now (a .entry))) (now (v .entry)) ⌝ }
+    ensures { λ r. ⌜ r ≡ equal (words w16 (now (a .entry))) (now (v .entry)) ⌝ }
 {
     let mut bytes = [0u8; WORDS];
     put_words(a, &mut bytes);
@@ -96,9 +98,9 @@ pub fn same_saved(s: Equaliser, v: &[u8]) -> bool
     if taps > PLACES {
         return false;
     }
-    let mid = HEADER + 2 * taps;
-    let end = mid + 2 * taps;
-    let past = PAST + 2 * taps;
+    let mid = HEADER + Equaliser::WEIGHT * taps;
+    let end = mid + Equaliser::DATUM * taps;
+    let past = PAST + Equaliser::DATUM * taps;
     if !same_bytes(&after[0..mid], &v[0..mid]) {
         return false;
     }
