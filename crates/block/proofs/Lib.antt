@@ -12,4 +12,3 @@ pub mod BlockLeft
 pub mod RunStart
 pub mod RunLaws
 pub mod BlockHolds
-pub mod HandedLaws

@@ -18,7 +18,7 @@ use Rattle.steps.specs.Limits.{blockLimit, places}
 use Rattle.filter.proofs.DecisionSize.{decision-most}
 use Rattle.block.specs.Block.{g, at, entryAt, handedY, handedξ, handedDecision}
 use Rattle.block.proofs.ValuesLaws.{values-length, values-at}
-use Rattle.block.proofs.HandedLaws.{Y-long, ξ-long, decision-long}
+use Rattle.block.proofs.BlockLeft as Left
 use Rattle.block.proofs.BlockHolds.{at-sample}
 use Rattle.state.specs.State.{settings, memory}
 use Rattle.state.specs.declared.equaliser.Equaliser.{Equaliser}
@@ -113,17 +113,17 @@ module _ (e : Equaliser) (l : Lent) (place : ℕ) (run : runNumber e l ≡ 0) (w
 
   pub printable : AllPrintable place (handedY (settings e) (memory e) (block l)) (handedξ (settings e) (memory e) (block l)) (handedDecision (settings e) (memory e) (block l))
   printable =
-      let long = Y-long (settings e) (memory e) (block l) in
+      let long = Left.handed-long (settings e) (memory e) (block l) in
       record {
-        short = omega (arith, long, c .sound .within .N-most);
-        ξ-long = ξ-long (settings e) (memory e) (block l) ∙ sym long;
-        decisions-long = decision-long (settings e) (memory e) (block l) ∙ sym long;
-        each = λ i h. each i (omega (arith, long));
+        short = omega (arith, long .y-long, c .sound .within .N-most);
+        ξ-long = long .xi-long ∙ sym (long .y-long);
+        decisions-long = long .decision-long ∙ sym (long .y-long);
+        each = λ i h. each i (omega (arith, long .y-long));
       }
 
   pub block-short : length (blockLines place e l) ≤ lineLimit * e .n
   unfolding blockLines
-  block-short = lines-short place _ _ _ (e .n) printable (omega (arith, Y-long (settings e) (memory e) (block l)))
+  block-short = lines-short place _ _ _ (e .n) printable (omega (arith, Left.handed-long (settings e) (memory e) (block l) .y-long))
 
 -- ---- what an accepted block handed out, at the front of work areas
 
@@ -144,11 +144,9 @@ module _ {e : Equaliser} {l : Lent} {a : Answer} {y : List ℤ} {xi : List ℕ} 
   decision-is = r .decision-is ∙ taken _ _
 
   pub handed-long : (length y ≡ e .n) × (length xi ≡ e .n) × (length decision ≡ e .n)
-  handed-long = (
-    ap length Y-is ∙ Y-long (settings e) (memory e) (block l),
-    ap length ξ-is ∙ ξ-long (settings e) (memory e) (block l),
-    ap length decision-is ∙ decision-long (settings e) (memory e) (block l),
-  )
+  handed-long =
+      let long = Left.handed-long (settings e) (memory e) (block l) in
+      (ap length Y-is ∙ long .y-long, ap length ξ-is ∙ long .xi-long, ap length decision-is ∙ long .decision-long)
 
   module _ (place : ℕ) (ry : List ℤ) (rx : List ℕ) (rd : List ℤ) where
     front-Y : take (e .n) (y ++ ry) ≡ handedY (settings e) (memory e) (block l)

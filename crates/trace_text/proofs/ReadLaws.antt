@@ -1,40 +1,26 @@
--- Lists that a loop fills with the numbers in bytes, and the tests of a well-formed trace.
-use mathlib.Core.Path.{_≡_, refl, sym, ap, ap₂, _∙_}
+-- Lists that a loop fills with numbers, and the tests of a well-formed trace.
+use mathlib.Core.Path.{_≡_, sym, _∙_}
 use mathlib.Core.Bool.{true, false, _&&_}
-use mathlib.Core.List.{List, [], _∷_, _++_}
+use mathlib.Core.List.{List}
 use Prim.Native.Nat.{ℕ, _+_, _*_, _≤_, _<_}
 use native.Mathlib.Omega.{arith}
 use native.Mathlib.Nat.{mul-le-mul-right}
-use native.Mathlib.Numerals.{add-one}
 use lib.Dec.{leb, eqb}
-use lib.ListN.{length, take, set, length-set}
-use lib.Seq.{take-all, take-suc-set}
+use lib.ListN.{length, set}
 use borrow.Author.Tests.{le-leb, lt-leb, leb-true, eqb-true}
-use Rattle.laws.specs.Lists.{and-left, and-right}
+use Rattle.laws.specs.Lists.{and-left, and-right, Written, written-next, written-all}
 use Rattle.block.specs.Block.{values}
-use Rattle.block.proofs.HandedLaws.{values-none, values-next}
+use Rattle.block.proofs.ValuesLaws.{values-length, values-at}
 use Rattle.trace_text.specs.Trace.{headerLength, traceLimit, byteAt, samplesIn, wellFormed}
 
--- ---- the first i places hold the values of f
+-- ---- a loop writes the values of f
 
-module _ {A : Type 0} (f : ℕ → A) (before : List A) where
-  pub record Reading (i : ℕ) (l : List A) : Type 0 where
-    pub long : length l ≡ length before
-    pub is : take i l ≡ values f i
+module _ {A : Type 0} (f : ℕ → A) (n : ℕ) {old now : List A} {i : ℕ} (w : Written (values f n) old i now) where
+  pub values-written : (d x : A) → i < n → i < length old → x ≡ f i → Written (values f n) old (i + 1) (set now i x)
+  values-written d x h k e = written-next w d x (omega (arith, values-length f n)) k (e ∙ sym (values-at f d n i h))
 
-  pub reading-none : Reading 0 before
-  reading-none = record { long = refl; is = sym (values-none f) }
-
-  pub reading-next : (i : ℕ) (l : List A) (x : A) → i < length before → Reading i l → x ≡ f i → Reading (i + 1) (set l i x)
-  reading-next i l x h r e = record {
-    long = length-set l i x ∙ r .long;
-    is =
-        ap (λ (j : ℕ). take j (set l i x)) (add-one i) ∙ take-suc-set l i x (omega (arith, r .long))
-        ∙ ap₂ (λ (s : List A) (y : A). s ++ (y ∷ [])) (r .is) e ∙ sym (values-next f i) ∙ ap (values f) (sym (add-one i));
-  }
-
-  pub reading-all : (i : ℕ) (l : List A) → Reading i l → (n : ℕ) → i ≡ n → length before ≡ n → l ≡ values f n
-  reading-all i l r n e h = sym (take-all i l (omega (arith, r .long))) ∙ r .is ∙ ap (values f) e
+  pub values-all : length old ≡ n → n ≤ i → now ≡ values f n
+  values-all e h = written-all w (values-length f n ∙ sym e) (omega arith)
 
 -- ---- the tests of a well-formed trace
 

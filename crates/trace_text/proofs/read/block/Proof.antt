@@ -1,22 +1,23 @@
 -- One sample a turn, with its gain and its training entry, into the next place of each list.
-use mathlib.Core.Path.{_≡_, refl, ap, _∙_}
+use mathlib.Core.Path.{refl, ap, _∙_}
 use Prim.Native.Nat.{ℕ, _+_, _-_, _≤_, _<_}
 use native.Mathlib.Omega.{arith}
-use native.Mathlib.Nat.{le-antisymm}
 use lib.ListN.{length, getD}
+use lib.IntN.{pos}
 use mir.Syntax.{w8, w16}
 use mir.Val.{toZ}
 use borrow.Author.Needs.{needs}
 use Rattle.laws.specs.Machine.{kept}
-use Rattle.trace_text.specs.Trace.{traceLimit, sampleStart, sampleAt, gainAt, entryAt}
-use Rattle.trace_text.proofs.ReadLaws.{Reading, reading-none, reading-next, reading-all, well-long, well-most}
+use Rattle.laws.specs.Lists.{Written, written-none}
+use Rattle.trace_text.specs.Trace.{traceLimit, sampleStart, samplesFrom, gainsFrom, entriesFrom}
+use Rattle.trace_text.proofs.ReadLaws.{values-written, values-all, well-long, well-most}
 use Rattle.trace_text.proofs.read.block.Statement.{statement}
 use Rattle.trace_text.proofs.read.block.Tie as tie
 
 abbrev Inv-loop : tie.InvT-loop
 Inv-loop t first m₀ gains₀ entries₀ start i₀ m gains entries i =
-    (i ≤ length m₀) × Reading (λ j. sampleAt t (first + j)) m₀ i m × Reading (λ j. gainAt t (first + j)) gains₀ i gains
-    × Reading (λ j. entryAt t (first + j)) entries₀ i entries
+    Written (samplesFrom t first (length m₀)) m₀ i m × Written (gainsFrom t first (length m₀)) gains₀ i gains
+    × Written (entriesFrom t first (length m₀)) entries₀ i entries
 
 abbrev μ-loop : tie.MeasureT-loop
 μ-loop t first m₀ gains₀ entries₀ start i₀ m gains entries i = length m₀ - i
@@ -29,7 +30,7 @@ inside c =
     let s = c .before .before .before .before .before in
     let t = s .args .t .now in
     let h = s .pre .well-formed in
-    let below : c .before .loop .i < length (s .args .m .now) = omega (arith, c .loop-test .taken, c .before .loop .inv .1 .long) in
+    let below : c .before .loop .i < length (s .args .m .now) = omega (arith, c .loop-test .taken, c .before .loop .inv .0 .long) in
     (below, omega (arith, well-long t h, s .pre .within), omega (arith, well-long t h, s .pre .within, c .before .before .samples .ensures), well-most t h)
 
 samples-requires : tie.Need-samples-requires Inv-loop μ-loop
@@ -42,7 +43,7 @@ add-start : tie.Need-add-start Inv-loop μ-loop
 add-start c = omega (arith, c .samples .ensures, well-long _ (c .before .before .before .pre .well-formed), well-most _ (c .before .before .before .pre .well-formed))
 
 loop-holds : tie.Need-loop-holds Inv-loop μ-loop
-loop-holds c = (omega arith, reading-none _ _, reading-none _ _, reading-none _ _)
+loop-holds c = (written-none _ _, written-none _ _, written-none _ _)
 
 add-n : tie.Need-add-n Inv-loop μ-loop
 add-n c = omega (arith, inside c)
@@ -69,7 +70,7 @@ mul-t19 : tie.Need-mul-t19 Inv-loop μ-loop
 mul-t19 c = omega (arith, inside (c .before .before .before))
 
 slice-set-from-m : tie.Need-slice-set-from-m Inv-loop μ-loop
-slice-set-from-m c = omega (arith, inside (c .before .before .before), c .before .before .before .before .loop .inv .1 .long)
+slice-set-from-m c = omega (arith, inside (c .before .before .before), c .before .before .before .before .loop .inv .0 .long)
 
 add-gains : tie.Need-add-gains Inv-loop μ-loop
 add-gains c = omega (arith, inside (c .before .before .before))
@@ -78,7 +79,7 @@ shared-slice-read-gains : tie.Need-shared-slice-read-gains Inv-loop μ-loop
 shared-slice-read-gains c = omega (arith, inside (c .before .before .before .before))
 
 slice-write-gains : tie.Need-slice-write-gains Inv-loop μ-loop
-slice-write-gains c = omega (arith, inside (c .before .before .before .before), c .before .before .before .before .before .loop .inv .2 .long, c .before .before .before .before .before .before .before .before .before .pre .gains-long)
+slice-write-gains c = omega (arith, inside (c .before .before .before .before), c .before .before .before .before .before .loop .inv .1 .long, c .before .before .before .before .before .before .before .before .before .pre .gains-long)
 
 add-signed8 : tie.Need-add-signed8 Inv-loop μ-loop
 add-signed8 c = omega (arith, inside (c .before .before .before .before))
@@ -90,7 +91,7 @@ signed8-requires : tie.Need-signed8-requires Inv-loop μ-loop
 signed8-requires c κs = search needs
 
 slice-set-from-entries : tie.Need-slice-set-from-entries Inv-loop μ-loop
-slice-set-from-entries c = omega (arith, inside (c .before .before .before .before .before .before), c .before .before .before .before .before .before .before .loop .inv .3 .long, c .before .before .before .before .before .before .before .before .before .before .before .pre .entries-long)
+slice-set-from-entries c = omega (arith, inside (c .before .before .before .before .before .before), c .before .before .before .before .before .before .before .loop .inv .2 .long, c .before .before .before .before .before .before .before .before .before .before .before .pre .entries-long)
 
 add-i : tie.Need-add-i Inv-loop μ-loop
 add-i c = omega (arith, inside (c .before .before .before .before .before .before))
@@ -104,31 +105,30 @@ loop-again c =
     let l = c .before .before .before .before .before .before .before .loop in
     let h = inside (c .before .before .before .before .before .before) .0 in
     let n = s .args .first + l .i in (
-      omega (arith, h),
-      reading-next _ _ (l .i) (l .m) _ h (l .inv .1) (kept w16 _ (c .before .before .before .signed16 .ok) ∙ c .before .before .before .signed16 .ensures),
-      reading-next _ _ (l .i) (l .gains) _ (omega (arith, h, s .pre .gains-long)) (l .inv .2) refl,
-      reading-next _ _ (l .i) (l .entries) _ (omega (arith, h, s .pre .entries-long)) (l .inv .3)
+      values-written _ _ (l .inv .0) (pos 0) _ h h (kept w16 _ (c .before .before .before .signed16 .ok) ∙ c .before .before .before .signed16 .ensures),
+      values-written _ _ (l .inv .1) 0 _ h (omega (arith, h, s .pre .gains-long)) refl,
+      values-written _ _ (l .inv .2) (pos 0) _ h (omega (arith, h, s .pre .entries-long))
           (kept w8 _ (c .signed8 .ok) ∙ c .signed8 .ensures ∙ ap (λ (m : ℕ). toZ w8 (getD (s .args .t .now) (sampleStart m + n) 0)) (c .before .before .before .before .before .before .before .before .samples .ensures)),
     )
 
 same-length : tie.Need-same-length Inv-loop μ-loop
-same-length c = c .before .loop .inv .1 .long
+same-length c = c .before .loop .inv .0 .long
 
 same-length-2 : tie.Need-same-length-2 Inv-loop μ-loop
-same-length-2 c = c .before .loop .inv .2 .long
+same-length-2 c = c .before .loop .inv .1 .long
 
 same-length-3 : tie.Need-same-length-3 Inv-loop μ-loop
-same-length-3 c = c .before .loop .inv .3 .long
+same-length-3 c = c .before .loop .inv .2 .long
 
 returns : tie.Need-returns Inv-loop μ-loop
 returns c =
     let s = c .before .before .before .before .before in
     let l = c .before .loop in
-    let all : l .i ≡ length (s .args .m .now) = le-antisymm (l .inv .0) (omega (arith, c .loop-test .left, l .inv .1 .long)) in
+    let done : length (s .args .m .now) ≤ l .i = omega (arith, c .loop-test .left, l .inv .0 .long) in
     record {
-      m-is = reading-all _ _ (l .i) (l .m) (l .inv .1) _ all refl;
-      gains-is = reading-all _ _ (l .i) (l .gains) (l .inv .2) _ all (s .pre .gains-long);
-      entries-is = reading-all _ _ (l .i) (l .entries) (l .inv .3) _ all (s .pre .entries-long);
+      m-is = values-all _ _ (l .inv .0) refl done;
+      gains-is = values-all _ _ (l .inv .1) (s .pre .gains-long) done;
+      entries-is = values-all _ _ (l .inv .2) (s .pre .entries-long) done;
     }
 
 pub block-spec : {M : Type 1} → statement M
