@@ -61,6 +61,12 @@ pub record Passed (k : Settings) (o : Memory) (i : Block) (samples : List ℤ) (
   pub delay-most : delay ≤ tapLimit + w .n
   pub longest-at : LongestAt (k .r) delay (newest (k .q) (w .n) (w .symbols))
 
+-- what is stored of a sample is what it gave
+pub record StoredAs (t : SampleResult) (y decision z : ℤ) : Type 0 where
+  pub y-as : y ≡ t .y
+  pub decision-as : decision ≡ t .decision
+  pub z-as : z ≡ t .z
+
 -- these are all that are run
 pub progressed : {k : Settings} {o : Memory} {i : Block} {samples : List ℤ} {l : Outputs} {w : Work} → Reached k o i samples l w → w .n ≡ count k o i (k .N) →
     ProgressedOn k o i samples l (record { count = w .n; psi = w .ψ }) (w .forward) (w .back) (w .symbols) (w .outputs)
@@ -141,7 +147,7 @@ module _ {k : Settings} {o : Memory} {i : Block} {e : BlockExponents} {ψ : ℕ}
       }
 
       module _ {t : SampleResult} {forward back : List ℤ} (symbols : List ℤ) (h : SampleResult-is k (e .g) taps entry t forward back (newest (suc (k .q)) (suc (w .n)) symbols))
-          (long : length symbols ≡ lineLength) {ty td tz : ℤ} (ey : ty ≡ t .y) (ed : td ≡ t .decision) (ez : tz ≡ t .z) where
+          (long : length symbols ≡ lineLength) {ty td tz : ℤ} (same : StoredAs t ty td tz) where
         -- a step of the definitions
         step : SampleResult-is k (g k o i) (at k o i (w .n)) (entryAt k o i (w .n)) t forward back (newest (suc (k .q)) (suc (w .n)) symbols)
         step = rw (taps-at, b .exponents .g-is, entry-is) at h
@@ -179,10 +185,10 @@ module _ {k : Settings} {o : Memory} {i : Block} {e : BlockExponents} {ψ : ℕ}
           within = omega arith;
           symbols-long = long;
           taps-are = rw (add-one (w .n)) taps-next;
-          y-written = written-next (p .reached .y-written) (pos 0) _ (rw values-length more) (rw (b .outputs-long .y-long) more) (ey ∙ step .y ∙ sym (values-at _ (pos 0) (k .N) (w .n) more));
+          y-written = written-next (p .reached .y-written) (pos 0) _ (rw values-length more) (rw (b .outputs-long .y-long) more) (same .y-as ∙ step .y ∙ sym (values-at _ (pos 0) (k .N) (w .n) more));
           xi-written = written-next (p .reached .xi-written) 0 _ (rw values-length more) (rw (b .outputs-long .xi-long) more) (step .xi ∙ sym (values-at _ 0 (k .N) (w .n) more));
-          decision-written = written-next (p .reached .decision-written) (pos 0) _ (rw values-length more) (rw (b .outputs-long .decision-long) more) (ed ∙ step .decision-is ∙ sym (values-at _ (pos 0) (k .N) (w .n) more));
-          z-written = written-next (p .reached .z-written) (pos 0) _ (rw values-length more) (rw (b .outputs-long .z-long) more) (ez ∙ step .z ∙ sym (values-at _ (pos 0) (k .N) (w .n) more));
+          decision-written = written-next (p .reached .decision-written) (pos 0) _ (rw values-length more) (rw (b .outputs-long .decision-long) more) (same .decision-as ∙ step .decision-is ∙ sym (values-at _ (pos 0) (k .N) (w .n) more));
+          z-written = written-next (p .reached .z-written) (pos 0) _ (rw values-length more) (rw (b .outputs-long .z-long) more) (same .z-as ∙ step .z ∙ sym (values-at _ (pos 0) (k .N) (w .n) more));
           theta-written = written-next (p .reached .theta-written) 0 _ (rw values-length more) (rw (b .outputs-long .theta-long) more) (step .theta ∙ sym (values-at _ 0 (k .N) (w .n) more));
         }
 

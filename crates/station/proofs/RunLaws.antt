@@ -48,6 +48,16 @@ copied-part {l = l} {r = r} rest n p e h = first-part n r ∙ ap (take n) (e ∙
 pub area-long : {A : Type 0} (x : A) {n : ℕ} → n ≤ blockLimit → length (take (n - 0) (replicate blockLimit x)) ≡ n
 area-long x {n = n} h = ap length (first-part n (replicate blockLimit x)) ∙ length-take-le n (replicate blockLimit x) (omega (arith, length-replicate blockLimit x))
 
+-- and what is written there
+pub area-room : {A : Type 0} (out rest : List A) {n : ℕ} → length out ≡ n → n ≤ length (out ++ rest)
+area-room out rest h = omega (arith, length-append out rest)
+
+pub area-back : {A : Type 0} (out rest : List A) {n : ℕ} → length out ≡ n → take (n - 0) (out ++ rest) ≡ out
+area-back out rest {n = n} h = first-part n (out ++ rest) ∙ take-at out rest n h
+
+pub area-copied : {A : Type 0} (out rest : List A) {m n : ℕ} → length out ≡ n → m ≡ n → length (take (n - 0) (out ++ rest)) ≡ m
+area-copied out rest h e = ap length (area-back out rest h) ∙ h ∙ sym e
+
 -- all but the last element
 but-last : (l : List ℤ) (z : ℤ) → take (length (l ++ (z ∷ [])) - 1) (l ++ (z ∷ [])) ≡ l
 but-last l z = rw (length-append, add-sub-cancel, take-append-seam) refl

@@ -5,7 +5,7 @@ ghost use Rattle.filter.specs.Calls.{settingsOf};
 ghost use Rattle.state.specs.State.{settings};
 ghost use Rattle.checks.specs.Calls.{lentOf, Checked};
 ghost use Rattle.station.specs.Answers.{Run};
-ghost use Rattle.station.specs.Calls.{Parts, ResultBytes, nextOf, RunChecked, handedOr};
+ghost use Rattle.station.specs.Calls.{Parts, ResultBytes, nextOf, RunChecked};
 use block::run::BlockResult;
 use filter::sample::Settings;
 use state::equaliser::Answer;
@@ -145,38 +145,6 @@ fn run_parts(
     }
 }
 
-// The run on work areas, which are handed out where the block is accepted.
-fn run_areas(
-    e: Equaliser,
-    m: &[i16],
-    gains: &[u8],
-    entries: &[i8],
-    ay: &mut [i32],
-    ax: &mut [u8],
-    ad: &mut [i8],
-    az: &mut [i32],
-    at: &mut [u8],
-    y: &mut [i32],
-    xi: &mut [u8],
-    decision: &mut [i8],
-    z: &mut [i32],
-    theta: &mut [u8],
-) -> Answer
-    requires { ⌜ (Checked e (blockOf (now m) (now gains) (now entries))) × (OutputsLong (settings e) (outputsOf (now ay) (now ax) (now ad) (now az) (now at))) × (OutputsLong (settings e) (outputsOf (now y) (now xi) (now decision) (now z) (now theta))) ⌝ }
-    ensures { λ a. ⌜ (RunChecked e (blockOf (now (m .entry)) (now (gains .entry)) (now (entries .entry))) (outputsOf (now (ay .entry)) (now (ax .entry)) (now (ad .entry)) (now (az .entry)) (now (at .entry))) a (outputsOf (now (ay .exit)) (now (ax .exit)) (now (ad .exit)) (now (az .exit)) (now (at .exit)))) × ((outputsOf (now (y .exit)) (now (xi .exit)) (now (decision .exit)) (now (z .exit)) (now (theta .exit))) ≡ handedOr e (blockOf (now (m .entry)) (now (gains .entry)) (now (entries .entry))) (outputsOf (now (y .entry)) (now (xi .entry)) (now (decision .entry)) (now (z .entry)) (now (theta .entry)))) ⌝ }
-{
-    let r = run_checked(e, m, gains, entries, ay, ax, ad, az, at);
-    if r.number != 0 {
-        return r;
-    }
-    super::copies::copy32(ay, y);
-    super::copies::copy_bytes(ax, xi);
-    super::copies::copy8(ad, decision);
-    super::copies::copy32(az, z);
-    super::copies::copy_bytes(at, theta);
-    r
-}
-
 // One block: the next state and five lists, or the number of the refusal and everything as it was.
 pub fn run(
     e: Equaliser,
@@ -205,7 +173,7 @@ pub fn run(
     let mut ad = [0i8; limits::BLOCK];
     let mut az = [0i32; limits::BLOCK];
     let mut at = [0u8; limits::BLOCK];
-    run_areas(
+    let r = run_checked(
         e,
         m,
         gains,
@@ -215,10 +183,14 @@ pub fn run(
         &mut ad[0..n],
         &mut az[0..n],
         &mut at[0..n],
-        y,
-        xi,
-        decision,
-        z,
-        theta,
-    )
+    );
+    if r.number != 0 {
+        return r;
+    }
+    super::copies::copy32(&ay[0..n], y);
+    super::copies::copy_bytes(&ax[0..n], xi);
+    super::copies::copy8(&ad[0..n], decision);
+    super::copies::copy32(&az[0..n], z);
+    super::copies::copy_bytes(&at[0..n], theta);
+    r
 }

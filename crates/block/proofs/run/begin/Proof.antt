@@ -11,30 +11,6 @@ use Rattle.block.proofs.ReceivedLaws.{received-longest}
 use Rattle.block.proofs.run.begin.Statement.{statement}
 use Rattle.block.proofs.run.begin.Tie as tie
 
-cast-scale-count : tie.Need-cast-scale-count
-cast-scale-count c = search needs
-
-scale-count-requires : tie.Need-scale-count-requires
-scale-count-requires c κs = search needs
-
-cast-scale-count-2 : tie.Need-cast-scale-count-2
-cast-scale-count-2 c = search needs
-
-scale-count-requires-2 : tie.Need-scale-count-requires-2
-scale-count-requires-2 c κs = search needs
-
-received-bits-requires : tie.Need-received-bits-requires
-received-bits-requires c κs = search needs
-
-cast-bit-length : tie.Need-cast-bit-length
-cast-bit-length c = search needs
-
-bit-length-requires : tie.Need-bit-length-requires
-bit-length-requires c κs = search needs
-
-larger-requires : tie.Need-larger-requires
-larger-requires c κs = search needs
-
 -- the places of the calls
 abbrev loud : tie.After-larger → tie.After-received-bits
 loud c = c .before .before
@@ -89,14 +65,5 @@ pub begin-spec : {M : Type 1} → statement M
 begin-spec =
     tie.close
     (tie.spec
-    cast-scale-count
-    scale-count-requires
-    cast-scale-count-2
-    scale-count-requires-2
-    received-bits-requires
-    cast-bit-length
-    bit-length-requires
-    larger-requires
-    add-t10
-    add-t12
-    returns)
+    (λ c. search needs) (λ c κs. search needs) (λ c. search needs) (λ c κs. search needs) (λ c κs. search needs)
+    (λ c. search needs) (λ c κs. search needs) (λ c κs. search needs) add-t10 add-t12 returns)

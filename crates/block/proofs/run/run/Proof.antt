@@ -40,28 +40,10 @@ exponents c = exponents-of (c .begin .ensures)
 rescale-all-requires : tie.Need-rescale-all-requires
 rescale-all-requires c κs = let b = c .before in window-storable (exponents b) (start b .pre)
 
-add-fill : tie.Need-add-fill
-add-fill c = search needs
-
-sub-fill : tie.Need-sub-fill
-sub-fill c = search needs
-
-part-stored-start : tie.Need-part-stored-start
-part-stored-start c = search needs
-
-part-stored-end : tie.Need-part-stored-end
-part-stored-end c = search needs
-
-slice-aggregate-fill : tie.Need-slice-aggregate-fill
-slice-aggregate-fill c = search needs
-
 fill-requires : tie.Need-fill-requires
 fill-requires c κs =
     let b = c .before .before .before .before .before .before .before in
     fill-bounds (exponents b) (start b .pre) (c .before .before .before .before .before .rescale-all .ensures) (search needs) refl
-
-slice-aggregate-start : tie.Need-slice-aggregate-start
-slice-aggregate-start c = search needs
 
 start-requires : tie.Need-start-requires
 start-requires c κs = (symbols-most (c .before .before .before .before .before .before .before .before .before .before .before .before .before .before .before .before .pre), refl)
@@ -89,12 +71,6 @@ begun c =
 
 -- ---- the samples
 
-slice-aggregate-run-samples : tie.Need-slice-aggregate-run-samples
-slice-aggregate-run-samples c = search needs
-
-slice-aggregate-run-samples-2 : tie.Need-slice-aggregate-run-samples-2
-slice-aggregate-run-samples-2 c = search needs
-
 run-samples-requires : tie.Need-run-samples-requires
 run-samples-requires c κs = let l = c .before .before .before .before .before .before .before .before .before .before in let s = start (opening l) in record { o = memory s; i = block s; begun = begun l }
 
@@ -117,9 +93,6 @@ progressed c = let s = start (opening (lined c)) in c .run-samples .ensures (mem
 
 -- ---- after the last sample
 
-slice-aggregate-newest : tie.Need-slice-aggregate-newest
-slice-aggregate-newest c = search needs
-
 newest-requires : tie.Need-newest-requires
 newest-requires c κs =
     let r = c .before .before .before .before .before .before .before .before .before .before .before .before in
@@ -127,41 +100,14 @@ newest-requires c κs =
     let q = start b .pre in
     (count-room (progressed r) (q .sound .within .N-most), begun (lined r) .sample-line .long, window-most (exponents b) q (rescaled (lined r) .rescale-all .ensures))
 
-slice-aggregate-newest-2 : tie.Need-slice-aggregate-newest-2
-slice-aggregate-newest-2 c = search needs
-
 newest-requires-2 : tie.Need-newest-requires-2
 newest-requires-2 c κs =
     let r = c .before .before .before .before .before .before .before .before .before .before .before .before .before .before .before .before in
     let s = start (opening (lined r)) in
     (count-room (progressed r) (s .pre .sound .within .N-most), symbols-long r, symbols-most (s .pre))
 
-same-length : tie.Need-same-length
-same-length c = search needs
-
-same-length-2 : tie.Need-same-length-2
-same-length-2 c = search needs
-
 same-length-3 : tie.Need-same-length-3
 same-length-3 c = c .before .before .before .before .before .newest .kept .1 .1 .0 ∙ rescaled (lined (c .before .before .before .before .before .before .before .before .before .before .before .before .before .before .before .before .before .before)) .rescale-all .kept .0
-
-same-length-4 : tie.Need-same-length-4
-same-length-4 c = search needs
-
-same-length-5 : tie.Need-same-length-5
-same-length-5 c = search needs
-
-same-length-6 : tie.Need-same-length-6
-same-length-6 c = search needs
-
-same-length-7 : tie.Need-same-length-7
-same-length-7 c = search needs
-
-same-length-8 : tie.Need-same-length-8
-same-length-8 c = search needs
-
-same-length-9 : tie.Need-same-length-9
-same-length-9 c = search needs
 
 returns : tie.Need-returns
 returns c =
@@ -174,30 +120,8 @@ pub run-spec : {M : Type 1} → statement M
 run-spec =
     tie.close
     (tie.spec
-    begin-requires
-    rescale-all-requires
-    add-fill
-    sub-fill
-    part-stored-start
-    part-stored-end
-    slice-aggregate-fill
-    fill-requires
-    slice-aggregate-start
-    start-requires
-    slice-aggregate-run-samples
-    slice-aggregate-run-samples-2
-    run-samples-requires
-    slice-aggregate-newest
-    newest-requires
-    slice-aggregate-newest-2
-    newest-requires-2
-    same-length
-    same-length-2
-    same-length-3
-    same-length-4
-    same-length-5
-    same-length-6
-    same-length-7
-    same-length-8
-    same-length-9
-    returns)
+    begin-requires rescale-all-requires (λ c. search needs) (λ c. search needs) (λ c. search needs)
+    (λ c. search needs) (λ c. search needs) fill-requires (λ c. search needs) start-requires (λ c. search needs)
+    (λ c. search needs) run-samples-requires (λ c. search needs) newest-requires (λ c. search needs)
+    newest-requires-2 (λ c. search needs) (λ c. search needs) same-length-3 (λ c. search needs)
+    (λ c. search needs) (λ c. search needs) (λ c. search needs) (λ c. search needs) (λ c. search needs) returns)

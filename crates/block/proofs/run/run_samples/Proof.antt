@@ -15,7 +15,7 @@ use Rattle.filter.specs.Calls.{settingsOf}
 use Rattle.block.specs.Block.{Block, Memory, Outputs}
 use Rattle.block.specs.Line.{place}
 use Rattle.block.specs.Calls.{outputsOf, BegunOn}
-use Rattle.block.proofs.RunLaws.{Work, Passed, passed-none, forward-long, back-long, finished, advanceable, passed-next, stopped, place-fits, place-within, within, line-place, delay-fits, next-fits, fewer}
+use Rattle.block.proofs.RunLaws.{Work, Passed, StoredAs, passed-none, forward-long, back-long, finished, advanceable, passed-next, stopped, place-fits, place-within, within, line-place, delay-fits, next-fits, fewer}
 use Rattle.block.proofs.run.run_samples.Statement.{statement}
 use Rattle.block.proofs.run.run_samples.Tie as tie
 
@@ -120,9 +120,6 @@ slice-write-theta c = let l = turn c .before in within (more (turn c)) (start l 
 symbols-long : (c : tie.After-advance Inv-loop μ-loop) → length (c .advance .last .1 .1 .1 .1 .1 .1 .1 .1 .1 .0) ≡ lineLength
 symbols-long c = c .advance .kept .1 .1 .1 .1 .1 .1 .1 .1 .1 .0 ∙ passed (turning c) .reached .symbols-long
 
-sub-next-delay : tie.Need-sub-next-delay Inv-loop μ-loop
-sub-next-delay c = omega arith
-
 sub-next-delay-2 : tie.Need-sub-next-delay-2 Inv-loop μ-loop
 sub-next-delay-2 c = omega (arith, room (turn c))
 
@@ -137,6 +134,17 @@ next-delay-requires c κs = let t = turn (c .before) in delay-fits (room t) (pas
 
 add-n : tie.Need-add-n Inv-loop μ-loop
 add-n c = let t = turn (c .before .before) in next-fits (t .before .loop .n) (room t)
+
+-- what is stored of the sample
+stored : (d : tie.After-struct-told3 Inv-loop μ-loop) → let t = called d .advance .result in
+    StoredAs t (toZ w32 (ofZ w32 (t .y))) (toZ w8 (ofZ w8 (t .decision))) (toZ w32 (ofZ w32 (t .z)))
+stored d =
+    let t = called d .advance .result in
+    record {
+      y-as = kept w32 (t .y) (omega (arith, d .before .before .struct-told .given));
+      decision-as = kept w8 (t .decision) (omega (arith, d .before .struct-told2 .given));
+      z-as = kept w32 (t .z) (omega (arith, d .struct-told3 .given));
+    }
 
 -- ---- ψ passes its limit
 
@@ -172,12 +180,7 @@ returns : tie.Need-returns Inv-loop μ-loop
 returns c o i b =
     let d = c .before .before .before in
     let a = called d in
-    let t = a .advance .result in
-    stopped b (turning a .loop .inv o i b) (more (turn d)) (read (turn-read a)) _ (a .advance .ensures) (symbols-long a)
-    (kept w32 (t .y) (omega (arith, d .before .before .struct-told .given)))
-    (kept w8 (t .decision) (omega (arith, d .before .struct-told2 .given)))
-    (kept w32 (t .z) (omega (arith, d .struct-told3 .given)))
-    (c .if1 .taken)
+    stopped b (turning a .loop .inv o i b) (more (turn d)) (read (turn-read a)) _ (a .advance .ensures) (symbols-long a) (stored d) (c .if1 .taken)
 
 -- ---- it keeps it
 
@@ -188,11 +191,7 @@ loop-again : tie.Need-loop-again Inv-loop μ-loop
 loop-again c o i b =
     let d = c .before .before .before in
     let a = called d in
-    let t = a .advance .result in
-    passed-next b (turning a .loop .inv o i b) (more (turn d)) (read (turn-read a)) _ (a .advance .ensures) (symbols-long a)
-    (kept w32 (t .y) (omega (arith, d .before .before .struct-told .given)))
-    (kept w8 (t .decision) (omega (arith, d .before .struct-told2 .given)))
-    (kept w32 (t .z) (omega (arith, d .struct-told3 .given)))
+    passed-next b (turning a .loop .inv o i b) (more (turn d)) (read (turn-read a)) _ (a .advance .ensures) (symbols-long a) (stored d)
     (c .if1 .left) (kept w16 _ (c .before .before .next-delay-arg .given)) (c .before .next-delay .ensures)
 
 -- ---- after the last sample
@@ -229,41 +228,9 @@ pub run-samples-spec : {M : Type 1} → statement M
 run-samples-spec =
     tie.close
     (tie.spec
-    Inv-loop
-    μ-loop
-    loop-holds
-    shared-slice-copy-out-advance
-    advance-requires
-    mul-ty
-    slice-set-from-ty
-    slice-write-xi
-    slice-set-from-td
-    mul-tz
-    slice-set-from-tz
-    slice-write-theta
-    sub-next-delay
-    sub-next-delay-2
-    mul-next-delay
-    slice-copy-out-next-delay
-    next-delay-requires
-    add-n
-    same-length
-    same-length-2
-    same-length-3
-    same-length-4
-    same-length-5
-    same-length-6
-    same-length-7
-    same-length-8
-    returns
-    loop-less
-    loop-again
-    same-length-9
-    same-length-10
-    same-length-11
-    same-length-12
-    same-length-13
-    same-length-14
-    same-length-15
-    same-length-16
-    returns-2)
+    Inv-loop μ-loop loop-holds shared-slice-copy-out-advance advance-requires mul-ty slice-set-from-ty
+    slice-write-xi slice-set-from-td mul-tz slice-set-from-tz slice-write-theta (λ c. omega arith)
+    sub-next-delay-2 mul-next-delay slice-copy-out-next-delay next-delay-requires add-n same-length same-length-2
+    same-length-3 same-length-4 same-length-5 same-length-6 same-length-7 same-length-8 returns loop-less
+    loop-again same-length-9 same-length-10 same-length-11 same-length-12 same-length-13 same-length-14
+    same-length-15 same-length-16 returns-2)

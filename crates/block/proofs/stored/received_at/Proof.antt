@@ -14,15 +14,6 @@ use Rattle.block.proofs.ReceivedLaws.{received-at}
 use Rattle.block.proofs.stored.received_at.Statement.{statement}
 use Rattle.block.proofs.stored.received_at.Tie as tie
 
-mul-received : tie.Need-mul-received
-mul-received c = search needs
-
-shared-slice-copy-out-received : tie.Need-shared-slice-copy-out-received
-shared-slice-copy-out-received c = search needs
-
-shared-slice-read-received : tie.Need-shared-slice-read-received
-shared-slice-read-received c = search needs
-
 received-requires : tie.Need-received-requires
 received-requires c κs =
     let s = c .before .before .before in
@@ -39,8 +30,4 @@ pub received-at-spec : {M : Type 1} → statement M
 received-at-spec =
     tie.close
     (tie.spec
-    mul-received
-    shared-slice-copy-out-received
-    shared-slice-read-received
-    received-requires
-    returns)
+    (λ c. search needs) (λ c. search needs) (λ c. search needs) received-requires returns)

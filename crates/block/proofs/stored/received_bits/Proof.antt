@@ -40,12 +40,6 @@ sized c =
     c .magnitude32 .ensures ∙ ap natAbs (kept w32 (c .before .received-at .result) (c .before .received-at .ok) ∙ c .before .received-at .ensures)
     ∙ sym (List·getD-map natAbs (samples (c .before .before .before .before .before)) (c .before .before .before .loop .i) (pos 0))
 
-add-i : tie.Need-add-i Inv-loop μ-loop
-add-i c = search needs
-
-loop-less : tie.Need-loop-less Inv-loop μ-loop
-loop-less c = omega arith
-
 loop-again : tie.Need-loop-again Inv-loop μ-loop
 loop-again c =
     let l = c .before .before .before .loop in
@@ -61,12 +55,5 @@ pub received-bits-spec : {M : Type 1} → statement M
 received-bits-spec =
     tie.close
     (tie.spec
-    Inv-loop
-    μ-loop
-    loop-holds
-    received-at-requires
-    magnitude32-requires
-    add-i
-    loop-less
-    loop-again
-    returns)
+    Inv-loop μ-loop loop-holds received-at-requires magnitude32-requires (λ c. search needs) (λ c. omega arith)
+    loop-again returns)

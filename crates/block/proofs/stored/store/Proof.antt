@@ -29,12 +29,6 @@ samples s = receivedAll (s .args .m .now) (s .args .gains .now)
 samples-long : (s : tie.Start Inv-loop μ-loop) → length (samples s) ≡ length (s .args .out .now)
 samples-long s = received-length (s .args .m .now) (s .args .gains .now) (s .pre .0 .receivable .same-length) ∙ sym (s .pre .1)
 
-difference-requires : tie.Need-difference-requires Inv-loop μ-loop
-difference-requires c κs = search needs
-
-difference-requires-2 : tie.Need-difference-requires-2 Inv-loop μ-loop
-difference-requires-2 c κs = search needs
-
 loop-holds : tie.Need-loop-holds Inv-loop μ-loop
 loop-holds c = written-none _ _
 
@@ -57,18 +51,6 @@ shifted-requires c κs =
     let f = each-at _ (samples s) (l .loop .i) (pos 0) (s .pre .0 .fitting) (omega (arith, samples-long s, c .before .loop-test .taken)) in
     rw (l .before .before .difference .ensures, l .before .difference2 .ensures, sample c) (shift-bounds x (s .args .places) (s .pre .0 .places-most) (f .0) (f .1))
 
-mul-t8 : tie.Need-mul-t8 Inv-loop μ-loop
-mul-t8 c = omega arith
-
-slice-set-from-out : tie.Need-slice-set-from-out Inv-loop μ-loop
-slice-set-from-out c = search needs
-
-add-i : tie.Need-add-i Inv-loop μ-loop
-add-i c = omega arith
-
-loop-less : tie.Need-loop-less Inv-loop μ-loop
-loop-less c = omega arith
-
 loop-again : tie.Need-loop-again Inv-loop μ-loop
 loop-again c =
     let l = c .before .before .before in
@@ -87,17 +69,5 @@ pub store-spec : {M : Type 1} → statement M
 store-spec =
     tie.close
     (tie.spec
-    Inv-loop
-    μ-loop
-    difference-requires
-    difference-requires-2
-    loop-holds
-    received-at-requires
-    shifted-requires
-    mul-t8
-    slice-set-from-out
-    add-i
-    loop-less
-    loop-again
-    same-length
-    returns)
+    Inv-loop μ-loop (λ c κs. search needs) (λ c κs. search needs) loop-holds received-at-requires shifted-requires
+    (λ c. omega arith) (λ c. search needs) (λ c. omega arith) (λ c. omega arith) loop-again same-length returns)

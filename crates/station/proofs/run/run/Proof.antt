@@ -1,19 +1,27 @@
--- The checks, and then the run on work areas of zeros.
-use mathlib.Core.Path.{_≡_, sym, _∙_}
-use Prim.Native.Nat.{_≤_}
-use native.Mathlib.Omega.{arith}
-use lib.ListN.{length}
-use lib.IntN.{pos}
+-- The checks, the run on work areas of zeros, and five copies where the block is accepted.
+use mathlib.Core.Path.{_≡_, sym, ap, _∙_}
+use mathlib.Core.List.{List}
+use Prim.Native.Nat.{ℕ, _-_, _≤_}
+use lib.ListN.{length, take, replicate}
+use lib.IntN.{ℤ, pos}
 use borrow.Author.Needs.{needs}
 use Rattle.steps.specs.Limits.{blockLimit, places}
+use Rattle.block.specs.Block.{Outputs}
+use Rattle.block.specs.Calls.{outputsOf, OutputsLong}
+use Rattle.block.proofs.BlockLeft.{same-outputs}
+use Rattle.state.specs.State.{settings}
 use Rattle.state.specs.declared.equaliser.Equaliser.{Equaliser}
 use Rattle.checks.specs.Checks.{Lent, block, checkNumber}
 use Rattle.checks.specs.Calls.{lentOf, Checked}
 use Rattle.checks.proofs.CheckLaws.{Long, long, checked-is}
-use Rattle.station.proofs.RunLaws.{area-long}
+use Rattle.station.proofs.RunLaws.{area-long, area-room, area-back, area-copied, handed-none, handed-new}
 use Rattle.station.proofs.AnswerLaws.{check-fails, refused, answered}
 use Rattle.station.proofs.run.run.Statement.{statement}
 use Rattle.station.proofs.run.run.Tie as tie
+
+-- the first n places of a work area
+abbrev area : {A : Type 0} → ℕ → A → List A
+area n x = take (n - 0) (replicate blockLimit x)
 
 abbrev state : tie.Start → Equaliser
 state c = c .args .e
@@ -49,148 +57,155 @@ checked c = let s = passed (c .before) in checked-is _ (lent s) (number (c .befo
 size : (c : tie.After-sixteen-bits) → state (passed (c .before)) .n ≤ blockLimit
 size c = checked c .sound .within .N-most
 
-checked-requires : tie.Need-checked-requires
-checked-requires c κs = search needs
+-- the areas as they are lent
+areas-long : (c : tie.After-sixteen-bits) → let n = state (passed (c .before)) .n in
+    OutputsLong (settings (state (passed (c .before)))) (outputsOf (area n (pos 0)) (area n 0) (area n (pos 0)) (area n (pos 0)) (area n 0))
+areas-long c = record {
+  y-long = area-long (pos 0) (size c);
+  xi-long = area-long 0 (size c);
+  decision-long = area-long (pos 0) (size c);
+  z-long = area-long (pos 0) (size c);
+  theta-long = area-long 0 (size c);
+}
 
-same-length : tie.Need-same-length
-same-length c = search needs
+-- the place of the run, and the areas after it
+abbrev going : tie.After-run-checked → tie.After-sixteen-bits
+going c = c .before .before .before .before .before .before .before
 
-same-length-2 : tie.Need-same-length-2
-same-length-2 c = search needs
+abbrev given : tie.After-run-checked → Outputs
+given c = let l = lent (passed (going c .before)) in outputsOf (l .y) (l .xi) (l .decision) (l .z) (l .theta)
 
-same-length-3 : tie.Need-same-length-3
-same-length-3 c = search needs
+abbrev y-out : tie.After-run-checked → List ℤ
+y-out c = c .run-checked .last .1 .1 .1 .1 .0
 
-same-length-4 : tie.Need-same-length-4
-same-length-4 c = search needs
+y-long : (c : tie.After-run-checked) → length (y-out c) ≡ state (passed (going c .before)) .n
+y-long c = c .run-checked .kept .1 .1 .1 .1 .0 ∙ areas-long (going c) .y-long
 
-same-length-5 : tie.Need-same-length-5
-same-length-5 c = search needs
+abbrev xi-out : tie.After-run-checked → List ℕ
+xi-out c = c .run-checked .last .1 .1 .1 .1 .1 .0
+
+xi-long : (c : tie.After-run-checked) → length (xi-out c) ≡ state (passed (going c .before)) .n
+xi-long c = c .run-checked .kept .1 .1 .1 .1 .1 .0 ∙ areas-long (going c) .xi-long
+
+abbrev decision-out : tie.After-run-checked → List ℤ
+decision-out c = c .run-checked .last .1 .1 .1 .1 .1 .1 .0
+
+decision-long : (c : tie.After-run-checked) → length (decision-out c) ≡ state (passed (going c .before)) .n
+decision-long c = c .run-checked .kept .1 .1 .1 .1 .1 .1 .0 ∙ areas-long (going c) .decision-long
+
+abbrev z-out : tie.After-run-checked → List ℤ
+z-out c = c .run-checked .last .1 .1 .1 .1 .1 .1 .1 .0
+
+z-long : (c : tie.After-run-checked) → length (z-out c) ≡ state (passed (going c .before)) .n
+z-long c = c .run-checked .kept .1 .1 .1 .1 .1 .1 .1 .0 ∙ areas-long (going c) .z-long
+
+abbrev theta-out : tie.After-run-checked → List ℕ
+theta-out c = c .run-checked .last .1 .1 .1 .1 .1 .1 .1 .1 .0
+
+theta-long : (c : tie.After-run-checked) → length (theta-out c) ≡ state (passed (going c .before)) .n
+theta-long c = c .run-checked .kept .1 .1 .1 .1 .1 .1 .1 .1 .0 ∙ areas-long (going c) .theta-long
+
+-- the run, from copy to copy
+abbrev first : tie.After-copy32 → tie.After-run-checked
+first c = c .before .before .before .before .before .before .before .before .before .before .before
+
+abbrev second : tie.After-copy-bytes → tie.After-run-checked
+second c = first (c .before .before .before .before .before)
+
+abbrev third : tie.After-copy8 → tie.After-run-checked
+third c = second (c .before .before .before .before .before .before)
+
+abbrev fourth : tie.After-copy322 → tie.After-run-checked
+fourth c = third (c .before .before .before .before .before)
 
 returns : tie.Need-returns
 returns c =
     let s = start (c .before) in
     refused _ (lent s) _ (check-fails _ (lent s) _ (c .before .checked .ensures) (c .if1 .taken)) (c .if1 .taken)
 
-sixteen-bits-requires : tie.Need-sixteen-bits-requires
-sixteen-bits-requires c κs = search needs
-
-cast-n : tie.Need-cast-n
-cast-n c = search needs
-
-sub-run-areas : tie.Need-sub-run-areas
-sub-run-areas c = search needs
-
-part-ay-start : tie.Need-part-ay-start
-part-ay-start c = search needs
-
 part-ay-end : tie.Need-part-ay-end
 part-ay-end c = size (c .before)
-
-sub-run-areas-2 : tie.Need-sub-run-areas-2
-sub-run-areas-2 c = search needs
-
-part-ax-start : tie.Need-part-ax-start
-part-ax-start c = search needs
 
 part-ax-end : tie.Need-part-ax-end
 part-ax-end c = size (c .before .before)
 
-sub-run-areas-3 : tie.Need-sub-run-areas-3
-sub-run-areas-3 c = search needs
-
-part-ad-start : tie.Need-part-ad-start
-part-ad-start c = search needs
-
 part-ad-end : tie.Need-part-ad-end
 part-ad-end c = size (c .before .before .before)
-
-sub-run-areas-4 : tie.Need-sub-run-areas-4
-sub-run-areas-4 c = search needs
-
-part-az-start : tie.Need-part-az-start
-part-az-start c = search needs
 
 part-az-end : tie.Need-part-az-end
 part-az-end c = size (c .before .before .before .before)
 
-sub-run-areas-5 : tie.Need-sub-run-areas-5
-sub-run-areas-5 c = search needs
-
-part-at-start : tie.Need-part-at-start
-part-at-start c = search needs
-
 part-at-end : tie.Need-part-at-end
 part-at-end c = size (c .before .before .before .before .before)
 
-run-areas-requires : tie.Need-run-areas-requires
-run-areas-requires c κs =
-    let k = c .before .before .before .before .before .before .before .before .before .before .before in
-    let l = lengths (k .before) in (
-      checked k,
-      record {
-        y-long = area-long (pos 0) (size k);
-        xi-long = area-long 0 (size k);
-        decision-long = area-long (pos 0) (size k);
-        z-long = area-long (pos 0) (size k);
-        theta-long = area-long 0 (size k);
-      },
-      record { y-long = l .y; xi-long = l .xi; decision-long = l .decision; z-long = l .z; theta-long = l .theta },
-    )
-
-same-length-6 : tie.Need-same-length-6
-same-length-6 c = search needs
-
-same-length-7 : tie.Need-same-length-7
-same-length-7 c = search needs
-
-same-length-8 : tie.Need-same-length-8
-same-length-8 c = search needs
-
-same-length-9 : tie.Need-same-length-9
-same-length-9 c = search needs
-
-same-length-10 : tie.Need-same-length-10
-same-length-10 c = search needs
+run-checked-requires : tie.Need-run-checked-requires
+run-checked-requires c κs = let k = c .before .before .before .before .before .before in (checked k, areas-long k)
 
 returns-2 : tie.Need-returns-2
 returns-2 c =
-    let r = c .before .before .before .before .before .before .before .before .before .before .before .before in
-    let k = r .before .before .before .before .before .before .before .before .before .before .before .before .before in
-    answered _ (lent (passed k)) (number k) (r .run-areas .ensures .0) (r .run-areas .ensures .1)
+    let r = c .before .before .before .before .before .before .before in
+    let k = going r .before in
+    answered _ (lent (passed k)) (number k) (r .run-checked .ensures) (handed-none (r .run-checked .ensures) (given r) (c .if2 .taken))
+
+part-copy32-end : tie.Need-part-copy32-end
+part-copy32-end c = let r = c .before .before .before .before .before .before .before .before in area-room (y-out r) _ (y-long r)
+
+copy32-requires : tie.Need-copy32-requires
+copy32-requires c κs = let r = c .before .before .before .before .before .before .before .before .before .before in area-copied (y-out r) _ (y-long r) (lengths (going r .before) .y)
+
+part-copy-bytes-end : tie.Need-part-copy-bytes-end
+part-copy-bytes-end c = let r = first (c .before .before) in area-room (xi-out r) _ (xi-long r)
+
+copy-bytes-requires : tie.Need-copy-bytes-requires
+copy-bytes-requires c κs = let r = first (c .before .before .before .before) in area-copied (xi-out r) _ (xi-long r) (lengths (going r .before) .xi)
+
+part-copy8-end : tie.Need-part-copy8-end
+part-copy8-end c = let r = second (c .before .before .before) in area-room (decision-out r) _ (decision-long r)
+
+copy8-requires : tie.Need-copy8-requires
+copy8-requires c κs = let r = second (c .before .before .before .before .before) in area-copied (decision-out r) _ (decision-long r) (lengths (going r .before) .decision)
+
+part-copy32-end-2 : tie.Need-part-copy32-end-2
+part-copy32-end-2 c = let r = third (c .before .before) in area-room (z-out r) _ (z-long r)
+
+copy32-requires-2 : tie.Need-copy32-requires-2
+copy32-requires-2 c κs = let r = third (c .before .before .before .before) in area-copied (z-out r) _ (z-long r) (lengths (going r .before) .z)
+
+part-copy-bytes-end-2 : tie.Need-part-copy-bytes-end-2
+part-copy-bytes-end-2 c = let r = fourth (c .before .before) in area-room (theta-out r) _ (theta-long r)
+
+copy-bytes-requires-2 : tie.Need-copy-bytes-requires-2
+copy-bytes-requires-2 c κs = let r = fourth (c .before .before .before .before) in area-copied (theta-out r) _ (theta-long r) (lengths (going r .before) .theta)
+
+returns-3 : tie.Need-returns-3
+returns-3 c =
+    let z = c .before .before .before .before .before .before .before in
+    let d = z .before .before .before .before .before in
+    let x = d .before .before .before .before .before .before in
+    let y = x .before .before .before .before .before in
+    let r = first y in
+    let k = going r .before in
+    answered _ (lent (passed k)) (number k) (r .run-checked .ensures)
+    (same-outputs
+    (y .copy32 .ensures ∙ area-back (y-out r) _ (y-long r))
+    (x .copy-bytes .ensures ∙ area-back (xi-out r) _ (xi-long r))
+    (d .copy8 .ensures ∙ area-back (decision-out r) _ (decision-long r))
+    (z .copy322 .ensures ∙ area-back (z-out r) _ (z-long r))
+    (c .before .before .copy-bytes2 .ensures ∙ area-back (theta-out r) _ (theta-long r))
+    ∙ handed-new (r .run-checked .ensures) (given r) (y .before .before .before .before .if2 .left) (areas-long (going r)))
 
 pub run-spec : {M : Type 1} → statement M
 run-spec =
     tie.close
     (tie.spec
-    checked-requires
-    same-length
-    same-length-2
-    same-length-3
-    same-length-4
-    same-length-5
-    returns
-    sixteen-bits-requires
-    cast-n
-    sub-run-areas
-    part-ay-start
-    part-ay-end
-    sub-run-areas-2
-    part-ax-start
-    part-ax-end
-    sub-run-areas-3
-    part-ad-start
-    part-ad-end
-    sub-run-areas-4
-    part-az-start
-    part-az-end
-    sub-run-areas-5
-    part-at-start
-    part-at-end
-    run-areas-requires
-    same-length-6
-    same-length-7
-    same-length-8
-    same-length-9
-    same-length-10
-    returns-2)
+    (λ c κs. search needs) (λ c. search needs) (λ c. search needs) (λ c. search needs) (λ c. search needs)
+    (λ c. search needs) returns (λ c κs. search needs) (λ c. search needs) (λ c. search needs) (λ c. search needs)
+    part-ay-end (λ c. search needs) (λ c. search needs) part-ax-end (λ c. search needs) (λ c. search needs)
+    part-ad-end (λ c. search needs) (λ c. search needs) part-az-end (λ c. search needs) (λ c. search needs)
+    part-at-end run-checked-requires (λ c. search needs) (λ c. search needs) (λ c. search needs)
+    (λ c. search needs) (λ c. search needs) returns-2 (λ c. search needs) (λ c. search needs) part-copy32-end
+    copy32-requires (λ c. search needs) (λ c. search needs) part-copy-bytes-end copy-bytes-requires
+    (λ c. search needs) (λ c. search needs) part-copy8-end copy8-requires (λ c. search needs) (λ c. search needs)
+    part-copy32-end-2 copy32-requires-2 (λ c. search needs) (λ c. search needs) part-copy-bytes-end-2
+    copy-bytes-requires-2 (λ c. search needs) (λ c. search needs) (λ c. search needs) (λ c. search needs)
+    (λ c. search needs) returns-3)

@@ -59,101 +59,26 @@ symbols-long c = search needs
 
 -- ---- what the code asks
 
-cast-p : tie.Need-cast-p
-cast-p c = search needs
-
-cast-q : tie.Need-cast-q
-cast-q c = search needs
-
-add-taps : tie.Need-add-taps
-add-taps c = search needs
-
-sub-fronted : tie.Need-sub-fronted
-sub-fronted c = search needs
-
-part-fronted-start : tie.Need-part-fronted-start
-part-fronted-start c = search needs
-
 part-fronted-end : tie.Need-part-fronted-end
 part-fronted-end c = weights-first _ _ (c .before .before .before .before .before .before .before .before .pre .0)
-
-fronted-requires : tie.Need-fronted-requires
-fronted-requires c κs = search needs
-
-mul-fronted : tie.Need-mul-fronted
-mul-fronted c = search needs
-
-sub-fronted-2 : tie.Need-sub-fronted-2
-sub-fronted-2 c = search needs
-
-part-fronted-start-2 : tie.Need-part-fronted-start-2
-part-fronted-start-2 c = search needs
 
 part-fronted-end-2 : tie.Need-part-fronted-end-2
 part-fronted-end-2 c = weights-room _ _ (c .before .before .before .before .before .before .before .before .before .before .before .pre .0)
 
-fronted-requires-2 : tie.Need-fronted-requires-2
-fronted-requires-2 c κs = search needs
-
-sub-fronted-3 : tie.Need-sub-fronted-3
-sub-fronted-3 c = search needs
-
-part-fronted-start-3 : tie.Need-part-fronted-start-3
-part-fronted-start-3 c = search needs
-
 part-fronted-end-3 : tie.Need-part-fronted-end-3
 part-fronted-end-3 c = past-first _ _ (c .before .before .before .before .before .before .before .before .before .before .before .before .before .before .pre .0)
-
-fronted-requires-3 : tie.Need-fronted-requires-3
-fronted-requires-3 c κs = search needs
-
-mul-fronted-2 : tie.Need-mul-fronted-2
-mul-fronted-2 c = search needs
-
-sub-fronted-4 : tie.Need-sub-fronted-4
-sub-fronted-4 c = search needs
-
-part-fronted-start-4 : tie.Need-part-fronted-start-4
-part-fronted-start-4 c = search needs
 
 part-fronted-end-4 : tie.Need-part-fronted-end-4
 part-fronted-end-4 c = past-room _ _ (c .before .before .before .before .before .before .before .before .before .before .before .before .before .before .before .before .before .pre .0)
 
-fronted-requires-4 : tie.Need-fronted-requires-4
-fronted-requires-4 c κs = search needs
-
-sub-run-parts : tie.Need-sub-run-parts
-sub-run-parts c = search needs
-
-part-forward-start : tie.Need-part-forward-start
-part-forward-start c = search needs
-
 part-forward-end : tie.Need-part-forward-end
 part-forward-end c = let k = c .before .before .before .before .before .before .before .before .before in omega (arith, forward-long k, sound (first k) .within .p-most)
-
-sub-run-parts-2 : tie.Need-sub-run-parts-2
-sub-run-parts-2 c = search needs
-
-part-back-start : tie.Need-part-back-start
-part-back-start c = search needs
 
 part-back-end : tie.Need-part-back-end
 part-back-end c = let k = c .before .before .before .before .before .before .before in omega (arith, back-long k, sound (second k) .within .q-most)
 
-sub-run-parts-3 : tie.Need-sub-run-parts-3
-sub-run-parts-3 c = search needs
-
-part-window-start : tie.Need-part-window-start
-part-window-start c = search needs
-
 part-window-end : tie.Need-part-window-end
 part-window-end c = let k = c .before .before .before .before .before in omega (arith, window-long k, sound (third k) .within .p-most)
-
-sub-run-parts-4 : tie.Need-sub-run-parts-4
-sub-run-parts-4 c = search needs
-
-part-symbols-start : tie.Need-part-symbols-start
-part-symbols-start c = search needs
 
 part-symbols-end : tie.Need-part-symbols-end
 part-symbols-end c = let k = c .before .before .before in omega (arith, symbols-long k, sound (fourth k) .within .q-most)
@@ -171,65 +96,15 @@ run-parts-requires c κs =
       outputs-long = s .pre .1;
     }
 
-same-length : tie.Need-same-length
-same-length c = search needs
-
-same-length-2 : tie.Need-same-length-2
-same-length-2 c = search needs
-
-same-length-3 : tie.Need-same-length-3
-same-length-3 c = search needs
-
-same-length-4 : tie.Need-same-length-4
-same-length-4 c = search needs
-
-same-length-5 : tie.Need-same-length-5
-same-length-5 c = search needs
-
-returns : tie.Need-returns
-returns c = search needs
-
 pub run-checked-spec : {M : Type 1} → statement M
 run-checked-spec =
     tie.close
     (tie.spec
-    cast-p
-    cast-q
-    add-taps
-    sub-fronted
-    part-fronted-start
-    part-fronted-end
-    fronted-requires
-    mul-fronted
-    sub-fronted-2
-    part-fronted-start-2
-    part-fronted-end-2
-    fronted-requires-2
-    sub-fronted-3
-    part-fronted-start-3
-    part-fronted-end-3
-    fronted-requires-3
-    mul-fronted-2
-    sub-fronted-4
-    part-fronted-start-4
-    part-fronted-end-4
-    fronted-requires-4
-    sub-run-parts
-    part-forward-start
-    part-forward-end
-    sub-run-parts-2
-    part-back-start
-    part-back-end
-    sub-run-parts-3
-    part-window-start
-    part-window-end
-    sub-run-parts-4
-    part-symbols-start
-    part-symbols-end
-    run-parts-requires
-    same-length
-    same-length-2
-    same-length-3
-    same-length-4
-    same-length-5
-    returns)
+    (λ c. search needs) (λ c. search needs) (λ c. search needs) (λ c. search needs) (λ c. search needs)
+    part-fronted-end (λ c κs. search needs) (λ c. search needs) (λ c. search needs) (λ c. search needs)
+    part-fronted-end-2 (λ c κs. search needs) (λ c. search needs) (λ c. search needs) part-fronted-end-3
+    (λ c κs. search needs) (λ c. search needs) (λ c. search needs) (λ c. search needs) part-fronted-end-4
+    (λ c κs. search needs) (λ c. search needs) (λ c. search needs) part-forward-end (λ c. search needs)
+    (λ c. search needs) part-back-end (λ c. search needs) (λ c. search needs) part-window-end (λ c. search needs)
+    (λ c. search needs) part-symbols-end run-parts-requires (λ c. search needs) (λ c. search needs)
+    (λ c. search needs) (λ c. search needs) (λ c. search needs) (λ c. search needs))

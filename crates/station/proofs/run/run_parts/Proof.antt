@@ -24,18 +24,6 @@ block s = blockOf (s .args .m .now) (s .args .gains .now) (s .args .entries .now
 abbrev lent : tie.Start → Outputs
 lent s = outputsOf (s .args .y .now) (s .args .xi .now) (s .args .decision .now) (s .args .z .now) (s .args .theta .now)
 
-settings-requires : tie.Need-settings-requires
-settings-requires c κs = search needs
-
-cast-run : tie.Need-cast-run
-cast-run c = search needs
-
-cast-run-2 : tie.Need-cast-run-2
-cast-run-2 c = search needs
-
-cast-run-3 : tie.Need-cast-run-3
-cast-run-3 c = search needs
-
 run-requires : tie.Need-run-requires
 run-requires c κs = R.runnable (c .before .before .before .before .before .before .before .before .before .before .before .before .before .before .before .before .pre) (c .before .before .before .before .before .before .before .before .before .before .before .before .settings .ensures)
 
@@ -80,33 +68,6 @@ past-room c n e =
     let w = start c .pre .checked .sound .within in
     omega (arith, window-long c, c .run .kept .1 .1 .1 .1 .1 .1 .1 .1 .1 .1 .0, R.long (start c .pre) .symbols-long, w .p-most, w .q-most)
 
-same-length : tie.Need-same-length
-same-length c = search needs
-
-same-length-2 : tie.Need-same-length-2
-same-length-2 c = search needs
-
-same-length-3 : tie.Need-same-length-3
-same-length-3 c = search needs
-
-same-length-4 : tie.Need-same-length-4
-same-length-4 c = search needs
-
-same-length-5 : tie.Need-same-length-5
-same-length-5 c = search needs
-
-same-length-6 : tie.Need-same-length-6
-same-length-6 c = search needs
-
-same-length-7 : tie.Need-same-length-7
-same-length-7 c = search needs
-
-same-length-8 : tie.Need-same-length-8
-same-length-8 c = search needs
-
-same-length-9 : tie.Need-same-length-9
-same-length-9 c = search needs
-
 returns : tie.Need-returns
 returns c =
     let r = c .before .before .before .before .before .before .before .before .before .before .before .before .before in
@@ -137,33 +98,6 @@ next-requires c κs =
     let d = c .before .before .before .before .before .before in
     R.result-bytes (start (ran d) .pre .checked) (result-is (ran d)) (d .if1 .left)
 
-same-length-10 : tie.Need-same-length-10
-same-length-10 c = search needs
-
-same-length-11 : tie.Need-same-length-11
-same-length-11 c = search needs
-
-same-length-12 : tie.Need-same-length-12
-same-length-12 c = search needs
-
-same-length-13 : tie.Need-same-length-13
-same-length-13 c = search needs
-
-same-length-14 : tie.Need-same-length-14
-same-length-14 c = search needs
-
-same-length-15 : tie.Need-same-length-15
-same-length-15 c = search needs
-
-same-length-16 : tie.Need-same-length-16
-same-length-16 c = search needs
-
-same-length-17 : tie.Need-same-length-17
-same-length-17 c = search needs
-
-same-length-18 : tie.Need-same-length-18
-same-length-18 c = search needs
-
 returns-2 : tie.Need-returns-2
 returns-2 c =
     let d = c .before .before .before .before .before .before .before in
@@ -174,34 +108,9 @@ pub run-parts-spec : {M : Type 1} → statement M
 run-parts-spec =
     tie.close
     (tie.spec
-    settings-requires
-    cast-run
-    cast-run-2
-    cast-run-3
-    run-requires
-    same-length
-    same-length-2
-    same-length-3
-    same-length-4
-    same-length-5
-    same-length-6
-    same-length-7
-    same-length-8
-    same-length-9
-    returns
-    sub-last
-    mul-window
-    slice-set-of-window
-    joined-requires
-    joined-requires-2
-    next-requires
-    same-length-10
-    same-length-11
-    same-length-12
-    same-length-13
-    same-length-14
-    same-length-15
-    same-length-16
-    same-length-17
-    same-length-18
-    returns-2)
+    (λ c κs. search needs) (λ c. search needs) (λ c. search needs) (λ c. search needs) run-requires
+    (λ c. search needs) (λ c. search needs) (λ c. search needs) (λ c. search needs) (λ c. search needs)
+    (λ c. search needs) (λ c. search needs) (λ c. search needs) (λ c. search needs) returns sub-last mul-window
+    slice-set-of-window joined-requires joined-requires-2 next-requires (λ c. search needs) (λ c. search needs)
+    (λ c. search needs) (λ c. search needs) (λ c. search needs) (λ c. search needs) (λ c. search needs)
+    (λ c. search needs) (λ c. search needs) returns-2)
