@@ -10,3 +10,4 @@ pub mod BlockSound
 pub mod RunStart
 pub mod RunLaws
 pub mod BlockHolds
+pub mod ValueLists

@@ -8,3 +8,5 @@ pub mod Lists
 pub mod Tables
 pub mod Sums
 pub mod Machine
+pub mod Comparisons
+pub mod Fills
