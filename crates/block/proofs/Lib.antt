@@ -12,3 +12,4 @@ pub mod BlockLeft
 pub mod RunStart
 pub mod RunLaws
 pub mod BlockHolds
+pub mod ValueLists

@@ -9,3 +9,5 @@ pub mod Tables
 pub mod Sums
 pub mod Machine
 pub mod Tests
+pub mod Comparisons
+pub mod Fills

@@ -21,9 +21,9 @@ use Rattle.vectors.specs.declared.blocks.Lists.{Lists}
 use Rattle.vectors.specs.declared.compare.BlockResult.{BlockResult}
 use Rattle.block.specs.Block.{values}
 use Rattle.block.proofs.ValuesLaws.{values-length}
-use Rattle.vectors.proofs.ListLaws.{take-values}
+use Rattle.block.proofs.ValueLists.{take-values}
 use Rattle.vectors.proofs.ReadLaws.{below16}
-use Rattle.vectors.proofs.CompareLaws.{below-at}
+use Rattle.laws.specs.Comparisons.{below-at}
 
 pub answer-below : (v : List ℕ) → ((i : ℕ) → byteAt v i < 256) → answerPlace v < 2 ^ 20
 answer-below v h = omega (arith, below16 v recordLength h, below16 v (recordLength + 2) h, below16 v (recordLength + 4) h)

@@ -2,5 +2,4 @@ pub mod ReadLaws
 pub mod CompareLaws
 pub mod TraceLaws
 pub mod RecordLaws
-pub mod ListLaws
 pub mod BlockLaws

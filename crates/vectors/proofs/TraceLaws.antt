@@ -12,8 +12,9 @@ use Rattle.trace_text.specs.Trace.{number32}
 use Rattle.trace_text.specs.Text.{traceText, textLimit}
 use Rattle.trace_text.specs.Calls.{Text-is}
 use Rattle.trace_text.specs.declared.Written.{Written}
-use Rattle.vectors.specs.Compare.{equal}
-use Rattle.vectors.specs.Trace.{lengthBytes, textPlace, textLength, textEnd, traceIn, textIn, TraceVector}
+use Rattle.laws.specs.Comparisons.{equal, equal-refl, equal-true}
+use Rattle.laws.specs.Lists.{and-right}
+use Rattle.vectors.specs.Trace.{lengthBytes, textPlace, textLength, textEnd, traceIn, textIn, written, TraceVector}
 use Rattle.vectors.specs.declared.Step.{Step}
 
 pub text-end : (v : List ℕ) (place n : ℕ) → place ≡ textPlace v → n ≡ number32 v (place - lengthBytes) → place + n ≡ textEnd v
@@ -65,3 +66,13 @@ module _ (v before : List ℕ) (place end : ℕ) (p : place ≡ textPlace v) (e 
         same = h ∙ ap₂ equal (ap₂ take {x = w .length - 0} {y = length (traceText (traceIn v))} (omega (arith, long)) text-front ∙ take-append-seam (traceText (traceIn v)) (drop (length (traceText (traceIn v))) before)) text-in ∙ sym compared;
         contents = text-front ∙ simp (whole-is, room);
       }
+
+-- ---- what it means
+
+-- it is told the same exactly if all of it is there, there is room for any text, and its text is that of its trace
+pub trace-same : {v before after : List ℕ} {r : Step} → TraceVector v before r after → r .same ≡ true → traceText (traceIn v) ≡ textIn v
+trace-same {v} {before} t e =
+    equal-true (traceText (traceIn v)) (textIn v) (and-right (written v before) (equal (traceText (traceIn v)) (textIn v)) (sym (t .same) ∙ e))
+
+pub same-trace : {v before after : List ℕ} {r : Step} → TraceVector v before r after → written v before ≡ true → traceText (traceIn v) ≡ textIn v → r .same ≡ true
+same-trace {v} t w e = t .same ∙ ap₂ _&&_ w (ap (λ (l : List ℕ). equal l (textIn v)) e ∙ equal-refl (textIn v))

@@ -15,7 +15,8 @@ use Rattle.state.specs.State.{settings, memory}
 use Rattle.checks.specs.Checks.{Lent, block}
 use Rattle.station.specs.Answers.{runNumber, runState, accepted}
 use Rattle.trace_text.specs.Trace.{byteAt, number16}
-use Rattle.vectors.specs.Compare.{between, below, sampleBytes, sameOutputs}
+use Rattle.laws.specs.Comparisons.{below}
+use Rattle.vectors.specs.Compare.{between, sampleBytes, sameOutputs}
 use Rattle.vectors.specs.Record.{fill, recordLength, recordIn, sameRecord, sameSaved}
 use Rattle.vectors.specs.declared.Step.{Step}
 use Rattle.vectors.specs.declared.compare.BlockResult.{BlockResult}

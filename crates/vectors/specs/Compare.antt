@@ -1,24 +1,19 @@
 -- Comparisons of bytes, and of what a block hands out with bytes.
-use mathlib.Core.Bool.{Bool, true, false, _&&_}
-use mathlib.Core.List.{List, [], _∷_}
-use Prim.Native.Nat.{ℕ, zero, suc, _+_, _-_, _*_, _^_}
+use mathlib.Core.Bool.{Bool, _&&_}
+use mathlib.Core.List.{List}
+use Prim.Native.Nat.{ℕ, _+_, _-_, _*_, _^_}
 use lib.Dec.{eqb}
 use lib.ListN.{getD, take, drop}
 use lib.IntN.{ℤ, pos}
 use mir.Syntax.{w8, w32}
 use mir.Val.{ofZ}
+use Rattle.laws.specs.Comparisons.{below}
 use Rattle.trace_text.specs.Trace.{byteAt, number32}
 use Rattle.vectors.specs.declared.compare.BlockResult.{BlockResult}
 
 -- no place that is read lies as far
 abbrev pub farthest : ℕ
 farthest = 2 ^ 40
-
-abbrev pub equal : List ℕ → List ℕ → Bool
-equal [] [] = true
-equal [] (y ∷ b) = false
-equal (x ∷ a) [] = false
-equal (x ∷ a) (y ∷ b) = eqb x y && equal a b
 
 -- n bytes from a place on
 abbrev pub part : ℕ → ℕ → List ℕ → List ℕ
@@ -27,11 +22,6 @@ part at n v = take n (drop at v)
 -- the bytes from one place to another
 abbrev pub between : ℕ → ℕ → List ℕ → List ℕ
 between from to v = part from (to - from) v
-
--- a test of all numbers below n
-abbrev pub below : ℕ → (ℕ → Bool) → Bool
-below zero p = true
-below (suc n) p = below n p && p n
 
 -- what a sample hands out, in bytes: Y, ξ, decision, Z and θ
 abbrev pub ξPlace : ℕ

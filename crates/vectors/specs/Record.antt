@@ -10,7 +10,8 @@ use Rattle.state.specs.declared.equaliser.Equaliser.{Equaliser}
 use Rattle.image.specs.Image.{width, headerLength, weightWord, datumWord, header, words, image, imageLength, dataPlace, endPlace, saveNumber}
 use Rattle.image.specs.Load.{wordsOf}
 use Rattle.trace_text.specs.Trace.{byteAt, number32}
-use Rattle.vectors.specs.Compare.{equal, part, between}
+use Rattle.laws.specs.Comparisons.{equal}
+use Rattle.vectors.specs.Compare.{part, between}
 
 -- bytes of all weights, and of all data, the spare places among them
 abbrev pub weightsLength : ℕ

@@ -7,7 +7,7 @@ use lib.Dec.{leb}
 use lib.ListN.{length, take, drop}
 use Rattle.trace_text.specs.Trace.{number32}
 use Rattle.trace_text.specs.Text.{traceText, textLimit}
-use Rattle.vectors.specs.Compare.{equal}
+use Rattle.laws.specs.Comparisons.{equal}
 use Rattle.vectors.specs.declared.Step.{Step}
 
 -- bytes of a length

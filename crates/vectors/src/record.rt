@@ -4,7 +4,7 @@ ghost use Prim.Native.Nat.{_≤_};
 ghost use lib.ListN.{length};
 ghost use mir.Syntax.{w16};
 ghost use Rattle.image.specs.Image.{words};
-ghost use Rattle.vectors.specs.Compare.{equal};
+ghost use Rattle.laws.specs.Comparisons.{equal};
 ghost use Rattle.vectors.specs.Record.{recordLength, recordIn, sameRecord, buffer, sameSaved};
 use super::compare::same_bytes;
 use image::bytes::number32;

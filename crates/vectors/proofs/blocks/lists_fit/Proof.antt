@@ -5,9 +5,8 @@ use native.Mathlib.Omega.{arith}
 use lib.Dec.{leb}
 use borrow.Author.Needs.{needs}
 use borrow.Author.Tests.{le-leb, lt-leb}
-use Rattle.vectors.specs.Compare.{below}
+use Rattle.laws.specs.Comparisons.{below, below-next, below-stop, below-end}
 use Rattle.vectors.specs.Block.{listCount, listLimit, lengthAt, listsFit}
-use Rattle.vectors.proofs.CompareLaws.{below-next, below-stop, below-end}
 use Rattle.vectors.proofs.blocks.lists_fit.Statement.{statement}
 use Rattle.vectors.proofs.blocks.lists_fit.Tie as tie
 

@@ -10,7 +10,7 @@ use Rattle.laws.specs.Lists.{Written, written-none}
 use Rattle.block.specs.Block.{values}
 use Rattle.vectors.specs.Block.{listLimit, sampleIn, entryIn}
 use Rattle.vectors.specs.declared.blocks.Lists.{Lists}
-use Rattle.vectors.proofs.ListLaws.{read-next, read-all}
+use Rattle.block.proofs.ValueLists.{read-next, read-all}
 use Rattle.vectors.proofs.blocks.lists_in.Statement.{statement}
 use Rattle.vectors.proofs.blocks.lists_in.Tie as tie
 

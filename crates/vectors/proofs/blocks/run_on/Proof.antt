@@ -3,7 +3,7 @@ use Prim.Native.Nat.{ℕ, _≤_, _<_}
 use native.Mathlib.Omega.{arith}
 use Rattle.vectors.specs.Record.{fill}
 use Rattle.vectors.specs.Block.{listCount, listLimit, lengthAt, fillLong, fillSigned, lentOn}
-use Rattle.vectors.proofs.ListLaws.{Lending, lending}
+use Rattle.laws.specs.Fills.{Lending, lending}
 use Rattle.vectors.proofs.BlockLaws.{list-fits, lent-on, result-on}
 use Rattle.vectors.proofs.blocks.run_on.Statement.{statement}
 use Rattle.vectors.proofs.blocks.run_on.Tie as tie

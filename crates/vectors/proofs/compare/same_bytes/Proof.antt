@@ -3,8 +3,7 @@ use Prim.Native.Nat.{_-_}
 use native.Mathlib.Omega.{arith}
 use lib.ListN.{length, drop}
 use borrow.Author.Needs.{needs}
-use Rattle.vectors.specs.Compare.{equal}
-use Rattle.vectors.proofs.CompareLaws.{lengths-differ, equal-next, equal-stop, equal-end}
+use Rattle.laws.specs.Comparisons.{equal, lengths-differ, equal-next, equal-stop, equal-end}
 use Rattle.vectors.proofs.compare.same_bytes.Statement.{statement}
 use Rattle.vectors.proofs.compare.same_bytes.Tie as tie
 

@@ -5,8 +5,9 @@ use native.Mathlib.Omega.{arith}
 use borrow.Author.Needs.{needs, sfits-of}
 use borrow.Author.Tests.{not-true, not-false}
 use Rattle.state.specs.State.{refused}
-use Rattle.vectors.specs.Compare.{below, sampleBytes, sameAt, sameOutputs}
-use Rattle.vectors.proofs.CompareLaws.{below-next, below-stop, below-end, sample-held}
+use Rattle.laws.specs.Comparisons.{below, below-next, below-stop, below-end}
+use Rattle.vectors.specs.Compare.{sampleBytes, sameAt, sameOutputs}
+use Rattle.vectors.proofs.CompareLaws.{sample-held}
 use Rattle.vectors.proofs.compare.same_outputs.Statement.{statement}
 use Rattle.vectors.proofs.compare.same_outputs.Tie as tie
 

@@ -6,7 +6,7 @@ use Prim.Native.Nat.{ℕ}
 use lib.ListN.{take}
 use borrow.Author.Tests.{not-true, not-false}
 use Rattle.image.specs.Image.{header, headerLength}
-use Rattle.vectors.specs.Compare.{equal}
+use Rattle.laws.specs.Comparisons.{equal}
 use Rattle.vectors.specs.Record.{sameRecord}
 use Rattle.vectors.proofs.record.same_record.Statement.{statement}
 use Rattle.vectors.proofs.record.same_record.Tie as tie

@@ -10,7 +10,8 @@ use borrow.Author.Tests.{not-true, not-false, le-leb, lt-leb, eq-eqb, ne-eqb}
 use Rattle.steps.specs.Limits.{places}
 use Rattle.state.specs.State.{taps}
 use Rattle.image.specs.Image.{headerLength, saveNumber}
-use Rattle.vectors.specs.Compare.{equal, between}
+use Rattle.laws.specs.Comparisons.{equal}
+use Rattle.vectors.specs.Compare.{between}
 use Rattle.vectors.specs.Record.{pastPlace, bufferLength, buffer, saved, sameSaved}
 use Rattle.vectors.proofs.RecordLaws.{buffer-length, number-is, saved-is}
 use Rattle.vectors.proofs.record.same_saved.Statement.{statement}

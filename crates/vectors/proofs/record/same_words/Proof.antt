@@ -2,7 +2,7 @@ use borrow.Author.Needs.{needs}
 use mathlib.Core.Path.{ap, _∙_}
 use mathlib.Core.List.{List}
 use Prim.Native.Nat.{ℕ}
-use Rattle.vectors.specs.Compare.{equal}
+use Rattle.laws.specs.Comparisons.{equal}
 use Rattle.vectors.proofs.record.same_words.Statement.{statement}
 use Rattle.vectors.proofs.record.same_words.Tie as tie
 
