@@ -30,15 +30,6 @@ returns c = text-short _ _ (c .if1 .taken)
 
 -- ---- not well formed
 
-well-formed-requires : tie.Need-well-formed-requires
-well-formed-requires c κs = search needs
-
-stop-line-requires : tie.Need-stop-line-requires
-stop-line-requires c κs = search needs
-
-same-length : tie.Need-same-length
-same-length c = search needs
-
 returns-2 : tie.Need-returns-2
 returns-2 c =
     let s = c .before .before in
@@ -81,12 +72,6 @@ shared-slice-read-number32-3 c = omega (arith, long (c .before .before .before .
 shared-slice-read-number32-4 : tie.Need-shared-slice-read-number32-4
 shared-slice-read-number32-4 c = omega (arith, long (c .before .before .before .before .before .before .before .before .before))
 
-number32-requires : tie.Need-number32-requires
-number32-requires c κs = search needs
-
-set-up-requires : tie.Need-set-up-requires
-set-up-requires c κs = search needs
-
 -- ---- set-up
 
 abbrev head : tie.After-set-up → tie.Else2
@@ -106,9 +91,6 @@ stop-line-requires-2 c κs =
     let s = c .before .before in
     omega (arith, set-up s .number, settings-most (settingsIn (bytes (head s .before .before))), room s)
 
-same-length-2 : tie.Need-same-length-2
-same-length-2 c = search needs
-
 returns-3 : tie.Need-returns-3
 returns-3 c =
     let l = c .before .before in
@@ -122,9 +104,6 @@ all-blocks-requires c κs =
     let f = c .before .before in
     traceable _ (well (head (f .before))) _ (set-up (f .before)) _ (room (f .before)) (f .if3 .left)
 
-same-length-3 : tie.Need-same-length-3
-same-length-3 c = search needs
-
 returns-4 : tie.Need-returns-4
 returns-4 c =
     let b = c .before .before in
@@ -136,25 +115,8 @@ pub text-spec : {M : Type 1} → statement M
 text-spec =
     tie.close
     (tie.spec
-    returns
-    well-formed-requires
-    stop-line-requires
-    same-length
-    returns-2
-    shared-slice-read-set-up
-    shared-slice-read-set-up-2
-    shared-slice-read-set-up-3
-    shared-slice-read-set-up-4
-    shared-slice-read-set-up-5
-    shared-slice-read-number32
-    shared-slice-read-number32-2
-    shared-slice-read-number32-3
-    shared-slice-read-number32-4
-    number32-requires
-    set-up-requires
-    stop-line-requires-2
-    same-length-2
-    returns-3
-    all-blocks-requires
-    same-length-3
-    returns-4)
+    returns (λ c κs. search needs) (λ c κs. search needs) (λ c. search needs) returns-2
+    shared-slice-read-set-up shared-slice-read-set-up-2 shared-slice-read-set-up-3 shared-slice-read-set-up-4
+    shared-slice-read-set-up-5 shared-slice-read-number32 shared-slice-read-number32-2
+    shared-slice-read-number32-3 shared-slice-read-number32-4 (λ c κs. search needs) (λ c κs. search needs)
+    stop-line-requires-2 (λ c. search needs) returns-3 all-blocks-requires (λ c. search needs) returns-4)

@@ -16,17 +16,8 @@ returns-2 c =
     let a = c .before .before .args in
     simp (le-ltb (a .size) 1 (c .before .if1 .left), lt-ltb (length (a .buf .now)) (a .size) (c .if2 .taken))
 
-slice-read-buf : tie.Need-slice-read-buf
-slice-read-buf c = search needs
-
 sub-buf : tie.Need-sub-buf
 sub-buf c = let a = c .before .before .before .args in omega (arith, c .slice-known .given (a .size - 1))
-
-slice-write-buf : tie.Need-slice-write-buf
-slice-write-buf c = search needs
-
-same-length : tie.Need-same-length
-same-length c = search needs
 
 returns-3 : tie.Need-returns-3
 returns-3 c =
@@ -36,4 +27,5 @@ returns-3 c =
 pub change-last-spec : {M : Type 1} → statement M
 change-last-spec =
     tie.close
-    (tie.spec returns returns-2 slice-read-buf sub-buf slice-write-buf same-length returns-3)
+    (tie.spec
+    returns returns-2 (λ c. search needs) sub-buf (λ c. search needs) (λ c. search needs) returns-3)

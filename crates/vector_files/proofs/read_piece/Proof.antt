@@ -6,24 +6,6 @@ use borrow.Rule.Slice.PartMut.{mid-len, take-put, drop-put}
 use Rattle.vector_files.proofs.read_piece.Statement.{statement}
 use Rattle.vector_files.proofs.read_piece.Tie as tie
 
-returns : tie.Need-returns
-returns c = search needs
-
-returns-2 : tie.Need-returns-2
-returns-2 c = search needs
-
-part-read-full-start : tie.Need-part-read-full-start
-part-read-full-start c = search needs
-
-part-read-full-end : tie.Need-part-read-full-end
-part-read-full-end c = search needs
-
-read-full-requires : tie.Need-read-full-requires
-read-full-requires c κs = search needs
-
-same-length : tie.Need-same-length
-same-length c = search needs
-
 returns-3 : tie.Need-returns-3
 returns-3 c =
     let r = c .before .before in
@@ -44,10 +26,5 @@ pub read-piece-spec : {M : Type 1} → statement M
 read-piece-spec =
     tie.close
     (tie.spec
-    returns
-    returns-2
-    part-read-full-start
-    part-read-full-end
-    read-full-requires
-    same-length
-    returns-3)
+    (λ c. search needs) (λ c. search needs) (λ c. search needs) (λ c. search needs) (λ c κs. search needs)
+    (λ c. search needs) returns-3)

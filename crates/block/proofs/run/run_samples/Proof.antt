@@ -230,7 +230,7 @@ run-samples-spec =
     (tie.spec
     Inv-loop μ-loop loop-holds shared-slice-copy-out-advance advance-requires mul-ty slice-set-from-ty
     slice-write-xi slice-set-from-td mul-tz slice-set-from-tz slice-write-theta (λ c. omega arith)
-    sub-next-delay-2 mul-next-delay slice-copy-out-next-delay next-delay-requires add-n same-length same-length-2
-    same-length-3 same-length-4 same-length-5 same-length-6 same-length-7 same-length-8 returns loop-less
-    loop-again same-length-9 same-length-10 same-length-11 same-length-12 same-length-13 same-length-14
-    same-length-15 same-length-16 returns-2)
+    sub-next-delay-2 mul-next-delay slice-copy-out-next-delay next-delay-requires add-n same-length
+    same-length-2 same-length-3 same-length-4 same-length-5 same-length-6 same-length-7 same-length-8 returns
+    loop-less loop-again same-length-9 same-length-10 same-length-11 same-length-12 same-length-13
+    same-length-14 same-length-15 same-length-16 returns-2)

@@ -10,12 +10,6 @@ use Rattle.numbers.specs.Cut.{cut, rescale}
 use Rattle.block.proofs.stored.shifted.Statement.{statement}
 use Rattle.block.proofs.stored.shifted.Tie as tie
 
-raise32-requires : tie.Need-raise32-requires
-raise32-requires c κs = search needs
-
-cut32-requires : tie.Need-cut32-requires
-cut32-requires c κs = search needs
-
 gave : (c : tie.After-cut32) → let a = c .before .before .args in c .cut32 .result ≡ rescale (a .x) (a .up) (a .down)
 gave c =
     let s = c .before .before in
@@ -32,4 +26,5 @@ returns : tie.Need-returns
 returns c = simp (kept w32 (c .cut32 .result) (c .cut32 .ok), toZ-ofZ (small c)) (gave c)
 
 pub shifted-spec : {M : Type 1} → statement M
-shifted-spec = tie.close (tie.spec raise32-requires cut32-requires cast-result returns)
+shifted-spec = tie.close (tie.spec
+    (λ c κs. search needs) (λ c κs. search needs) cast-result returns)

@@ -22,9 +22,6 @@ abbrev μ-loop : tie.MeasureT-loop
 loop-holds : tie.Need-loop-holds Inv-loop μ-loop
 loop-holds c = tested-none _ _
 
-shared-slice-copy-out-is-entry : tie.Need-shared-slice-copy-out-is-entry Inv-loop μ-loop
-shared-slice-copy-out-is-entry c = search needs
-
 element : (c : tie.After-is-entry-arg Inv-loop μ-loop) → SFits w8 (getD (c .before .before .before .args .xs .now) (c .before .before .loop .i) (pos 0))
 element c = sfits-of (c .is-entry-arg .given)
 
@@ -33,12 +30,6 @@ cast-is-entry c = simp (toZ-ofZ (element c)) (sfits-widen tt (element c))
 
 is-entry-requires : tie.Need-is-entry-requires Inv-loop μ-loop
 is-entry-requires c κs = c .before .before .before .pre
-
-add-i : tie.Need-add-i Inv-loop μ-loop
-add-i c = search needs
-
-loop-less : tie.Need-loop-less Inv-loop μ-loop
-loop-less c = omega arith
 
 loop-again : tie.Need-loop-again Inv-loop μ-loop
 loop-again c =
@@ -53,13 +44,5 @@ pub all-entries-spec : {M : Type 1} → statement M
 all-entries-spec =
     tie.close
     (tie.spec
-    Inv-loop
-    μ-loop
-    loop-holds
-    shared-slice-copy-out-is-entry
-    cast-is-entry
-    is-entry-requires
-    add-i
-    loop-less
-    loop-again
-    returns)
+    Inv-loop μ-loop loop-holds (λ c. search needs) cast-is-entry is-entry-requires (λ c. search needs)
+    (λ c. omega arith) loop-again returns)

@@ -20,15 +20,6 @@ abbrev μ-loop : tie.MeasureT-loop
 loop-holds : tie.Need-loop-holds Inv-loop μ-loop
 loop-holds c = record { is = simp (le-leb (c .args .l) 255 (omega arith)) }
 
-shared-slice-read-g : tie.Need-shared-slice-read-g Inv-loop μ-loop
-shared-slice-read-g c = search needs
-
-add-i : tie.Need-add-i Inv-loop μ-loop
-add-i c = search needs
-
-loop-less : tie.Need-loop-less Inv-loop μ-loop
-loop-less c = omega arith
-
 low-is : (c : tie.Joined1 Inv-loop μ-loop) →
     let l = c .before .before .before .loop in
     c .if1 .low ≡ min (l .low) (getD (c .before .before .before .before .args .gains .now) (l .i) 0)
@@ -55,11 +46,4 @@ pub all-gains-spec : {M : Type 1} → statement M
 all-gains-spec =
     tie.close
     (tie.spec
-    Inv-loop
-    μ-loop
-    loop-holds
-    shared-slice-read-g
-    add-i
-    loop-less
-    loop-again
-    returns)
+    Inv-loop μ-loop loop-holds (λ c. search needs) (λ c. search needs) (λ c. omega arith) loop-again returns)

@@ -43,34 +43,19 @@ lengths-off c = sym (c .before .lengths-fit .ensures) ∙ not-true _ (c .if2 .ta
 gains : (c : tie.Else3) → let s = first (second (third c)) in all (gainFits (s .args .e .l)) (s .args .gains .now) ≡ true
 gains c = sym (c .before .all-gains .ensures) ∙ not-false _ (c .if3 .left)
 
-examined-requires : tie.Need-examined-requires
-examined-requires c κs = search needs
-
 returns : tie.Need-returns
 returns c = state-fails _ (lent (start (c .before))) _ (c .before .examined .ensures) (c .if1 .taken)
-
-cast-lengths-fit : tie.Need-cast-lengths-fit
-cast-lengths-fit c = search needs
-
-lengths-fit-requires : tie.Need-lengths-fit-requires
-lengths-fit-requires c κs = search needs
 
 returns-2 : tie.Need-returns-2
 returns-2 c =
     let a = c .before .before .before in
     lengths-fail _ (lent (first a)) (sound a) (lengths-off c)
 
-all-gains-requires : tie.Need-all-gains-requires
-all-gains-requires c κs = search needs
-
 returns-3 : tie.Need-returns-3
 returns-3 c =
     let b = c .before .before in
     let a = second b in
     gains-fail _ (lent (first a)) (sound a) (lengths b) (sym (c .before .all-gains .ensures) ∙ not-true _ (c .if3 .taken))
-
-cast-all-entries : tie.Need-cast-all-entries
-cast-all-entries c = search needs
 
 all-entries-requires : tie.Need-all-entries-requires
 all-entries-requires c κs =
@@ -94,14 +79,5 @@ pub checked-spec : {M : Type 1} → statement M
 checked-spec =
     tie.close
     (tie.spec
-    examined-requires
-    returns
-    cast-lengths-fit
-    lengths-fit-requires
-    returns-2
-    all-gains-requires
-    returns-3
-    cast-all-entries
-    all-entries-requires
-    returns-4
-    returns-5)
+    (λ c κs. search needs) returns (λ c. search needs) (λ c κs. search needs) returns-2 (λ c κs. search needs)
+    returns-3 (λ c. search needs) all-entries-requires returns-4 returns-5)

@@ -11,24 +11,6 @@ use Rattle.filter.proofs.SampleLaws.{settled-of}
 use Rattle.filter.proofs.sample.change.Statement.{statement}
 use Rattle.filter.proofs.sample.change.Tie as tie
 
-update-requires : tie.Need-update-requires
-update-requires c κs = search needs
-
-add-update : tie.Need-add-update
-add-update c = search needs
-
-sub-update : tie.Need-sub-update
-sub-update c = search needs
-
-update-requires-2 : tie.Need-update-requires-2
-update-requires-2 c κs = search needs
-
-same-length : tie.Need-same-length
-same-length c = search needs
-
-same-length-2 : tie.Need-same-length-2
-same-length-2 c = search needs
-
 -- the places of the calls, from the end
 abbrev second : tie.After-back2 → tie.After-update2
 second c = c .before .before .before .before .before .before
@@ -60,11 +42,5 @@ pub change-spec : {M : Type 1} → statement M
 change-spec =
     tie.close
     (tie.spec
-    update-requires
-    add-update
-    sub-update
-    update-requires-2
-    settle-requires
-    same-length
-    same-length-2
-    returns)
+    (λ c κs. search needs) (λ c. search needs) (λ c. search needs) (λ c κs. search needs) settle-requires
+    (λ c. search needs) (λ c. search needs) returns)

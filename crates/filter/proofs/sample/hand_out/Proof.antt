@@ -9,9 +9,6 @@ use Rattle.laws.specs.Machine.{kept, fits-abs}
 use Rattle.filter.proofs.sample.hand_out.Statement.{statement}
 use Rattle.filter.proofs.sample.hand_out.Tie as tie
 
-cast-t4 : tie.Need-cast-t4
-cast-t4 c = search needs
-
 decision-16 : (c : tie.Start) → toZ w16 (ofZ w16 (c .args .j .decision)) ≡ c .args .j .decision
 decision-16 c = toZ-ofZ (fits-abs (c .args .j .decision) (omega (arith, c .pre .2)))
 
@@ -21,13 +18,11 @@ decision-8 c = fits-abs (c .args .j .decision) (omega (arith, c .pre .2))
 cast-t5 : tie.Need-cast-t5
 cast-t5 c = rw (decision-16 (c .before .before .before)) (decision-8 (c .before .before .before))
 
-cast-t6 : tie.Need-cast-t6
-cast-t6 c = search needs
-
 returns : tie.Need-returns
 returns c =
     let s = c .before .before .before .before .before .before in
     simp (kept w32 (s .args .h .y) (omega (arith, c .before .struct-told2 .given, c .struct-told3 .given)), decision-16 s, toZ-ofZ (decision-8 s), kept w32 (s .args .j .z) (omega (arith, c .before .struct-told2 .given, c .struct-told3 .given)))
 
 pub hand-out-spec : {M : Type 1} → statement M
-hand-out-spec = tie.close (tie.spec cast-t4 cast-t5 cast-t6 returns)
+hand-out-spec = tie.close (tie.spec
+    (λ c. search needs) cast-t5 (λ c. search needs) returns)

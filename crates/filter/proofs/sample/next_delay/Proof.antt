@@ -14,14 +14,8 @@ use Rattle.filter.proofs.sample.next_delay.Tie as tie
 cast-signed-bit-length : tie.Need-cast-signed-bit-length
 cast-signed-bit-length c = simp (toZ-ofZ (c .fits .v)) (sfits-widen tt (c .fits .v))
 
-signed-bit-length-requires : tie.Need-signed-bit-length-requires
-signed-bit-length-requires c κs = search needs
-
 measured : (c : tie.After-signed-bit-length) → c .signed-bit-length .result ≡ bitLength (natAbs (c .before .args .v))
 measured c = c .signed-bit-length .ensures ∙ ap (λ (v : ℤ). bitLength (natAbs v)) (kept-wider w64 tt (c .before .fits .v))
-
-add-result : tie.Need-add-result
-add-result c = search needs
 
 returns : tie.Need-returns
 unfolding nextDelay
@@ -34,4 +28,5 @@ returns-2 c = simp (← measured (c .before), le-ltb _ _ (c .if1 .left))
 pub next-delay-spec : {M : Type 1} → statement M
 next-delay-spec =
     tie.close
-    (tie.spec cast-signed-bit-length signed-bit-length-requires add-result returns returns-2)
+    (tie.spec
+    cast-signed-bit-length (λ c κs. search needs) (λ c. search needs) returns returns-2)

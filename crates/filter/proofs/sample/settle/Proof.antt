@@ -33,15 +33,6 @@ rescale-all-requires c κs = let s = c .before .before in halvable (s .args .for
 rescale-all-requires-2 : tie.Need-rescale-all-requires-2
 rescale-all-requires-2 c κs = let s = c .before .before .before .before .before in halvable (s .args .back .now) (short s .1)
 
-add-result : tie.Need-add-result
-add-result c = search needs
-
-same-length : tie.Need-same-length
-same-length c = search needs
-
-same-length-2 : tie.Need-same-length-2
-same-length-2 c = search needs
-
 returns-2 : tie.Need-returns-2
 returns-2 c =
     let d = c .before .before .before .before .before .before in
@@ -53,10 +44,5 @@ pub settle-spec : {M : Type 1} → statement M
 settle-spec =
     tie.close
     (tie.spec
-    returns
-    rescale-all-requires
-    rescale-all-requires-2
-    add-result
-    same-length
-    same-length-2
-    returns-2)
+    returns rescale-all-requires rescale-all-requires-2 (λ c. search needs) (λ c. search needs)
+    (λ c. search needs) returns-2)

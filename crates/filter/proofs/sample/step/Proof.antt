@@ -55,9 +55,6 @@ sub-filter-output c = room (c .before .before)
 part-filter-output-start : tie.Need-part-filter-output-start
 part-filter-output-start c = room (c .before .before .before)
 
-part-filter-output-end : tie.Need-part-filter-output-end
-part-filter-output-end c = search needs
-
 filter-output-requires : tie.Need-filter-output-requires
 filter-output-requires c κs =
     let s = c .before .before .before .before in
@@ -93,9 +90,6 @@ sub-change c = room-kept (start (put-out (c .before .before .before))) _
 part-change-start : tie.Need-part-change-start
 part-change-start c = room-kept (start (put-out (c .before .before .before .before))) _
 
-part-change-end : tie.Need-part-change-end
-part-change-end c = search needs
-
 change-requires : tie.Need-change-requires
 change-requires c κs =
     let j = written c in
@@ -115,15 +109,6 @@ hand-out-requires c κs =
     let s = start (put-out j) in
     L.handable (settings s) (s .args .s) (s .args .sb) (s .args .g) (taps s) (s .args .entry) (s .pre .0) (put-out j .filter-output .result) (j .decision-error .result) (given-output (put-out j)) (decided j)
 
-same-length : tie.Need-same-length
-same-length c = search needs
-
-same-length-2 : tie.Need-same-length-2
-same-length-2 c = search needs
-
-same-length-3 : tie.Need-same-length-3
-same-length-3 c = search needs
-
 returns : tie.Need-returns
 returns c =
     let d = changing (c .before) in
@@ -139,18 +124,6 @@ pub step-spec : {M : Type 1} → statement M
 step-spec =
     tie.close
     (tie.spec
-    sub-filter-output
-    part-filter-output-start
-    part-filter-output-end
-    filter-output-requires
-    decision-error-requires
-    slice-set-from-v
-    sub-change
-    part-change-start
-    part-change-end
-    change-requires
-    hand-out-requires
-    same-length
-    same-length-2
-    same-length-3
-    returns)
+    sub-filter-output part-filter-output-start (λ c. search needs) filter-output-requires
+    decision-error-requires slice-set-from-v sub-change part-change-start (λ c. search needs) change-requires
+    hand-out-requires (λ c. search needs) (λ c. search needs) (λ c. search needs) returns)

@@ -14,21 +14,6 @@ use Rattle.filter.specs.Calls.{factorOf}
 use Rattle.filter.proofs.sample.update.Statement.{statement}
 use Rattle.filter.proofs.sample.update.Tie as tie
 
-add-factor : tie.Need-add-factor
-add-factor c = search needs
-
-add-factor-2 : tie.Need-add-factor-2
-add-factor-2 c = search needs
-
-add-factor-3 : tie.Need-add-factor-3
-add-factor-3 c = search needs
-
-sub-factor : tie.Need-sub-factor
-sub-factor c = search needs
-
-factor-requires : tie.Need-factor-requires
-factor-requires c κs = search needs
-
 abbrev factor : tie.Start → ℤ
 factor c = let a = c .args in factorOf (a .m) (a .z) (a .psi) (a .theta) (a .scale) (a .exponent)
 
@@ -41,12 +26,6 @@ narrow c = fits-abs (factor c) (omega (arith, c .pre .adaptable .factor-small))
 cast-adapt : tie.Need-cast-adapt
 cast-adapt c = simp (factored (c .before)) (narrow (c .before .before))
 
-add-adapt : tie.Need-add-adapt
-add-adapt c = search needs
-
-sub-adapt : tie.Need-sub-adapt
-sub-adapt c = search needs
-
 passed : (c : tie.After-factor) → toZ w32 (ofZ w32 (toZ w64 (ofZ w64 (c .factor .result)))) ≡ factor (c .before)
 passed c = simp (factored c) (toZ-ofZ (narrow (c .before)))
 
@@ -55,9 +34,6 @@ adapt-requires c κs = rw (passed (c .before)) (c .before .before .pre .adaptabl
 
 left : (n : ℕ) → n ≤ 15 → 15 - (15 - n) ≡ n
 left n h = omega arith
-
-same-length : tie.Need-same-length
-same-length c = search needs
 
 returns : tie.Need-returns
 returns c =
@@ -71,14 +47,5 @@ pub update-spec : {M : Type 1} → statement M
 update-spec =
     tie.close
     (tie.spec
-    add-factor
-    add-factor-2
-    add-factor-3
-    sub-factor
-    factor-requires
-    cast-adapt
-    add-adapt
-    sub-adapt
-    adapt-requires
-    same-length
-    returns)
+    (λ c. search needs) (λ c. search needs) (λ c. search needs) (λ c. search needs) (λ c κs. search needs)
+    cast-adapt (λ c. search needs) (λ c. search needs) adapt-requires (λ c. search needs) returns)

@@ -11,18 +11,6 @@ use Rattle.laws.specs.Machine.{upper}
 use Rattle.image.proofs.bytes.signed16.Statement.{statement}
 use Rattle.image.proofs.bytes.signed16.Tie as tie
 
-number16-requires : tie.Need-number16-requires
-number16-requires c κs = search needs
-
-cast-result : tie.Need-cast-result
-cast-result c = search needs
-
-sub-result : tie.Need-sub-result
-sub-result c = search needs
-
-cast-result-2 : tie.Need-cast-result-2
-cast-result-2 c = search needs
-
 small : (c : tie.After-number16) → c .number16 .result < 2 ^ 16
 small c = omega (arith, c .number16 .ensures)
 
@@ -44,10 +32,5 @@ pub signed16-spec : {M : Type 1} → statement M
 signed16-spec =
     tie.close
     (tie.spec
-    number16-requires
-    cast-result
-    sub-result
-    cast-result-2
-    sub-result-2
-    returns
+    (λ c κs. search needs) (λ c. search needs) (λ c. search needs) (λ c. search needs) sub-result-2 returns
     returns-2)

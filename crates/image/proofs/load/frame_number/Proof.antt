@@ -34,37 +34,13 @@ few c = omega (arith, c .shared-slice-known8 .given 0, c .shared-slice-known8 .g
 returns : tie.Need-returns
 returns c = frame-short (c .before .before .args .bytes .now) (c .if1 .taken)
 
-shared-slice-read-sizes-fit : tie.Need-shared-slice-read-sizes-fit
-shared-slice-read-sizes-fit c = search needs
-
-shared-slice-read-sizes-fit-2 : tie.Need-shared-slice-read-sizes-fit-2
-shared-slice-read-sizes-fit-2 c = search needs
-
-shared-slice-read-sizes-fit-3 : tie.Need-shared-slice-read-sizes-fit-3
-shared-slice-read-sizes-fit-3 c = search needs
-
-shared-slice-read-sizes-fit-4 : tie.Need-shared-slice-read-sizes-fit-4
-shared-slice-read-sizes-fit-4 c = search needs
-
-shared-slice-read-sizes-fit-5 : tie.Need-shared-slice-read-sizes-fit-5
-shared-slice-read-sizes-fit-5 c = search needs
-
-sizes-fit-requires : tie.Need-sizes-fit-requires
-sizes-fit-requires c κs = search needs
-
 returns-2 : tie.Need-returns-2
 returns-2 c =
     let f = c .before in
     frame-sizes (bytes f) (long f) (fitting f ∙ not-true (f .sizes-fit .result) (c .if2 .taken))
 
-shared-slice-read-taps : tie.Need-shared-slice-read-taps
-shared-slice-read-taps c = search needs
-
 cast-taps : tie.Need-cast-taps
 cast-taps c = omega (arith, c .shared-slice-known7 .given 0)
-
-shared-slice-read-taps-2 : tie.Need-shared-slice-read-taps-2
-shared-slice-read-taps-2 c = search needs
 
 cast-taps-2 : tie.Need-cast-taps-2
 cast-taps-2 c = omega (arith, few c)
@@ -100,22 +76,6 @@ pub frame-number-spec : {M : Type 1} → statement M
 frame-number-spec =
     tie.close
     (tie.spec
-    returns
-    shared-slice-read-sizes-fit
-    shared-slice-read-sizes-fit-2
-    shared-slice-read-sizes-fit-3
-    shared-slice-read-sizes-fit-4
-    shared-slice-read-sizes-fit-5
-    sizes-fit-requires
-    returns-2
-    shared-slice-read-taps
-    cast-taps
-    shared-slice-read-taps-2
-    cast-taps-2
-    add-taps
-    mul-if3
-    add-if3
-    mul-if3-2
-    add-if3-2
-    returns-3
-    returns-4)
+    returns (λ c. search needs) (λ c. search needs) (λ c. search needs) (λ c. search needs)
+    (λ c. search needs) (λ c κs. search needs) returns-2 (λ c. search needs) cast-taps (λ c. search needs)
+    cast-taps-2 add-taps mul-if3 add-if3 mul-if3-2 add-if3-2 returns-3 returns-4)

@@ -15,12 +15,6 @@ bytes c = c .before .before .args .bytes .now
 framed : (c : tie.Else1) → frameNumber (bytes (c .before)) ≡ 0
 framed c = sym (c .before .frame-number .ensures) ∙ c .if1 .left
 
-frame-number-requires : tie.Need-frame-number-requires
-frame-number-requires c κs = search needs
-
-fresh-requires : tie.Need-fresh-requires
-fresh-requires c κs = search needs
-
 returns : tie.Need-returns
 returns c =
     let f = c .before .before in
@@ -28,12 +22,6 @@ returns c =
 
 state-in-requires : tie.Need-state-in-requires
 state-in-requires c κs = let l = bytes (c .before) in (framed-long l (framed c), framed-few l (framed c))
-
-examined-requires : tie.Need-examined-requires
-examined-requires c κs = search needs
-
-fresh-requires-2 : tie.Need-fresh-requires-2
-fresh-requires-2 c κs = search needs
 
 returns-2 : tie.Need-returns-2
 returns-2 c =
@@ -55,11 +43,5 @@ pub load-spec : {M : Type 1} → statement M
 load-spec =
     tie.close
     (tie.spec
-    frame-number-requires
-    fresh-requires
-    returns
-    state-in-requires
-    examined-requires
-    fresh-requires-2
-    returns-2
-    returns-3)
+    (λ c κs. search needs) (λ c κs. search needs) returns state-in-requires (λ c κs. search needs)
+    (λ c κs. search needs) returns-2 returns-3)

@@ -18,36 +18,6 @@ abbrev μ-loop : tie.MeasureT-loop
 loop-holds : tie.Need-loop-holds Inv-loop μ-loop
 loop-holds c = let s = c .before in worded-none (s .args .n) (s .args .bytes .now) (s .pre .0) (s .pre .1)
 
-mul-signed16 : tie.Need-mul-signed16 Inv-loop μ-loop
-mul-signed16 c = omega arith
-
-shared-slice-read-signed16 : tie.Need-shared-slice-read-signed16 Inv-loop μ-loop
-shared-slice-read-signed16 c = omega arith
-
-mul-signed16-2 : tie.Need-mul-signed16-2 Inv-loop μ-loop
-mul-signed16-2 c = omega arith
-
-add-signed16 : tie.Need-add-signed16 Inv-loop μ-loop
-add-signed16 c = omega arith
-
-shared-slice-read-signed16-2 : tie.Need-shared-slice-read-signed16-2 Inv-loop μ-loop
-shared-slice-read-signed16-2 c = omega arith
-
-signed16-requires : tie.Need-signed16-requires Inv-loop μ-loop
-signed16-requires c κs = search needs
-
-mul-out : tie.Need-mul-out Inv-loop μ-loop
-mul-out c = omega arith
-
-array-set-from-out : tie.Need-array-set-from-out Inv-loop μ-loop
-array-set-from-out c = omega arith
-
-add-i : tie.Need-add-i Inv-loop μ-loop
-add-i c = omega arith
-
-loop-less : tie.Need-loop-less Inv-loop μ-loop
-loop-less c = omega arith
-
 loop-again : tie.Need-loop-again Inv-loop μ-loop
 loop-again c =
     let l = c .before .before .before .before .loop in
@@ -65,18 +35,6 @@ pub words-in-spec : {M : Type 1} → statement M
 words-in-spec =
     tie.close
     (tie.spec
-    Inv-loop
-    μ-loop
-    loop-holds
-    mul-signed16
-    shared-slice-read-signed16
-    mul-signed16-2
-    add-signed16
-    shared-slice-read-signed16-2
-    signed16-requires
-    mul-out
-    array-set-from-out
-    add-i
-    loop-less
-    loop-again
-    returns)
+    Inv-loop μ-loop loop-holds (λ c. omega arith) (λ c. omega arith) (λ c. omega arith) (λ c. omega arith)
+    (λ c. omega arith) (λ c κs. search needs) (λ c. omega arith) (λ c. omega arith) (λ c. omega arith)
+    (λ c. omega arith) loop-again returns)

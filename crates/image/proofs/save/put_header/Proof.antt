@@ -6,9 +6,6 @@ use Rattle.image.proofs.ImageLaws.{header-room, header-put}
 use Rattle.image.proofs.save.put_header.Statement.{statement}
 use Rattle.image.proofs.save.put_header.Tie as tie
 
-slice-write-out : tie.Need-slice-write-out
-slice-write-out c = search needs
-
 slice-write-out-2 : tie.Need-slice-write-out-2
 slice-write-out-2 c = header-room (c .args .e) (c .args .out .now) 1 (c .pre) (lit< tt)
 
@@ -30,35 +27,20 @@ slice-write-out-7 c = header-room (c .args .e) (c .args .out .now) 6 (c .pre) (l
 slice-write-out-8 : tie.Need-slice-write-out-8
 slice-write-out-8 c = header-room (c .args .e) (c .args .out .now) 7 (c .pre) (lit< tt)
 
-cast-out : tie.Need-cast-out
-cast-out c = search needs
-
 slice-write-out-9 : tie.Need-slice-write-out-9
 slice-write-out-9 c = header-room (c .args .e) (c .args .out .now) 8 (c .pre) (lit< tt)
-
-cast-out-2 : tie.Need-cast-out-2
-cast-out-2 c = search needs
 
 slice-write-out-10 : tie.Need-slice-write-out-10
 unfolding bytes
 slice-write-out-10 c = header-room (c .args .e) (c .args .out .now) 9 (c .pre) (lit< tt)
 
-cast-out-3 : tie.Need-cast-out-3
-cast-out-3 c = search needs
-
 slice-write-out-11 : tie.Need-slice-write-out-11
 unfolding bytes
 slice-write-out-11 c = header-room (c .args .e) (c .args .out .now) 10 (c .pre) (lit< tt)
 
-cast-out-4 : tie.Need-cast-out-4
-cast-out-4 c = search needs
-
 slice-write-out-12 : tie.Need-slice-write-out-12
 unfolding bytes
 slice-write-out-12 c = header-room (c .args .e) (c .args .out .now) 11 (c .pre) (lit< tt)
-
-same-length : tie.Need-same-length
-same-length c = search needs
 
 returns : tie.Need-returns
 unfolding bytes
@@ -68,21 +50,7 @@ pub put-header-spec : {M : Type 1} → statement M
 put-header-spec =
     tie.close
     (tie.spec
-    slice-write-out
-    slice-write-out-2
-    slice-write-out-3
-    slice-write-out-4
-    slice-write-out-5
-    slice-write-out-6
-    slice-write-out-7
-    slice-write-out-8
-    cast-out
-    slice-write-out-9
-    cast-out-2
-    slice-write-out-10
-    cast-out-3
-    slice-write-out-11
-    cast-out-4
-    slice-write-out-12
-    same-length
-    returns)
+    (λ c. search needs) slice-write-out-2 slice-write-out-3 slice-write-out-4 slice-write-out-5
+    slice-write-out-6 slice-write-out-7 slice-write-out-8 (λ c. search needs) slice-write-out-9
+    (λ c. search needs) slice-write-out-10 (λ c. search needs) slice-write-out-11 (λ c. search needs)
+    slice-write-out-12 (λ c. search needs) returns)

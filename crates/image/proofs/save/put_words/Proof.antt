@@ -43,9 +43,6 @@ shared-slice-copy-out-word c = c .loop-test .taken
 word-requires : tie.Need-word-requires Inv-loop μ-loop
 word-requires c κs = tt
 
-cast-out : tie.Need-cast-out Inv-loop μ-loop
-cast-out c = search needs
-
 mul-out : tie.Need-mul-out Inv-loop μ-loop
 mul-out c = record { fits = omega (arith, room (turn c)) }
 
@@ -83,21 +80,6 @@ pub put-words-spec : {M : Type 1} → statement M
 put-words-spec =
     tie.close
     (tie.spec
-    Inv-loop
-    μ-loop
-    loop-holds
-    mul-word
-    shared-slice-copy-out-word
-    word-requires
-    cast-out
-    mul-out
-    slice-write-out
-    cast-out-2
-    mul-out-2
-    add-out
-    slice-write-out-2
-    add-i
-    loop-less
-    loop-again
-    same-length
+    Inv-loop μ-loop loop-holds mul-word shared-slice-copy-out-word word-requires (λ c. search needs) mul-out
+    slice-write-out cast-out-2 mul-out-2 add-out slice-write-out-2 add-i loop-less loop-again same-length
     returns)

@@ -67,40 +67,13 @@ headed-long c = length-front (start (long-enough (lent c)) .args .buffer .now) (
 
 -- ---- the needs
 
-examined-requires : tie.Need-examined-requires
-examined-requires c κs = search needs
-
 returns : tie.Need-returns
 returns c = save-refused (c .before .before .before .args .e) (c .before .before .before .args .buffer .now) (c .before .examined .result) (c .before .examined .ensures) (c .if1 .taken)
-
-cast-taps : tie.Need-cast-taps
-cast-taps c = search needs
-
-cast-taps-2 : tie.Need-cast-taps-2
-cast-taps-2 c = search needs
-
-add-taps : tie.Need-add-taps
-add-taps c = search needs
-
-mul-mid : tie.Need-mul-mid
-mul-mid c = search needs
-
-add-mid : tie.Need-add-mid
-add-mid c = search needs
-
-mul-end : tie.Need-mul-end
-mul-end c = search needs
-
-add-end : tie.Need-add-end
-add-end c = search needs
 
 returns-2 : tie.Need-returns-2
 returns-2 c =
     let s = c .before .before .before .before .before .before in
     save-short (s .args .e) (s .args .buffer .now) (sound (c .before)) (omega (arith, c .if2 .taken))
-
-slice-relend-prefix-put-header : tie.Need-slice-relend-prefix-put-header
-slice-relend-prefix-put-header c = search needs
 
 slice-aggregate-put-header : tie.Need-slice-aggregate-put-header
 slice-aggregate-put-header c =
@@ -116,15 +89,6 @@ array-share-prefix-weights c = weights-within (lent (c .before .before))
 slice-aggregate-put-words : tie.Need-slice-aggregate-put-words
 slice-aggregate-put-words c = sym (weights-taken (lent (c .before .before .before)))
 
-sub-put-words : tie.Need-sub-put-words
-sub-put-words c = search needs
-
-part-put-words-start : tie.Need-part-put-words-start
-part-put-words-start c = search needs
-
-part-put-words-end : tie.Need-part-put-words-end
-part-put-words-end c = search needs
-
 put-words-requires : tie.Need-put-words-requires
 put-words-requires c κs =
     let h = c .before .before .before .before in
@@ -138,15 +102,6 @@ array-share-prefix-past c = past-within (lent (headed (c .before .before)))
 slice-aggregate-put-words-2 : tie.Need-slice-aggregate-put-words-2
 slice-aggregate-put-words-2 c = sym (past-taken (lent (headed (c .before .before .before))))
 
-sub-put-words-2 : tie.Need-sub-put-words-2
-sub-put-words-2 c = search needs
-
-part-put-words-start-2 : tie.Need-part-put-words-start-2
-part-put-words-start-2 c = search needs
-
-part-put-words-end-2 : tie.Need-part-put-words-end-2
-part-put-words-end-2 c = search needs
-
 put-words-requires-2 : tie.Need-put-words-requires-2
 put-words-requires-2 c κs =
     let w = c .before .before .before .before in
@@ -157,9 +112,6 @@ put-words-requires-2 c κs =
     mid-len (dataPlace t) (endPlace t) (putMid headerLength (dataPlace t - headerLength) b (w .put-words .last .1 .0))
     (omega (arith, same-len-mid headerLength (dataPlace t - headerLength) b (w .put-words .last .1 .0) (w .put-words .kept .1 .0), headed-long h, room (long-enough (lent h))))
     ∙ omega (arith, past-taken (lent h))
-
-same-length : tie.Need-same-length
-same-length c = search needs
 
 returns-3 : tie.Need-returns-3
 returns-3 c =
@@ -177,30 +129,9 @@ pub save-spec : {M : Type 1} → statement M
 save-spec =
     tie.close
     (tie.spec
-    examined-requires
-    returns
-    cast-taps
-    cast-taps-2
-    add-taps
-    mul-mid
-    add-mid
-    mul-end
-    add-end
-    returns-2
-    slice-relend-prefix-put-header
-    slice-aggregate-put-header
-    put-header-requires
-    array-share-prefix-weights
-    slice-aggregate-put-words
-    sub-put-words
-    part-put-words-start
-    part-put-words-end
-    put-words-requires
-    array-share-prefix-past
-    slice-aggregate-put-words-2
-    sub-put-words-2
-    part-put-words-start-2
-    part-put-words-end-2
-    put-words-requires-2
-    same-length
-    returns-3)
+    (λ c κs. search needs) returns (λ c. search needs) (λ c. search needs) (λ c. search needs)
+    (λ c. search needs) (λ c. search needs) (λ c. search needs) (λ c. search needs) returns-2
+    (λ c. search needs) slice-aggregate-put-header put-header-requires array-share-prefix-weights
+    slice-aggregate-put-words (λ c. search needs) (λ c. search needs) (λ c. search needs) put-words-requires
+    array-share-prefix-past slice-aggregate-put-words-2 (λ c. search needs) (λ c. search needs)
+    (λ c. search needs) put-words-requires-2 (λ c. search needs) returns-3)

@@ -6,14 +6,9 @@ use Rattle.numbers.specs.BitLength.{bitLength}
 use Rattle.numbers.proofs.bit_length.signed_bit_length.Statement.{statement}
 use Rattle.numbers.proofs.bit_length.signed_bit_length.Tie as tie
 
-magnitude-requires : tie.Need-magnitude-requires
-magnitude-requires c κs = search needs
-
-bit-length-requires : tie.Need-bit-length-requires
-bit-length-requires c κs = search needs
-
 returns : tie.Need-returns
 returns c = c .bit-length .ensures ∙ ap bitLength (c .before .magnitude .ensures ∙ simp (toZ-ofZ (c .before .before .fits .z)))
 
 pub signed-bit-length-spec : {M : Type 1} → statement M
-signed-bit-length-spec = tie.close (tie.spec magnitude-requires bit-length-requires returns)
+signed-bit-length-spec = tie.close (tie.spec
+    (λ c κs. search needs) (λ c κs. search needs) returns)

@@ -8,17 +8,9 @@ use Rattle.laws.specs.Machine.{shr-kept}
 use Rattle.numbers.proofs.cut.cut.Statement.{statement}
 use Rattle.numbers.proofs.cut.cut.Tie as tie
 
-lifted-requires : tie.Need-lifted-requires
-lifted-requires c κs = search needs
-
-cast-result : tie.Need-cast-result
-cast-result c = search needs
-
-shr-result : tie.Need-shr-result
-shr-result c = search needs
-
 returns : tie.Need-returns
 returns c = shr-kept w64 (c .lifted .result) (2 ^ c .before .args .k) (c .lifted .ok) ∙ c .lifted .ensures ∙ simp (toZ-ofZ (c .before .fits .z))
 
 pub cut-spec : {M : Type 1} → statement M
-cut-spec = tie.close (tie.spec lifted-requires cast-result shr-result returns)
+cut-spec = tie.close (tie.spec
+    (λ c κs. search needs) (λ c. search needs) (λ c. search needs) returns)

@@ -8,17 +8,9 @@ use Rattle.laws.specs.Machine.{shr-kept}
 use Rattle.numbers.proofs.cut.cut32.Statement.{statement}
 use Rattle.numbers.proofs.cut.cut32.Tie as tie
 
-lifted32-requires : tie.Need-lifted32-requires
-lifted32-requires c κs = search needs
-
-cast-result : tie.Need-cast-result
-cast-result c = search needs
-
-shr-result : tie.Need-shr-result
-shr-result c = search needs
-
 returns : tie.Need-returns
 returns c = shr-kept w32 (c .lifted32 .result) (2 ^ c .before .args .k) (c .lifted32 .ok) ∙ c .lifted32 .ensures ∙ simp (toZ-ofZ (c .before .fits .z))
 
 pub cut32-spec : {M : Type 1} → statement M
-cut32-spec = tie.close (tie.spec lifted32-requires cast-result shr-result returns)
+cut32-spec = tie.close (tie.spec
+    (λ c κs. search needs) (λ c. search needs) (λ c. search needs) returns)

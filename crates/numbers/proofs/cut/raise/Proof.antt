@@ -5,12 +5,6 @@ use Rattle.numbers.proofs.CutLaws.{raise-kept}
 use Rattle.numbers.proofs.cut.raise.Statement.{statement}
 use Rattle.numbers.proofs.cut.raise.Tie as tie
 
-cast-result : tie.Need-cast-result
-cast-result c = search needs
-
-shl-result : tie.Need-shl-result
-shl-result c = search needs
-
 mul-result : tie.Need-mul-result
 mul-result c = raise-kept w64 (c .args .z) (c .args .k) (c .fits .z) (c .pre .0) (c .pre .1) .0
 
@@ -18,4 +12,5 @@ returns : tie.Need-returns
 returns c = raise-kept w64 (c .args .z) (c .args .k) (c .fits .z) (c .pre .0) (c .pre .1) .1
 
 pub raise-spec : {M : Type 1} → statement M
-raise-spec = tie.close (tie.spec cast-result shl-result mul-result returns)
+raise-spec = tie.close (tie.spec
+    (λ c. search needs) (λ c. search needs) mul-result returns)

@@ -6,18 +6,10 @@ use Rattle.numbers.proofs.ScaleCountLaws.{table-entry}
 use Rattle.numbers.proofs.scale_count.scale_count.Statement.{statement}
 use Rattle.numbers.proofs.scale_count.scale_count.Tie as tie
 
-sub-result : tie.Need-sub-result
-sub-result c = search needs
-
-mul-result : tie.Need-mul-result
-mul-result c = search needs
-
-array-read-result : tie.Need-array-read-result
-array-read-result c = search needs
-
 returns : tie.Need-returns
 returns c =
     table-entry (1 ∷ 2 ∷ 3 ∷ 3 ∷ 4 ∷ 4 ∷ 4 ∷ 4 ∷ 5 ∷ 5 ∷ 5 ∷ 5 ∷ 5 ∷ 5 ∷ 5 ∷ 5 ∷ []) refl (c .args .k) (c .pre .0) (c .pre .1)
 
 pub scale-count-spec : {M : Type 1} → statement M
-scale-count-spec = tie.close (tie.spec sub-result mul-result array-read-result returns)
+scale-count-spec = tie.close (tie.spec
+    (λ c. search needs) (λ c. search needs) (λ c. search needs) returns)

@@ -28,38 +28,11 @@ three c = one-shifted w64 (2 * c .args .r + 2 + c .args .l) (omega (arith, c .pr
 four : (c : tie.Start) → 1 * 2 ^ (30 + c .args .l) % 2 ^ 64 ≡ 2 ^ (30 + c .args .l)
 four c = one-shifted w64 (30 + c .args .l) (omega (arith, c .pre))
 
-mul-e : tie.Need-mul-e
-mul-e c = search needs
-
-add-d : tie.Need-add-d
-add-d c = search needs
-
-add-d-2 : tie.Need-add-d-2
-add-d-2 c = search needs
-
-shl-d : tie.Need-shl-d
-shl-d c = search needs
-
-add-d-3 : tie.Need-add-d-3
-add-d-3 c = search needs
-
-shl-d-2 : tie.Need-shl-d-2
-shl-d-2 c = search needs
-
 mul-d : tie.Need-mul-d
 mul-d c = simp (two c) (record { fits = omega (arith, terms-most (sizes c) (c .pre)) })
 
 add-d-4 : tie.Need-add-d-4
 add-d-4 c = simp (one c, two c) (record { fits = omega (arith, terms-most (sizes c) (c .pre)) })
-
-add-d-5 : tie.Need-add-d-5
-add-d-5 c = search needs
-
-add-d-6 : tie.Need-add-d-6
-add-d-6 c = search needs
-
-shl-d-3 : tie.Need-shl-d-3
-shl-d-3 c = search needs
 
 mul-d-2 : tie.Need-mul-d-2
 mul-d-2 c = simp (three c) (record { fits = omega (arith, terms-most (sizes c) (c .pre)) })
@@ -70,12 +43,6 @@ add-d-7 c = simp (one c, two c, three c) (record { fits = omega (arith, bound-mo
 mul-result : tie.Need-mul-result
 mul-result c = simp (one c, two c, three c) (record { fits = omega (arith, product-most (sizes c) (c .pre) (c .fits .m .fits)) })
 
-add-result : tie.Need-add-result
-add-result c = search needs
-
-shl-result : tie.Need-shl-result
-shl-result c = search needs
-
 returns : tie.Need-returns
 returns c = simp (one c, two c, three c, four c)
 
@@ -83,20 +50,6 @@ pub admits-spec : {M : Type 1} → statement M
 admits-spec =
     tie.close
     (tie.spec
-    mul-e
-    add-d
-    add-d-2
-    shl-d
-    add-d-3
-    shl-d-2
-    mul-d
-    add-d-4
-    add-d-5
-    add-d-6
-    shl-d-3
-    mul-d-2
-    add-d-7
-    mul-result
-    add-result
-    shl-result
-    returns)
+    (λ c. search needs) (λ c. search needs) (λ c. search needs) (λ c. search needs) (λ c. search needs)
+    (λ c. search needs) mul-d add-d-4 (λ c. search needs) (λ c. search needs) (λ c. search needs) mul-d-2
+    add-d-7 mul-result (λ c. search needs) (λ c. search needs) returns)

@@ -8,21 +8,6 @@ use Rattle.state.proofs.ElementTests.{stored-longest, stored-zero}
 use Rattle.state.proofs.sound.all_stored.Statement.{statement}
 use Rattle.state.proofs.sound.all_stored.Tie as tie
 
-add-scale : tie.Need-add-scale
-add-scale c = search needs
-
-add-room : tie.Need-add-room
-add-room c = search needs
-
-longest-requires : tie.Need-longest-requires
-longest-requires c κs = search needs
-
-sub-result : tie.Need-sub-result
-sub-result c = search needs
-
-all-zero-requires : tie.Need-all-zero-requires
-all-zero-requires c κs = search needs
-
 returns : tie.Need-returns
 returns c =
     let a = c .before .before .args in
@@ -35,4 +20,6 @@ returns-2 c = let a = c .before .before .args in c .all-zero .ensures ∙ stored
 pub all-stored-spec : {M : Type 1} → statement M
 all-stored-spec =
     tie.close
-    (tie.spec add-scale add-room longest-requires sub-result all-zero-requires returns returns-2)
+    (tie.spec
+    (λ c. search needs) (λ c. search needs) (λ c κs. search needs) (λ c. search needs) (λ c κs. search needs)
+    returns returns-2)

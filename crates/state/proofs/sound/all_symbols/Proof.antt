@@ -21,20 +21,8 @@ abbrev μ-loop : tie.MeasureT-loop
 loop-holds : tie.Need-loop-holds Inv-loop μ-loop
 loop-holds c = tested-none _ _
 
-mul-is-entry : tie.Need-mul-is-entry Inv-loop μ-loop
-mul-is-entry c = search needs
-
-shared-slice-copy-out-is-entry : tie.Need-shared-slice-copy-out-is-entry Inv-loop μ-loop
-shared-slice-copy-out-is-entry c = search needs
-
 is-entry-requires : tie.Need-is-entry-requires Inv-loop μ-loop
 is-entry-requires c κs = c .before .before .before .pre
-
-add-i : tie.Need-add-i Inv-loop μ-loop
-add-i c = search needs
-
-loop-less : tie.Need-loop-less Inv-loop μ-loop
-loop-less c = omega arith
 
 loop-again : tie.Need-loop-again Inv-loop μ-loop
 loop-again c =
@@ -50,13 +38,5 @@ pub all-symbols-spec : {M : Type 1} → statement M
 all-symbols-spec =
     tie.close
     (tie.spec
-    Inv-loop
-    μ-loop
-    loop-holds
-    mul-is-entry
-    shared-slice-copy-out-is-entry
-    is-entry-requires
-    add-i
-    loop-less
-    loop-again
-    returns)
+    Inv-loop μ-loop loop-holds (λ c. search needs) (λ c. search needs) is-entry-requires (λ c. search needs)
+    (λ c. omega arith) loop-again returns)

@@ -17,23 +17,11 @@ use Rattle.state.proofs.sound.is_entry.Tie as tie
 cast-magnitude : tie.Need-cast-magnitude
 cast-magnitude c = simp (toZ-ofZ (c .fits .v)) (fits-64 (c .fits .v))
 
-magnitude-requires : tie.Need-magnitude-requires
-magnitude-requires c κs = search needs
-
 size : (c : tie.After-magnitude) → c .magnitude .result ≡ natAbs (c .before .args .v)
 size c = c .magnitude .ensures ∙ simp (toZ-ofZ (c .before .fits .v), toZ-ofZ (fits-64 (c .before .fits .v)))
 
 cast-size : tie.Need-cast-size
 cast-size c = record { fits = omega (arith, size c, abs-fits (c .before .fits .v)) }
-
-add-result : tie.Need-add-result
-add-result c = search needs
-
-cast-result : tie.Need-cast-result
-cast-result c = search needs
-
-shl-result : tie.Need-shl-result
-shl-result c = search needs
 
 shifted : (c : tie.Start) → 1 * 2 ^ (c .args .r + 1) % 2 ^ 16 ≡ 2 ^ (c .args .r + 1)
 shifted c = one-shifted w16 (c .args .r + 1) (omega (arith, c .pre))
@@ -48,11 +36,5 @@ pub is-entry-spec : {M : Type 1} → statement M
 is-entry-spec =
     tie.close
     (tie.spec
-    cast-magnitude
-    magnitude-requires
-    cast-size
-    add-result
-    cast-result
-    shl-result
-    sub-result
-    returns)
+    cast-magnitude (λ c κs. search needs) cast-size (λ c. search needs) (λ c. search needs)
+    (λ c. search needs) sub-result returns)

@@ -6,15 +6,6 @@ use Rattle.state.specs.State.{isSound}
 use Rattle.state.proofs.sound.is_sound.Statement.{statement}
 use Rattle.state.proofs.sound.is_sound.Tie as tie
 
-sound-exponents-requires : tie.Need-sound-exponents-requires
-sound-exponents-requires c κs = search needs
-
-sound-weights-requires : tie.Need-sound-weights-requires
-sound-weights-requires c κs = search needs
-
-sound-past-requires : tie.Need-sound-past-requires
-sound-past-requires c κs = search needs
-
 returns : tie.Need-returns
 unfolding isSound
 returns c =
@@ -23,4 +14,5 @@ returns c =
 pub is-sound-spec : {M : Type 1} → statement M
 is-sound-spec =
     tie.close
-    (tie.spec sound-exponents-requires sound-weights-requires sound-past-requires returns)
+    (tie.spec
+    (λ c κs. search needs) (λ c κs. search needs) (λ c κs. search needs) returns)

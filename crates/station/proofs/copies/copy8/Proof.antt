@@ -16,8 +16,7 @@ copy8-spec =
     tie.close
     (tie.spec
     (λ src dst₀ i₀ dst i. Written src dst₀ i dst) (λ src dst₀ i₀ dst i. length src - i)
-    (λ c. written-none _ _) (λ c. omega arith) (λ c. search needs) (λ c. omega arith)
-    (λ c. omega arith)
+    (λ c. written-none _ _) (λ c. omega arith) (λ c. search needs) (λ c. omega arith) (λ c. omega arith)
     (λ c. copied-next (c .before .before .loop .inv) (pos 0) (c .before .before .before .pre) (c .before .loop-test .taken) (kept w8 _ (c .dst .given)))
     (λ c. c .before .loop .inv .long)
     (λ c. written-all (c .before .loop .inv) (c .before .before .pre) (omega arith)))

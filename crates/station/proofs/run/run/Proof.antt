@@ -199,13 +199,13 @@ run-spec =
     tie.close
     (tie.spec
     (λ c κs. search needs) (λ c. search needs) (λ c. search needs) (λ c. search needs) (λ c. search needs)
-    (λ c. search needs) returns (λ c κs. search needs) (λ c. search needs) (λ c. search needs) (λ c. search needs)
-    part-ay-end (λ c. search needs) (λ c. search needs) part-ax-end (λ c. search needs) (λ c. search needs)
-    part-ad-end (λ c. search needs) (λ c. search needs) part-az-end (λ c. search needs) (λ c. search needs)
-    part-at-end run-checked-requires (λ c. search needs) (λ c. search needs) (λ c. search needs)
-    (λ c. search needs) (λ c. search needs) returns-2 (λ c. search needs) (λ c. search needs) part-copy32-end
-    copy32-requires (λ c. search needs) (λ c. search needs) part-copy-bytes-end copy-bytes-requires
-    (λ c. search needs) (λ c. search needs) part-copy8-end copy8-requires (λ c. search needs) (λ c. search needs)
-    part-copy32-end-2 copy32-requires-2 (λ c. search needs) (λ c. search needs) part-copy-bytes-end-2
-    copy-bytes-requires-2 (λ c. search needs) (λ c. search needs) (λ c. search needs) (λ c. search needs)
-    (λ c. search needs) returns-3)
+    (λ c. search needs) returns (λ c κs. search needs) (λ c. search needs) (λ c. search needs)
+    (λ c. search needs) part-ay-end (λ c. search needs) (λ c. search needs) part-ax-end (λ c. search needs)
+    (λ c. search needs) part-ad-end (λ c. search needs) (λ c. search needs) part-az-end (λ c. search needs)
+    (λ c. search needs) part-at-end run-checked-requires (λ c. search needs) (λ c. search needs)
+    (λ c. search needs) (λ c. search needs) (λ c. search needs) returns-2 (λ c. search needs)
+    (λ c. search needs) part-copy32-end copy32-requires (λ c. search needs) (λ c. search needs)
+    part-copy-bytes-end copy-bytes-requires (λ c. search needs) (λ c. search needs) part-copy8-end
+    copy8-requires (λ c. search needs) (λ c. search needs) part-copy32-end-2 copy32-requires-2
+    (λ c. search needs) (λ c. search needs) part-copy-bytes-end-2 copy-bytes-requires-2 (λ c. search needs)
+    (λ c. search needs) (λ c. search needs) (λ c. search needs) (λ c. search needs) returns-3)

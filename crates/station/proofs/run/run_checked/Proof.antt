@@ -105,6 +105,6 @@ run-checked-spec =
     part-fronted-end-2 (λ c κs. search needs) (λ c. search needs) (λ c. search needs) part-fronted-end-3
     (λ c κs. search needs) (λ c. search needs) (λ c. search needs) (λ c. search needs) part-fronted-end-4
     (λ c κs. search needs) (λ c. search needs) (λ c. search needs) part-forward-end (λ c. search needs)
-    (λ c. search needs) part-back-end (λ c. search needs) (λ c. search needs) part-window-end (λ c. search needs)
-    (λ c. search needs) part-symbols-end run-parts-requires (λ c. search needs) (λ c. search needs)
-    (λ c. search needs) (λ c. search needs) (λ c. search needs) (λ c. search needs))
+    (λ c. search needs) part-back-end (λ c. search needs) (λ c. search needs) part-window-end
+    (λ c. search needs) (λ c. search needs) part-symbols-end run-parts-requires (λ c. search needs)
+    (λ c. search needs) (λ c. search needs) (λ c. search needs) (λ c. search needs) (λ c. search needs))

@@ -13,15 +13,6 @@ use Rattle.steps.proofs.DecisionLaws.{floor-most, odd-most}
 use Rattle.steps.proofs.decision.nearest.Statement.{statement}
 use Rattle.steps.proofs.decision.nearest.Tie as tie
 
-sub-result : tie.Need-sub-result
-sub-result c = search needs
-
-cast-result : tie.Need-cast-result
-cast-result c = search needs
-
-shr-result : tie.Need-shr-result
-shr-result c = search needs
-
 abbrev half : tie.Start → ℤ
 half c = floor (c .args .y) (31 - c .args .xi)
 
@@ -48,4 +39,5 @@ returns c = simp (toZ-ofZ (c .fits .y), toZ-ofZ (half-fits c), toZ-ofZ (even-fit
 
 pub nearest-spec : {M : Type 1} → statement M
 nearest-spec =
-    tie.close (tie.spec sub-result cast-result shr-result mul-result add-result returns)
+    tie.close (tie.spec
+    (λ c. search needs) (λ c. search needs) (λ c. search needs) mul-result add-result returns)

@@ -6,14 +6,9 @@ use Rattle.laws.specs.Machine.{kept}
 use Rattle.steps.proofs.decision.top_symbol.Statement.{statement}
 use Rattle.steps.proofs.decision.top_symbol.Tie as tie
 
-add-ones32 : tie.Need-add-ones32
-add-ones32 c = search needs
-
-ones32-requires : tie.Need-ones32-requires
-ones32-requires c κs = search needs
-
 returns : tie.Need-returns
 returns c = kept w32 (c .ones32 .result) (c .ones32 .ok) ∙ c .ones32 .ensures
 
 pub top-symbol-spec : {M : Type 1} → statement M
-top-symbol-spec = tie.close (tie.spec add-ones32 ones32-requires returns)
+top-symbol-spec = tie.close (tie.spec
+    (λ c. search needs) (λ c κs. search needs) returns)

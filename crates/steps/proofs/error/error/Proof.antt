@@ -12,15 +12,6 @@ use Rattle.steps.proofs.ErrorLaws.{exponent-kept, error-kept, length-mo
 use Rattle.steps.proofs.error.error.Statement.{statement}
 use Rattle.steps.proofs.error.error.Tie as tie
 
-add-if1 : tie.Need-add-if1
-add-if1 c = search needs
-
-add-if1-2 : tie.Need-add-if1-2
-add-if1-2 c = search needs
-
-sub-difference : tie.Need-sub-difference
-sub-difference c = search needs
-
 -- κ
 abbrev kappa : tie.Start → ℕ
 kappa s = s .args .sb + bitLength (natAbs (s .args .v))
@@ -37,9 +28,6 @@ difference-requires c κs =
 
 cast-signed-bit-length : tie.Need-cast-signed-bit-length
 cast-signed-bit-length c = simp (toZ-ofZ (c .before .fits .v)) (sfits-widen tt (c .before .fits .v))
-
-signed-bit-length-requires : tie.Need-signed-bit-length-requires
-signed-bit-length-requires c κs = search needs
 
 length-is : (c : tie.After-signed-bit-length) → c .signed-bit-length .result ≡ bitLength (natAbs (c .before .before .args .v))
 length-is c =
@@ -72,13 +60,5 @@ pub error-spec : {M : Type 1} → statement M
 error-spec =
     tie.close
     (tie.spec
-    add-if1
-    add-if1-2
-    sub-difference
-    difference-requires
-    cast-signed-bit-length
-    signed-bit-length-requires
-    add-compared
-    compared-requires
-    returns
-    returns-2)
+    (λ c. search needs) (λ c. search needs) (λ c. search needs) difference-requires cast-signed-bit-length
+    (λ c κs. search needs) add-compared compared-requires returns returns-2)

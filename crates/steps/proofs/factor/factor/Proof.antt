@@ -12,9 +12,6 @@ use Rattle.laws.specs.Machine.{kept, fits-abs}
 use Rattle.steps.proofs.factor.factor.Statement.{statement}
 use Rattle.steps.proofs.factor.factor.Tie as tie
 
-cast-cut : tie.Need-cast-cut
-cast-cut c = search needs
-
 cast-cut-2 : tie.Need-cast-cut-2
 cast-cut-2 c = simp (toZ-ofZ (c .fits .z)) (sfits-widen tt (c .fits .z))
 
@@ -29,9 +26,6 @@ product c =
 mul-cut : tie.Need-mul-cut
 mul-cut c = simp (step c, toZ-ofZ (c .fits .z), toZ-ofZ {w = w64} (sfits-widen tt (c .fits .z))) (product c)
 
-cut-requires : tie.Need-cut-requires
-cut-requires c κs = search needs
-
 returns : tie.Need-returns
 returns c =
     let s = c .before in
@@ -39,4 +33,5 @@ returns c =
     ∙ simp (step s, toZ-ofZ (s .fits .z), toZ-ofZ {w = w64} (sfits-widen tt (s .fits .z)), toZ-ofZ (product s))
 
 pub factor-spec : {M : Type 1} → statement M
-factor-spec = tie.close (tie.spec cast-cut cast-cut-2 mul-cut cut-requires returns)
+factor-spec = tie.close (tie.spec
+    (λ c. search needs) cast-cut-2 mul-cut (λ c κs. search needs) returns)

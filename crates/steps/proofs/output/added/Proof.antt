@@ -12,12 +12,6 @@ use Rattle.numbers.proofs.CutLaws.{cut-le, cut-most, raise-abs}
 use Rattle.steps.proofs.output.added.Statement.{statement}
 use Rattle.steps.proofs.output.added.Tie as tie
 
-near-requires : tie.Need-near-requires
-near-requires c κs = search needs
-
-cut32-requires : tie.Need-cut32-requires
-cut32-requires c κs = search needs
-
 raise32-requires : tie.Need-raise32-requires
 raise32-requires c κs =
     let s = c .before .before in
@@ -46,4 +40,5 @@ returns : tie.Need-returns
 returns c = sum-kept w32 (c .before .cut32 .ok) (c .raise32 .ok) (gave (c .before)) (raised c) (small c) .1
 
 pub added-spec : {M : Type 1} → statement M
-added-spec = tie.close (tie.spec near-requires cut32-requires raise32-requires add-result returns)
+added-spec = tie.close (tie.spec
+    (λ c κs. search needs) (λ c κs. search needs) raise32-requires add-result returns)

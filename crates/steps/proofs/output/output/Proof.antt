@@ -14,12 +14,6 @@ use Rattle.steps.proofs.OutputLaws.{output-raised, output-exponent-form
 use Rattle.steps.proofs.output.output.Statement.{statement}
 use Rattle.steps.proofs.output.output.Tie as tie
 
-add-larger : tie.Need-add-larger
-add-larger c = search needs
-
-larger-requires : tie.Need-larger-requires
-larger-requires c κs = search needs
-
 between : (c : tie.After-larger) → (c .before .args .g ≤ c .larger .result) × (c .before .args .nu + 30 ≤ c .larger .result) × (c .larger .result ≤ dataExponentLimit + 30)
 between c =
     let a = c .before .args in
@@ -70,11 +64,4 @@ pub output-spec : {M : Type 1} → statement M
 output-spec =
     tie.close
     (tie.spec
-    add-larger
-    larger-requires
-    sub-added
-    sub-added-2
-    added-requires
-    add-t10
-    sub-t11
-    returns)
+    (λ c. search needs) (λ c κs. search needs) sub-added sub-added-2 added-requires add-t10 sub-t11 returns)

@@ -5,20 +5,8 @@ use borrow.Author.Needs.{needs}
 use Rattle.steps.proofs.side.adapt.Statement.{statement}
 use Rattle.steps.proofs.side.adapt.Tie as tie
 
-adapt-all-requires : tie.Need-adapt-all-requires
-adapt-all-requires c κs = search needs
-
-adapt-all-requires-2 : tie.Need-adapt-all-requires-2
-adapt-all-requires-2 c κs = search needs
-
-same-length : tie.Need-same-length
-same-length c = search needs
-
 returns : tie.Need-returns
 returns c = (c .before .adapt-all .ensures .0 ∙ simp (toZ-ofZ (c .before .before .before .before .fits .j)), c .before .adapt-all .ensures .1)
-
-same-length-2 : tie.Need-same-length-2
-same-length-2 c = search needs
 
 returns-2 : tie.Need-returns-2
 returns-2 c = (c .before .adapt-all2 .ensures .0 ∙ simp (toZ-ofZ (c .before .before .before .before .fits .j)), c .before .adapt-all2 .ensures .1)
@@ -26,4 +14,5 @@ returns-2 c = (c .before .adapt-all2 .ensures .0 ∙ simp (toZ-ofZ (c .before .b
 pub adapt-spec : {M : Type 1} → statement M
 adapt-spec =
     tie.close
-    (tie.spec adapt-all-requires adapt-all-requires-2 same-length returns same-length-2 returns-2)
+    (tie.spec
+    (λ c κs. search needs) (λ c κs. search needs) (λ c. search needs) returns (λ c. search needs) returns-2)

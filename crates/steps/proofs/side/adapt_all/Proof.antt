@@ -35,23 +35,8 @@ sub-raise c = c .pre .t-most
 raise-requires : tie.Need-raise-requires Inv-loop μ-loop
 raise-requires c κs = simp (toZ-ofZ (c .fits .j), toZ-ofZ (wide c)) (omega arith, raise-room (c .args .j) (c .args .t) (c .pre .factor-small))
 
-magnitude32-requires : tie.Need-magnitude32-requires Inv-loop μ-loop
-magnitude32-requires c κs = search needs
-
 loop-holds : tie.Need-loop-holds Inv-loop μ-loop
 loop-holds c = changing-none _ _
-
-mul-adapted-by : tie.Need-mul-adapted-by Inv-loop μ-loop
-mul-adapted-by c = search needs
-
-slice-copy-out-adapted-by : tie.Need-slice-copy-out-adapted-by Inv-loop μ-loop
-slice-copy-out-adapted-by c = search needs
-
-mul-adapted-by-2 : tie.Need-mul-adapted-by-2 Inv-loop μ-loop
-mul-adapted-by-2 c = search needs
-
-shared-slice-copy-out-adapted-by : tie.Need-shared-slice-copy-out-adapted-by Inv-loop μ-loop
-shared-slice-copy-out-adapted-by c = search needs
 
 abbrev start : tie.At-loop Inv-loop μ-loop → tie.Start Inv-loop μ-loop
 start c = c .before .before .before
@@ -83,21 +68,6 @@ adapted-by-requires c κs =
     let r = adapt-room (s .args .j) (s .args .t) (s .args .w .now) (s .args .a .now) (l .loop .i) (s .pre) (omega arith) in
     simp (raised l, weight (c .before), datum c, toZ-ofZ (s .fits .j)) (s .pre .t-most, refl, sized l, r .0, r .1)
 
-mul-new : tie.Need-mul-new Inv-loop μ-loop
-mul-new c = search needs
-
-slice-set-from-new : tie.Need-slice-set-from-new Inv-loop μ-loop
-slice-set-from-new c = search needs
-
-magnitude16-requires : tie.Need-magnitude16-requires Inv-loop μ-loop
-magnitude16-requires c κs = search needs
-
-add-i : tie.Need-add-i Inv-loop μ-loop
-add-i c = search needs
-
-loop-less : tie.Need-loop-less Inv-loop μ-loop
-loop-less c = omega arith
-
 loop-again : tie.Need-loop-again Inv-loop μ-loop
 loop-again c =
     let d = c .before in
@@ -122,23 +92,7 @@ pub adapt-all-spec : {M : Type 1} → statement M
 adapt-all-spec =
     tie.close
     (tie.spec
-    Inv-loop
-    μ-loop
-    cast-raise
-    sub-raise
-    raise-requires
-    magnitude32-requires
-    loop-holds
-    mul-adapted-by
-    slice-copy-out-adapted-by
-    mul-adapted-by-2
-    shared-slice-copy-out-adapted-by
-    adapted-by-requires
-    mul-new
-    slice-set-from-new
-    magnitude16-requires
-    add-i
-    loop-less
-    loop-again
-    same-length
+    Inv-loop μ-loop cast-raise sub-raise raise-requires (λ c κs. search needs) loop-holds (λ c. search needs)
+    (λ c. search needs) (λ c. search needs) (λ c. search needs) adapted-by-requires (λ c. search needs)
+    (λ c. search needs) (λ c κs. search needs) (λ c. search needs) (λ c. omega arith) loop-again same-length
     returns)

@@ -21,27 +21,12 @@ abbrev μ-loop : tie.MeasureT-loop
 loop-holds : tie.Need-loop-holds Inv-loop μ-loop
 loop-holds c = sym together-none
 
-mul-magnitude16 : tie.Need-mul-magnitude16 Inv-loop μ-loop
-mul-magnitude16 c = search needs
-
-shared-slice-copy-out-magnitude16 : tie.Need-shared-slice-copy-out-magnitude16 Inv-loop μ-loop
-shared-slice-copy-out-magnitude16 c = search needs
-
-magnitude16-requires : tie.Need-magnitude16-requires Inv-loop μ-loop
-magnitude16-requires c κs = search needs
-
 sized : (c : tie.After-magnitude16 Inv-loop μ-loop) →
     c .magnitude16 .result ≡ getD (magnitudes (c .before .before .before .before .args .xs .now)) (c .before .before .before .loop .i) 0
 sized c =
     c .magnitude16 .ensures
     ∙ ap natAbs (kept w16 (getD (c .before .before .before .before .args .xs .now) (c .before .before .before .loop .i) (pos 0)) (c .before .magnitude16-arg .given))
     ∙ sym (List·getD-map natAbs (c .before .before .before .before .args .xs .now) (c .before .before .before .loop .i) (pos 0))
-
-add-i : tie.Need-add-i Inv-loop μ-loop
-add-i c = search needs
-
-loop-less : tie.Need-loop-less Inv-loop μ-loop
-loop-less c = omega arith
 
 loop-again : tie.Need-loop-again Inv-loop μ-loop
 loop-again c =
@@ -55,13 +40,5 @@ pub bits-spec : {M : Type 1} → statement M
 bits-spec =
     tie.close
     (tie.spec
-    Inv-loop
-    μ-loop
-    loop-holds
-    mul-magnitude16
-    shared-slice-copy-out-magnitude16
-    magnitude16-requires
-    add-i
-    loop-less
-    loop-again
-    returns)
+    Inv-loop μ-loop loop-holds (λ c. search needs) (λ c. search needs) (λ c κs. search needs)
+    (λ c. search needs) (λ c. omega arith) loop-again returns)

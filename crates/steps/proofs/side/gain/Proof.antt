@@ -12,15 +12,6 @@ use Rattle.steps.proofs.side.gain.Tie as tie
 mul-result : tie.Need-mul-result
 mul-result c = record { fits = omega (arith, c .pre .1, rises {a = 29 + c .args .t} {b = 44} (omega (arith, c .pre .0))) }
 
-add-result : tie.Need-add-result
-add-result c = search needs
-
-cast-result : tie.Need-cast-result
-cast-result c = search needs
-
-shr-result : tie.Need-shr-result
-shr-result c = search needs
-
 small : (c : tie.Start) → c .args .factor * c .args .size / 2 ^ (15 + c .args .t) < 2 ^ 14
 small c = gain-small (c .args .factor * c .args .size) (c .args .t) (c .pre .1)
 
@@ -31,4 +22,5 @@ returns : tie.Need-returns
 returns c = toZ-pos w16 (omega (arith, small c))
 
 pub gain-spec : {M : Type 1} → statement M
-gain-spec = tie.close (tie.spec mul-result add-result cast-result shr-result cast-result-2 returns)
+gain-spec = tie.close (tie.spec
+    mul-result (λ c. search needs) (λ c. search needs) (λ c. search needs) cast-result-2 returns)

@@ -6,17 +6,9 @@ use Rattle.steps.proofs.LargestLaws.{together-longest}
 use Rattle.steps.proofs.side.longest.Statement.{statement}
 use Rattle.steps.proofs.side.longest.Tie as tie
 
-bits-requires : tie.Need-bits-requires
-bits-requires c κs = search needs
-
-cast-bit-length : tie.Need-cast-bit-length
-cast-bit-length c = search needs
-
-bit-length-requires : tie.Need-bit-length-requires
-bit-length-requires c κs = search needs
-
 returns : tie.Need-returns
 returns c = c .bit-length .ensures ∙ ap bitLength (c .before .bits .ensures) ∙ together-longest (c .before .before .args .xs .now)
 
 pub longest-spec : {M : Type 1} → statement M
-longest-spec = tie.close (tie.spec bits-requires cast-bit-length bit-length-requires returns)
+longest-spec = tie.close (tie.spec
+    (λ c κs. search needs) (λ c. search needs) (λ c κs. search needs) returns)

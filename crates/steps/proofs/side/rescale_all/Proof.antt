@@ -26,12 +26,6 @@ abbrev μ-loop : tie.MeasureT-loop
 loop-holds : tie.Need-loop-holds Inv-loop μ-loop
 loop-holds c = written-none _ _
 
-mul-restored : tie.Need-mul-restored Inv-loop μ-loop
-mul-restored c = omega arith
-
-slice-copy-out-restored : tie.Need-slice-copy-out-restored Inv-loop μ-loop
-slice-copy-out-restored c = search needs
-
 held : (c : tie.After-restored-arg Inv-loop μ-loop) → SFits w16 (getD (c .before .before .loop .xs) (c .before .before .loop .n) (pos 0))
 held c = sfits-of (c .restored-arg .given)
 
@@ -51,18 +45,6 @@ restored-requires c κs =
     let a = c .before .before .before .args in
     rw (sample c) (each-at (Storable (a .i) (a .j)) (a .xs .now) (c .before .before .loop .n) (pos 0) (c .before .before .before .pre) (omega arith))
 
-mul-t11 : tie.Need-mul-t11 Inv-loop μ-loop
-mul-t11 c = omega arith
-
-slice-set-from-xs : tie.Need-slice-set-from-xs Inv-loop μ-loop
-slice-set-from-xs c = search needs
-
-add-n : tie.Need-add-n Inv-loop μ-loop
-add-n c = omega arith
-
-loop-less : tie.Need-loop-less Inv-loop μ-loop
-loop-less c = omega arith
-
 loop-again : tie.Need-loop-again Inv-loop μ-loop
 loop-again c =
     let a = c .before .before .before .before .args in
@@ -81,17 +63,6 @@ pub rescale-all-spec : {M : Type 1} → statement M
 rescale-all-spec =
     tie.close
     (tie.spec
-    Inv-loop
-    μ-loop
-    loop-holds
-    mul-restored
-    slice-copy-out-restored
-    cast-restored
-    restored-requires
-    mul-t11
-    slice-set-from-xs
-    add-n
-    loop-less
-    loop-again
-    same-length
+    Inv-loop μ-loop loop-holds (λ c. omega arith) (λ c. search needs) cast-restored restored-requires
+    (λ c. omega arith) (λ c. search needs) (λ c. omega arith) (λ c. omega arith) loop-again same-length
     returns)

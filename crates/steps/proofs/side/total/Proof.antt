@@ -22,18 +22,6 @@ abbrev μ-loop : tie.MeasureT-loop
 loop-holds : tie.Need-loop-holds Inv-loop μ-loop
 loop-holds c = sym (dot-none _)
 
-mul-mac : tie.Need-mul-mac Inv-loop μ-loop
-mul-mac c = search needs
-
-shared-slice-copy-out-mac : tie.Need-shared-slice-copy-out-mac Inv-loop μ-loop
-shared-slice-copy-out-mac c = search needs
-
-mul-mac-2 : tie.Need-mul-mac-2 Inv-loop μ-loop
-mul-mac-2 c = search needs
-
-shared-slice-copy-out-mac-2 : tie.Need-shared-slice-copy-out-mac-2 Inv-loop μ-loop
-shared-slice-copy-out-mac-2 c = omega arith
-
 step : (c : tie.After-mac-arg2 Inv-loop μ-loop) →
     let s = c .before .before .before .before .args in
     let l = c .before .before .before .loop in
@@ -50,12 +38,6 @@ mac-requires c κs =
     let s = c .before .before .before .before in
     subst (λ (z : ℤ). natAbs z < 2 ^ 31) (sym (step c)) (sum-bound (s .args .w .now) (s .args .a .now) (c .before .before .before .loop .i + 1) (s .pre))
 
-add-i : tie.Need-add-i Inv-loop μ-loop
-add-i c = search needs
-
-loop-less : tie.Need-loop-less Inv-loop μ-loop
-loop-less c = omega arith
-
 loop-again : tie.Need-loop-again Inv-loop μ-loop
 loop-again c = kept w32 (c .mac .result) (c .mac .ok) ∙ c .mac .ensures ∙ step (c .before)
 
@@ -68,15 +50,5 @@ pub total-spec : {M : Type 1} → statement M
 total-spec =
     tie.close
     (tie.spec
-    Inv-loop
-    μ-loop
-    loop-holds
-    mul-mac
-    shared-slice-copy-out-mac
-    mul-mac-2
-    shared-slice-copy-out-mac-2
-    mac-requires
-    add-i
-    loop-less
-    loop-again
-    returns)
+    Inv-loop μ-loop loop-holds (λ c. search needs) (λ c. search needs) (λ c. search needs) (λ c. omega arith)
+    mac-requires (λ c. search needs) (λ c. omega arith) loop-again returns)

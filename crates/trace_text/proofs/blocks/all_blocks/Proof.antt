@@ -26,12 +26,6 @@ shared-slice-read-number16 c = let s = c .before .before .before in omega (arith
 shared-slice-read-number16-2 : tie.Need-shared-slice-read-number16-2 Inv-loop μ-loop
 shared-slice-read-number16-2 c = let s = c .before .before .before .before in omega (arith, well-long _ (s .pre .trace .well-formed))
 
-number16-requires : tie.Need-number16-requires Inv-loop μ-loop
-number16-requires c κs = search needs
-
-cast-count : tie.Need-cast-count Inv-loop μ-loop
-cast-count c = search needs
-
 -- ---- the turn that calls
 
 abbrev first : tie.After-number16 Inv-loop μ-loop → tie.Start Inv-loop μ-loop
@@ -111,18 +105,6 @@ pub all-blocks-spec : {M : Type 1} → statement M
 all-blocks-spec =
     tie.close
     (tie.spec
-    Inv-loop
-    μ-loop
-    shared-slice-read-number16
-    shared-slice-read-number16-2
-    number16-requires
-    cast-count
-    loop-holds
-    block-text-requires
-    same-length
-    returns
-    add-i
-    loop-less
-    loop-again
-    same-length-2
-    returns-2)
+    Inv-loop μ-loop shared-slice-read-number16 shared-slice-read-number16-2 (λ c κs. search needs)
+    (λ c. search needs) loop-holds block-text-requires same-length returns add-i loop-less loop-again
+    same-length-2 returns-2)

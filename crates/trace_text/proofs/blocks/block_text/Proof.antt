@@ -54,26 +54,14 @@ bytes-below c i = omega (arith, c .before .before .before .before .before .befor
 block-below : (c : tie.After-run-block) → start c .args .i < 2 ^ 16
 block-below c = omega (arith, start c .pre .within, bytes-below c 6, bytes-below c 7)
 
-cast-n : tie.Need-cast-n
-cast-n c = search needs
-
 mul-first : tie.Need-mul-first
 mul-first c = omega (arith, few (c .before .before .before))
-
-array-borrow-prefix-y : tie.Need-array-borrow-prefix-y
-array-borrow-prefix-y c = search needs
 
 slice-aggregate-run-block : tie.Need-slice-aggregate-run-block
 slice-aggregate-run-block c = sym (area (c .before .before .before .before) (pos 0))
 
-array-borrow-prefix-xi : tie.Need-array-borrow-prefix-xi
-array-borrow-prefix-xi c = search needs
-
 slice-aggregate-run-block-2 : tie.Need-slice-aggregate-run-block-2
 slice-aggregate-run-block-2 c = sym (area (c .before .before .before .before .before) 0)
-
-array-borrow-prefix-decision : tie.Need-array-borrow-prefix-decision
-array-borrow-prefix-decision c = search needs
 
 slice-aggregate-run-block-3 : tie.Need-slice-aggregate-run-block-3
 slice-aggregate-run-block-3 c = sym (area (c .before .before .before .before .before .before) (pos 0))
@@ -90,9 +78,6 @@ stop-line-requires : tie.Need-stop-line-requires
 stop-line-requires c κs =
     let r = c .before .before .before .before .before .before in
     (omega (arith, ran r .number, run-most (start r .args .e) (lent r)), block-below r, omega (arith, start r .pre .room))
-
-same-length : tie.Need-same-length
-same-length c = search needs
 
 returns : tie.Need-returns
 returns c =
@@ -151,9 +136,6 @@ lines-requires c κs =
       omega (arith, s .pre .room, front-long (y r) rest n (long (c .before .before .before .before) .0)),
     )
 
-same-length-2 : tie.Need-same-length-2
-same-length-2 c = search needs
-
 returns-2 : tie.Need-returns-2
 returns-2 c =
     let w = c .before .before in
@@ -171,26 +153,8 @@ pub block-text-spec : {M : Type 1} → statement M
 block-text-spec =
     tie.close
     (tie.spec
-    cast-n
-    mul-first
-    array-borrow-prefix-y
-    slice-aggregate-run-block
-    array-borrow-prefix-xi
-    slice-aggregate-run-block-2
-    array-borrow-prefix-decision
-    slice-aggregate-run-block-3
-    run-block-requires
-    cast-stop-line
-    stop-line-requires
-    same-length
-    returns
-    cast-lines
-    array-share-prefix-y
-    slice-aggregate-lines
-    array-share-prefix-xi
-    slice-aggregate-lines-2
-    array-share-prefix-decision
-    slice-aggregate-lines-3
-    lines-requires
-    same-length-2
-    returns-2)
+    (λ c. search needs) mul-first (λ c. search needs) slice-aggregate-run-block (λ c. search needs)
+    slice-aggregate-run-block-2 (λ c. search needs) slice-aggregate-run-block-3 run-block-requires
+    cast-stop-line stop-line-requires (λ c. search needs) returns cast-lines array-share-prefix-y
+    slice-aggregate-lines array-share-prefix-xi slice-aggregate-lines-2 array-share-prefix-decision
+    slice-aggregate-lines-3 lines-requires (λ c. search needs) returns-2)

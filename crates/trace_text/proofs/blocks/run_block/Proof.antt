@@ -35,23 +35,11 @@ entries c = c .block .last .1 .1 .1 .1 .0
 read : (c : tie.After-block) → let s = start c in Read-is (s .args .t .now) (s .args .first) (s .args .e .n) (m c) (gains c) (entries c)
 read c = subst (λ (n : ℕ). Read-is (start c .args .t .now) (start c .args .first) n (m c) (gains c) (entries c)) (area (start c) (pos 0)) (c .block .ensures)
 
-cast-n : tie.Need-cast-n
-cast-n c = search needs
-
-array-borrow-prefix-m : tie.Need-array-borrow-prefix-m
-array-borrow-prefix-m c = search needs
-
 slice-aggregate-block : tie.Need-slice-aggregate-block
 slice-aggregate-block c = sym (area (c .before .before .before .before) (pos 0))
 
-array-borrow-prefix-gains : tie.Need-array-borrow-prefix-gains
-array-borrow-prefix-gains c = search needs
-
 slice-aggregate-block-2 : tie.Need-slice-aggregate-block-2
 slice-aggregate-block-2 c = sym (area (c .before .before .before .before .before) 0)
-
-array-borrow-prefix-entries : tie.Need-array-borrow-prefix-entries
-array-borrow-prefix-entries c = search needs
 
 slice-aggregate-block-3 : tie.Need-slice-aggregate-block-3
 slice-aggregate-block-3 c = sym (area (c .before .before .before .before .before .before) (pos 0))
@@ -84,29 +72,11 @@ array-share-prefix-entries c = let r = c .before .before .before .before .before
 slice-aggregate-run-3 : tie.Need-slice-aggregate-run-3
 slice-aggregate-run-3 c = let r = c .before .before .before .before .before .before in sym (front-long (entries r) _ _ (read-long (read r) .2))
 
-array-borrow-prefix-z : tie.Need-array-borrow-prefix-z
-array-borrow-prefix-z c = search needs
-
 slice-aggregate-run-4 : tie.Need-slice-aggregate-run-4
 slice-aggregate-run-4 c = sym (area (c .before .before .before .before .before .before .before .before .before .before .before .before .before .before .before .before .before) (pos 0))
 
-array-borrow-prefix-theta : tie.Need-array-borrow-prefix-theta
-array-borrow-prefix-theta c = search needs
-
 slice-aggregate-run-5 : tie.Need-slice-aggregate-run-5
 slice-aggregate-run-5 c = sym (area (c .before .before .before .before .before .before .before .before .before .before .before .before .before .before .before .before .before .before) 0)
-
-run-requires : tie.Need-run-requires
-run-requires c κs = search needs
-
-same-length : tie.Need-same-length
-same-length c = search needs
-
-same-length-2 : tie.Need-same-length-2
-same-length-2 c = search needs
-
-same-length-3 : tie.Need-same-length-3
-same-length-3 c = search needs
 
 returns : tie.Need-returns
 returns c =
@@ -126,26 +96,8 @@ pub run-block-spec : {M : Type 1} → statement M
 run-block-spec =
     tie.close
     (tie.spec
-    cast-n
-    array-borrow-prefix-m
-    slice-aggregate-block
-    array-borrow-prefix-gains
-    slice-aggregate-block-2
-    array-borrow-prefix-entries
-    slice-aggregate-block-3
-    block-requires
-    array-share-prefix-m
-    slice-aggregate-run
-    array-share-prefix-gains
-    slice-aggregate-run-2
-    array-share-prefix-entries
-    slice-aggregate-run-3
-    array-borrow-prefix-z
-    slice-aggregate-run-4
-    array-borrow-prefix-theta
-    slice-aggregate-run-5
-    run-requires
-    same-length
-    same-length-2
-    same-length-3
-    returns)
+    (λ c. search needs) (λ c. search needs) slice-aggregate-block (λ c. search needs) slice-aggregate-block-2
+    (λ c. search needs) slice-aggregate-block-3 block-requires array-share-prefix-m slice-aggregate-run
+    array-share-prefix-gains slice-aggregate-run-2 array-share-prefix-entries slice-aggregate-run-3
+    (λ c. search needs) slice-aggregate-run-4 (λ c. search needs) slice-aggregate-run-5 (λ c κs. search needs)
+    (λ c. search needs) (λ c. search needs) (λ c. search needs) returns)

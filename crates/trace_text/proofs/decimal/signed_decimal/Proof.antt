@@ -20,9 +20,6 @@ use Rattle.trace_text.proofs.decimal.signed_decimal.Tie as tie
 cast-magnitude : tie.Need-cast-magnitude
 cast-magnitude c = simp (toZ-ofZ (c .before .fits .z)) (sfits-widen tt (c .before .fits .z))
 
-magnitude-requires : tie.Need-magnitude-requires
-magnitude-requires c κs = search needs
-
 size : (c : tie.After-magnitude) → c .magnitude .result ≡ natAbs (c .before .before .args .z)
 size c =
     let f = c .before .before .fits .z in
@@ -48,9 +45,6 @@ slice-write-out c = omega (arith, ap length (negative c))
 sign : (c : tie.Then1) → let a = c .before .before .before .args in TextAt (a .at) (45 ∷ []) (a .out .now) (a .at + 1) (set (a .out .now) (a .at) 45)
 sign c = text-byte _ 45 _ (slice-write-out c)
 
-add-decimal : tie.Need-add-decimal
-add-decimal c = search needs
-
 decimal-requires : tie.Need-decimal-requires
 decimal-requires c κs = text-room (sign (c .before)) (decimal (c .before .before .magnitude .result)) (omega (arith, ap length (negative (c .before))))
 
@@ -65,9 +59,6 @@ returns c =
 same-length : tie.Need-same-length
 same-length c = text-long (returns c) (omega arith)
 
-same-length-2 : tie.Need-same-length-2
-same-length-2 c = search needs
-
 returns-2 : tie.Need-returns-2
 returns-2 c = text-same (sym (whole (c .before .before .before .before))) (c .before .before .decimal2 .ensures)
 
@@ -75,14 +66,5 @@ pub signed-decimal-spec : {M : Type 1} → statement M
 signed-decimal-spec =
     tie.close
     (tie.spec
-    cast-magnitude
-    magnitude-requires
-    cast-size
-    slice-write-out
-    add-decimal
-    decimal-requires
-    decimal-requires-2
-    same-length
-    returns
-    same-length-2
-    returns-2)
+    cast-magnitude (λ c κs. search needs) cast-size slice-write-out (λ c. search needs) decimal-requires
+    decimal-requires-2 same-length returns (λ c. search needs) returns-2)

@@ -14,15 +14,9 @@ Inv-loop n left₀ count₀ left count = count + length (decimal left) ≡ lengt
 abbrev μ-loop : tie.MeasureT-loop
 μ-loop n left₀ count₀ left count = left
 
-loop-holds : tie.Need-loop-holds Inv-loop μ-loop
-loop-holds c = omega arith
-
 add-count : tie.Need-add-count Inv-loop μ-loop
 add-count c =
     omega (arith, length-more (c .before .loop .left) (c .loop-test .taken), decimal-short 9 (c .before .before .args .n) (omega arith))
-
-loop-less : tie.Need-loop-less Inv-loop μ-loop
-loop-less c = omega arith
 
 loop-again : tie.Need-loop-again Inv-loop μ-loop
 loop-again c = omega (arith, length-more (c .before .loop .left) (c .loop-test .taken))
@@ -31,4 +25,5 @@ returns : tie.Need-returns Inv-loop μ-loop
 returns c = omega (arith, length-one (c .before .loop .left) (c .loop-test .left))
 
 pub width-spec : {M : Type 1} → statement M
-width-spec = tie.close (tie.spec Inv-loop μ-loop loop-holds add-count loop-less loop-again returns)
+width-spec = tie.close (tie.spec
+    Inv-loop μ-loop (λ c. omega arith) add-count (λ c. omega arith) loop-again returns)

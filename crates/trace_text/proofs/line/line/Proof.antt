@@ -66,17 +66,11 @@ text₃ c = text-then (text₂ (c .before .before .before .before)) (omega arith
 
 -- ---- the needs
 
-cast-field : tie.Need-cast-field
-cast-field c = search needs
-
 field-requires : tie.Need-field-requires
 field-requires c κs = let s = c .before .before in room-front (s .args .at) (A s) (B s) (room₂ s)
 
 field-requires-2 : tie.Need-field-requires-2
 field-requires-2 c κs = let f = c .before .before .before in text-room (f .field .ensures) (B (start f)) (room₂ (start f))
-
-cast-field-2 : tie.Need-cast-field-2
-cast-field-2 c = search needs
 
 field-requires-3 : tie.Need-field-requires-3
 field-requires-3 c κs =
@@ -95,9 +89,6 @@ field-requires-4 c κs =
     let s = start (f .before .before .before .before .before .before .before .before) in
     text-room (text₃ f) (D s) (room s)
 
-same-length : tie.Need-same-length
-same-length c = search needs
-
 returns : tie.Need-returns
 returns c =
     let f = c .before .before .before .before .before .before in
@@ -108,12 +99,5 @@ pub line-spec : {M : Type 1} → statement M
 line-spec =
     tie.close
     (tie.spec
-    cast-field
-    field-requires
-    field-requires-2
-    cast-field-2
-    field-requires-3
-    cast-field-3
-    field-requires-4
-    same-length
-    returns)
+    (λ c. search needs) field-requires field-requires-2 (λ c. search needs) field-requires-3 cast-field-3
+    field-requires-4 (λ c. search needs) returns)

@@ -112,18 +112,5 @@ pub lines-spec : {M : Type 1} → statement M
 lines-spec =
     tie.close
     (tie.spec
-    Inv-loop
-    μ-loop
-    loop-holds
-    cast-line
-    add-line
-    mul-line
-    shared-slice-copy-out-line
-    shared-slice-read-line
-    shared-slice-copy-out-line-2
-    line-requires
-    add-i
-    loop-less
-    loop-again
-    same-length
-    returns)
+    Inv-loop μ-loop loop-holds cast-line add-line mul-line shared-slice-copy-out-line shared-slice-read-line
+    shared-slice-copy-out-line-2 line-requires add-i loop-less loop-again same-length returns)

@@ -41,31 +41,16 @@ start₂ c = start (c .before .before .before .before)
 text₂ : (c : tie.After-field) → TextAt (start₂ c .args .at) (A (start₂ c) ++ B (start₂ c)) (start₂ c .args .out .now) (c .field .result) (c .field .last .1 .1 .1 .0)
 text₂ c = text-then (c .before .before .before .before .word .ensures) (omega arith) (c .field .ensures)
 
-slice-aggregate-word : tie.Need-slice-aggregate-word
-slice-aggregate-word c = search needs
-
-word-requires : tie.Need-word-requires
-word-requires c κs = search needs
-
-cast-field : tie.Need-cast-field
-cast-field c = search needs
-
 field-requires : tie.Need-field-requires
 field-requires c κs =
     let w = c .before .before .before in
     let s = start w in
     text-room (w .word .ensures) (B s) (room-front (s .args .at) (A s ++ B s) (C s) (room s))
 
-cast-field-2 : tie.Need-cast-field-2
-cast-field-2 c = search needs
-
 field-requires-2 : tie.Need-field-requires-2
 field-requires-2 c κs =
     let f = c .before .before .before in
     text-room (text₂ f) (C (start₂ f)) (room (start₂ f))
-
-same-length : tie.Need-same-length
-same-length c = search needs
 
 returns : tie.Need-returns
 returns c =
@@ -76,11 +61,5 @@ pub stop-line-spec : {M : Type 1} → statement M
 stop-line-spec =
     tie.close
     (tie.spec
-    slice-aggregate-word
-    word-requires
-    cast-field
-    field-requires
-    cast-field-2
-    field-requires-2
-    same-length
-    returns)
+    (λ c. search needs) (λ c κs. search needs) (λ c. search needs) field-requires (λ c. search needs)
+    field-requires-2 (λ c. search needs) returns)

@@ -63,9 +63,6 @@ add-signed16 c = omega (arith, inside (c .before))
 shared-slice-read-signed16-2 : tie.Need-shared-slice-read-signed16-2 Inv-loop μ-loop
 shared-slice-read-signed16-2 c = omega (arith, inside (c .before .before))
 
-signed16-requires : tie.Need-signed16-requires Inv-loop μ-loop
-signed16-requires c κs = search needs
-
 mul-t19 : tie.Need-mul-t19 Inv-loop μ-loop
 mul-t19 c = omega (arith, inside (c .before .before .before))
 
@@ -86,9 +83,6 @@ add-signed8 c = omega (arith, inside (c .before .before .before .before))
 
 shared-slice-read-signed8 : tie.Need-shared-slice-read-signed8 Inv-loop μ-loop
 shared-slice-read-signed8 c = omega (arith, inside (c .before .before .before .before .before))
-
-signed8-requires : tie.Need-signed8-requires Inv-loop μ-loop
-signed8-requires c κs = search needs
 
 slice-set-from-entries : tie.Need-slice-set-from-entries Inv-loop μ-loop
 slice-set-from-entries c = omega (arith, inside (c .before .before .before .before .before .before), c .before .before .before .before .before .before .before .loop .inv .2 .long, c .before .before .before .before .before .before .before .before .before .before .before .pre .entries-long)
@@ -135,32 +129,8 @@ pub block-spec : {M : Type 1} → statement M
 block-spec =
     tie.close
     (tie.spec
-    Inv-loop
-    μ-loop
-    samples-requires
-    mul-start
-    add-start
-    loop-holds
-    add-n
-    mul-at
-    add-at
-    shared-slice-read-signed16
-    add-signed16
-    shared-slice-read-signed16-2
-    signed16-requires
-    mul-t19
-    slice-set-from-m
-    add-gains
-    shared-slice-read-gains
-    slice-write-gains
-    add-signed8
-    shared-slice-read-signed8
-    signed8-requires
-    slice-set-from-entries
-    add-i
-    loop-less
-    loop-again
-    same-length
-    same-length-2
-    same-length-3
-    returns)
+    Inv-loop μ-loop samples-requires mul-start add-start loop-holds add-n mul-at add-at
+    shared-slice-read-signed16 add-signed16 shared-slice-read-signed16-2 (λ c κs. search needs) mul-t19
+    slice-set-from-m add-gains shared-slice-read-gains slice-write-gains add-signed8 shared-slice-read-signed8
+    (λ c κs. search needs) slice-set-from-entries add-i loop-less loop-again same-length same-length-2
+    same-length-3 returns)

@@ -30,17 +30,11 @@ tested c =
     well-tested (bytes c) (c .before .before .if1 .left) (c .before .if2 .left)
     ∙ ap (λ (n : ℕ). eqb (length (bytes c)) (headerLength + 4 * n) && eqb (getD (bytes c) 5 0) 0) (sym (c .samples .ensures))
 
-samples-requires : tie.Need-samples-requires
-samples-requires c κs = search needs
-
 mul-if3 : tie.Need-mul-if3
 mul-if3 c = omega (arith, c .samples .ensures, product c)
 
 add-if3 : tie.Need-add-if3
 add-if3 c = omega (arith, c .samples .ensures, product c)
-
-shared-slice-read-result : tie.Need-shared-slice-read-result
-shared-slice-read-result c = search needs
 
 returns : tie.Need-returns
 returns c = sym (well-short _ (c .if1 .taken))
@@ -62,11 +56,4 @@ pub well-formed-spec : {M : Type 1} → statement M
 well-formed-spec =
     tie.close
     (tie.spec
-    samples-requires
-    mul-if3
-    add-if3
-    shared-slice-read-result
-    returns
-    returns-2
-    returns-3
-    returns-4)
+    (λ c κs. search needs) mul-if3 add-if3 (λ c. search needs) returns returns-2 returns-3 returns-4)

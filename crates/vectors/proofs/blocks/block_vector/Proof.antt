@@ -7,17 +7,11 @@ use Rattle.vectors.specs.Block.{blockEnd}
 use Rattle.vectors.proofs.blocks.block_vector.Statement.{statement}
 use Rattle.vectors.proofs.blocks.block_vector.Tie as tie
 
-size-requires : tie.Need-size-requires
-size-requires c κs = search needs
-
 returns : tie.Need-returns
 returns c =
     let v = c .before .before .before .args .v .now in
     let t = lt-leb (blockEnd v) (length v) (omega (arith, c .before .size .ensures, c .if1 .taken)) in
     record { size = simp t; same = simp t }
-
-same-block-requires : tie.Need-same-block-requires
-same-block-requires c κs = search needs
 
 returns-2 : tie.Need-returns-2
 returns-2 c =
@@ -27,4 +21,5 @@ returns-2 c =
     record { size = z .size .ensures ∙ simp t; same = c .same-block .ensures ∙ simp t }
 
 pub block-vector-spec : {M : Type 1} → statement M
-block-vector-spec = tie.close (tie.spec size-requires returns same-block-requires returns-2)
+block-vector-spec = tie.close (tie.spec
+    (λ c κs. search needs) returns (λ c κs. search needs) returns-2)

@@ -24,36 +24,6 @@ abbrev μ-loop : tie.MeasureT-loop
 loop-holds : tie.Need-loop-holds Inv-loop μ-loop
 loop-holds c = (written-none _ _, written-none _ _)
 
-mul-signed16-at : tie.Need-mul-signed16-at Inv-loop μ-loop
-mul-signed16-at c = search needs
-
-add-signed16-at : tie.Need-add-signed16-at Inv-loop μ-loop
-add-signed16-at c = search needs
-
-signed16-at-requires : tie.Need-signed16-at-requires Inv-loop μ-loop
-signed16-at-requires c κs = search needs
-
-mul-samples : tie.Need-mul-samples Inv-loop μ-loop
-mul-samples c = search needs
-
-array-set-from-samples : tie.Need-array-set-from-samples Inv-loop μ-loop
-array-set-from-samples c = search needs
-
-add-signed8-at : tie.Need-add-signed8-at Inv-loop μ-loop
-add-signed8-at c = search needs
-
-signed8-at-requires : tie.Need-signed8-at-requires Inv-loop μ-loop
-signed8-at-requires c κs = search needs
-
-array-set-from-entries : tie.Need-array-set-from-entries Inv-loop μ-loop
-array-set-from-entries c = search needs
-
-add-i : tie.Need-add-i Inv-loop μ-loop
-add-i c = search needs
-
-loop-less : tie.Need-loop-less Inv-loop μ-loop
-loop-less c = search needs
-
 loop-again : tie.Need-loop-again Inv-loop μ-loop
 loop-again c =
     let l = c .before .before .before in
@@ -76,18 +46,6 @@ pub lists-in-spec : {M : Type 1} → statement M
 lists-in-spec =
     tie.close
     (tie.spec
-    Inv-loop
-    μ-loop
-    loop-holds
-    mul-signed16-at
-    add-signed16-at
-    signed16-at-requires
-    mul-samples
-    array-set-from-samples
-    add-signed8-at
-    signed8-at-requires
-    array-set-from-entries
-    add-i
-    loop-less
-    loop-again
-    returns)
+    Inv-loop μ-loop loop-holds (λ c. search needs) (λ c. search needs) (λ c κs. search needs)
+    (λ c. search needs) (λ c. search needs) (λ c. search needs) (λ c κs. search needs) (λ c. search needs)
+    (λ c. search needs) (λ c. search needs) loop-again returns)

@@ -8,33 +8,6 @@ use Rattle.vectors.proofs.BlockLaws.{list-fits, samples-within, entries
 use Rattle.vectors.proofs.blocks.run_block.Statement.{statement}
 use Rattle.vectors.proofs.blocks.run_block.Tie as tie
 
-length-at-requires : tie.Need-length-at-requires
-length-at-requires c κs = search needs
-
-cast-a : tie.Need-cast-a
-cast-a c = search needs
-
-length-at-requires-2 : tie.Need-length-at-requires-2
-length-at-requires-2 c κs = search needs
-
-cast-b : tie.Need-cast-b
-cast-b c = search needs
-
-length-at-requires-3 : tie.Need-length-at-requires-3
-length-at-requires-3 c κs = search needs
-
-cast-c : tie.Need-cast-c
-cast-c c = search needs
-
-mul-gains : tie.Need-mul-gains
-mul-gains c = search needs
-
-add-gains : tie.Need-add-gains
-add-gains c = search needs
-
-add-at : tie.Need-add-at
-add-at c = search needs
-
 abbrev start : tie.After-length-at3 → tie.Start
 start c = c .before .before .before .before
 
@@ -50,23 +23,11 @@ array-share-prefix-samples c = let l = c .before .before in samples-within (star
 slice-aggregate-run-on : tie.Need-slice-aggregate-run-on
 slice-aggregate-run-on c = let l = c .before .before .before in sym (length-take-le _ _ (samples-within (start (l .before) .args .v .now) (start (l .before) .pre .fits) _ _ _ (l .before .before .before .length-at .ensures) (l .before .before .length-at2 .ensures) (l .before .length-at3 .ensures) (l .lists-in .result) (l .lists-in .ensures)))
 
-sub-run-on : tie.Need-sub-run-on
-sub-run-on c = search needs
-
-part-run-on-start : tie.Need-part-run-on-start
-part-run-on-start c = search needs
-
-part-run-on-end : tie.Need-part-run-on-end
-part-run-on-end c = search needs
-
 array-share-prefix-entries : tie.Need-array-share-prefix-entries
 array-share-prefix-entries c = let l = c .before .before .before .before in entries-within (start (l .before) .args .v .now) (start (l .before) .pre .fits) _ _ _ (l .before .before .before .length-at .ensures) (l .before .before .length-at2 .ensures) (l .before .length-at3 .ensures) (l .lists-in .result) (l .lists-in .ensures)
 
 slice-aggregate-run-on-2 : tie.Need-slice-aggregate-run-on-2
 slice-aggregate-run-on-2 c = let l = c .before .before .before .before .before in sym (length-take-le _ _ (entries-within (start (l .before) .args .v .now) (start (l .before) .pre .fits) _ _ _ (l .before .before .before .length-at .ensures) (l .before .before .length-at2 .ensures) (l .before .length-at3 .ensures) (l .lists-in .result) (l .lists-in .ensures)))
-
-run-on-requires : tie.Need-run-on-requires
-run-on-requires c κs = search needs
 
 returns : tie.Need-returns
 returns c = let l = c .before .before .before .before .before .before in c .run-on .ensures ∙ result-in (start (l .before) .args .v .now) (start (l .before) .pre .fits) _ _ _ (l .before .before .before .length-at .ensures) (l .before .before .length-at2 .ensures) (l .before .length-at3 .ensures) (l .lists-in .result) (l .lists-in .ensures)
@@ -75,22 +36,8 @@ pub run-block-spec : {M : Type 1} → statement M
 run-block-spec =
     tie.close
     (tie.spec
-    length-at-requires
-    cast-a
-    length-at-requires-2
-    cast-b
-    length-at-requires-3
-    cast-c
-    mul-gains
-    add-gains
-    add-at
-    lists-in-requires
-    array-share-prefix-samples
-    slice-aggregate-run-on
-    sub-run-on
-    part-run-on-start
-    part-run-on-end
-    array-share-prefix-entries
-    slice-aggregate-run-on-2
-    run-on-requires
-    returns)
+    (λ c κs. search needs) (λ c. search needs) (λ c κs. search needs) (λ c. search needs)
+    (λ c κs. search needs) (λ c. search needs) (λ c. search needs) (λ c. search needs) (λ c. search needs)
+    lists-in-requires array-share-prefix-samples slice-aggregate-run-on (λ c. search needs)
+    (λ c. search needs) (λ c. search needs) array-share-prefix-entries slice-aggregate-run-on-2
+    (λ c κs. search needs) returns)

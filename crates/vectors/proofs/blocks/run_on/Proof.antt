@@ -8,54 +8,6 @@ use Rattle.vectors.proofs.BlockLaws.{list-fits, lent-on, result-on}
 use Rattle.vectors.proofs.blocks.run_on.Statement.{statement}
 use Rattle.vectors.proofs.blocks.run_on.Tie as tie
 
-filled-longs-requires : tie.Need-filled-longs-requires
-filled-longs-requires c κs = search needs
-
-filled-bytes-requires : tie.Need-filled-bytes-requires
-filled-bytes-requires c κs = search needs
-
-filled-signed-requires : tie.Need-filled-signed-requires
-filled-signed-requires c κs = search needs
-
-filled-longs-requires-2 : tie.Need-filled-longs-requires-2
-filled-longs-requires-2 c κs = search needs
-
-filled-bytes-requires-2 : tie.Need-filled-bytes-requires-2
-filled-bytes-requires-2 c κs = search needs
-
-state-requires : tie.Need-state-requires
-state-requires c κs = search needs
-
-length-at-requires : tie.Need-length-at-requires
-length-at-requires c κs = search needs
-
-cast-a : tie.Need-cast-a
-cast-a c = search needs
-
-length-at-requires-2 : tie.Need-length-at-requires-2
-length-at-requires-2 c κs = search needs
-
-cast-b : tie.Need-cast-b
-cast-b c = search needs
-
-length-at-requires-3 : tie.Need-length-at-requires-3
-length-at-requires-3 c κs = search needs
-
-cast-c : tie.Need-cast-c
-cast-c c = search needs
-
-length-at-requires-4 : tie.Need-length-at-requires-4
-length-at-requires-4 c κs = search needs
-
-cast-d : tie.Need-cast-d
-cast-d c = search needs
-
-length-at-requires-5 : tie.Need-length-at-requires-5
-length-at-requires-5 c κs = search needs
-
-cast-f : tie.Need-cast-f
-cast-f c = search needs
-
 abbrev start : tie.After-length-at5 → tie.Start
 start c = c .before .before .before .before .before .before .before .before .before .before .before .before .before
 
@@ -107,9 +59,6 @@ array-borrow-prefix-theta c = theta-lent (c .before .before .before .before) .wi
 slice-aggregate-run-5 : tie.Need-slice-aggregate-run-5
 slice-aggregate-run-5 c = theta-lent (c .before .before .before .before .before) .long
 
-run-requires : tie.Need-run-requires
-run-requires c κs = search needs
-
 returns : tie.Need-returns
 returns c =
     let r = c .before .before .before .before .before .before in
@@ -123,31 +72,10 @@ pub run-on-spec : {M : Type 1} → statement M
 run-on-spec =
     tie.close
     (tie.spec
-    filled-longs-requires
-    filled-bytes-requires
-    filled-signed-requires
-    filled-longs-requires-2
-    filled-bytes-requires-2
-    state-requires
-    length-at-requires
-    cast-a
-    length-at-requires-2
-    cast-b
-    length-at-requires-3
-    cast-c
-    length-at-requires-4
-    cast-d
-    length-at-requires-5
-    cast-f
-    array-borrow-prefix-y
-    slice-aggregate-run
-    array-borrow-prefix-xi
-    slice-aggregate-run-2
-    array-borrow-prefix-decision
-    slice-aggregate-run-3
-    array-borrow-prefix-z
-    slice-aggregate-run-4
-    array-borrow-prefix-theta
-    slice-aggregate-run-5
-    run-requires
-    returns)
+    (λ c κs. search needs) (λ c κs. search needs) (λ c κs. search needs) (λ c κs. search needs)
+    (λ c κs. search needs) (λ c κs. search needs) (λ c κs. search needs) (λ c. search needs)
+    (λ c κs. search needs) (λ c. search needs) (λ c κs. search needs) (λ c. search needs)
+    (λ c κs. search needs) (λ c. search needs) (λ c κs. search needs) (λ c. search needs)
+    array-borrow-prefix-y slice-aggregate-run array-borrow-prefix-xi slice-aggregate-run-2
+    array-borrow-prefix-decision slice-aggregate-run-3 array-borrow-prefix-z slice-aggregate-run-4
+    array-borrow-prefix-theta slice-aggregate-run-5 (λ c κs. search needs) returns)

@@ -9,39 +9,6 @@ use Rattle.vectors.specs.Block.{lengthAt, outputsPlace, afterPlace, same
 use Rattle.vectors.proofs.blocks.same_accepted.Statement.{statement}
 use Rattle.vectors.proofs.blocks.same_accepted.Tie as tie
 
-length-at-requires : tie.Need-length-at-requires
-length-at-requires c κs = search needs
-
-cast-n : tie.Need-cast-n
-cast-n c = search needs
-
-answer-place-requires : tie.Need-answer-place-requires
-answer-place-requires c κs = search needs
-
-add-outputs : tie.Need-add-outputs
-add-outputs c = search needs
-
-mul-after : tie.Need-mul-after
-mul-after c = search needs
-
-add-after : tie.Need-add-after
-add-after c = search needs
-
-add-end : tie.Need-add-end
-add-end c = search needs
-
-sub-same-outputs : tie.Need-sub-same-outputs
-sub-same-outputs c = search needs
-
-part-same-outputs-start : tie.Need-part-same-outputs-start
-part-same-outputs-start c = search needs
-
-part-same-outputs-end : tie.Need-part-same-outputs-end
-part-same-outputs-end c = search needs
-
-same-outputs-requires : tie.Need-same-outputs-requires
-same-outputs-requires c κs = search needs
-
 -- the outputs, and then the record, at the places that v says
 outputs : {b : Bool} (c : tie.After-same-outputs) → c .same-outputs .result ≡ b → let a = c .before .before .before .before .before .args in
     sameOutputs (between (outputsPlace (a .v .now)) (afterPlace (a .v .now)) (a .v .now)) (lengthAt (a .v .now) 0) (a .r) ≡ b
@@ -60,18 +27,6 @@ returns : tie.Need-returns
 unfolding sameAccepted
 returns c = simp (outputs (c .before) (not-true _ (c .if1 .taken)))
 
-sub-same-record : tie.Need-sub-same-record
-sub-same-record c = search needs
-
-part-same-record-start : tie.Need-part-same-record-start
-part-same-record-start c = search needs
-
-part-same-record-end : tie.Need-part-same-record-end
-part-same-record-end c = search needs
-
-same-record-requires : tie.Need-same-record-requires
-same-record-requires c κs = search needs
-
 recorded : {b : Bool} (c : tie.After-same-record) → c .same-record .result ≡ b → let a = c .before .before .before .before .before .before .before .before .before .args in
     sameRecord (a .r .state) (between (afterPlace (a .v .now)) (afterPlace (a .v .now) + recordLength) (a .v .now)) ≡ b
 recorded c e = let p = c .before .before .before .before .before .before in sym (c .same-record .ensures ∙ ap (sameRecord (p .before .before .before .args .r .state)) (after-is p)) ∙ e
@@ -81,18 +36,6 @@ unfolding sameAccepted
 returns-2 c =
     let h = c .before .before .before .before in
     simp (outputs (h .before) (not-false _ (h .if1 .left)), recorded (c .before) (not-true _ (c .if2 .taken)))
-
-sub-same-saved : tie.Need-sub-same-saved
-sub-same-saved c = search needs
-
-part-same-saved-start : tie.Need-part-same-saved-start
-part-same-saved-start c = search needs
-
-part-same-saved-end : tie.Need-part-same-saved-end
-part-same-saved-end c = search needs
-
-same-saved-requires : tie.Need-same-saved-requires
-same-saved-requires c κs = search needs
 
 returns-3 : tie.Need-returns-3
 unfolding sameAccepted
@@ -107,25 +50,8 @@ pub same-accepted-spec : {M : Type 1} → statement M
 same-accepted-spec =
     tie.close
     (tie.spec
-    length-at-requires
-    cast-n
-    answer-place-requires
-    add-outputs
-    mul-after
-    add-after
-    add-end
-    sub-same-outputs
-    part-same-outputs-start
-    part-same-outputs-end
-    same-outputs-requires
-    returns
-    sub-same-record
-    part-same-record-start
-    part-same-record-end
-    same-record-requires
-    returns-2
-    sub-same-saved
-    part-same-saved-start
-    part-same-saved-end
-    same-saved-requires
-    returns-3)
+    (λ c κs. search needs) (λ c. search needs) (λ c κs. search needs) (λ c. search needs) (λ c. search needs)
+    (λ c. search needs) (λ c. search needs) (λ c. search needs) (λ c. search needs) (λ c. search needs)
+    (λ c κs. search needs) returns (λ c. search needs) (λ c. search needs) (λ c. search needs)
+    (λ c κs. search needs) returns-2 (λ c. search needs) (λ c. search needs) (λ c. search needs)
+    (λ c κs. search needs) returns-3)

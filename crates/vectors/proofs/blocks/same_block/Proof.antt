@@ -10,9 +10,6 @@ use Rattle.vectors.proofs.BlockLaws.{list-fits, answer-within, after-wi
 use Rattle.vectors.proofs.blocks.same_block.Statement.{statement}
 use Rattle.vectors.proofs.blocks.same_block.Tie as tie
 
-lists-fit-requires : tie.Need-lists-fit-requires
-lists-fit-requires c κs = search needs
-
 returns : tie.Need-returns
 unfolding sameBlock
 returns c = simp (sym (c .before .lists-fit .ensures) ∙ not-true _ (c .if1 .taken))
@@ -25,12 +22,6 @@ reaches c = answer-within (c .before .before .before .args .v .now) (c .before .
 
 run-block-requires : tie.Need-run-block-requires
 run-block-requires c κs = record { long = omega (arith, reaches c); fits = fits c }
-
-answer-place-requires : tie.Need-answer-place-requires
-answer-place-requires c κs = search needs
-
-byte-at-requires : tie.Need-byte-at-requires
-byte-at-requires c κs = search needs
 
 returns-2 : tie.Need-returns-2
 returns-2 c = let k = c .before .before in block-differs (k .before .before .before .before .before .before .args .v .now) _ _ (k .before .answer-place .ensures) (k .byte-at .ensures) (fits (k .before .before .before)) (k .before .before .run-block .result) (k .before .before .run-block .ensures) (c .if2 .taken)
@@ -60,13 +51,5 @@ pub same-block-spec : {M : Type 1} → statement M
 same-block-spec =
     tie.close
     (tie.spec
-    lists-fit-requires
-    returns
-    run-block-requires
-    answer-place-requires
-    byte-at-requires
-    returns-2
-    same-accepted-requires
-    returns-3
-    same-refused-requires
-    returns-4)
+    (λ c κs. search needs) returns run-block-requires (λ c κs. search needs) (λ c κs. search needs) returns-2
+    same-accepted-requires returns-3 same-refused-requires returns-4)

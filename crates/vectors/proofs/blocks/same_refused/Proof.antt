@@ -9,15 +9,6 @@ use Rattle.vectors.specs.Block.{listLimit, untouched, sameRefused}
 use Rattle.vectors.proofs.blocks.same_refused.Statement.{statement}
 use Rattle.vectors.proofs.blocks.same_refused.Tie as tie
 
-filled-outputs-requires : tie.Need-filled-outputs-requires
-filled-outputs-requires c κs = search needs
-
-slice-aggregate-same-outputs : tie.Need-slice-aggregate-same-outputs
-slice-aggregate-same-outputs c = search needs
-
-same-outputs-requires : tie.Need-same-outputs-requires
-same-outputs-requires c κs = search needs
-
 -- the outputs are still filled
 outputs : {b : Bool} (c : tie.After-same-outputs) → c .same-outputs .result ≡ b → sameOutputs untouched listLimit (c .before .before .before .before .args .r) ≡ b
 outputs c e = sym (c .same-outputs .ensures ∙ ap (λ (l : List ℕ). sameOutputs l listLimit (c .before .before .before .before .args .r)) (c .before .before .filled-outputs .ensures)) ∙ e
@@ -25,9 +16,6 @@ outputs c e = sym (c .same-outputs .ensures ∙ ap (λ (l : List ℕ). sameOutpu
 returns : tie.Need-returns
 unfolding sameRefused
 returns c = simp (outputs (c .before) (not-true _ (c .if1 .taken)))
-
-same-record-requires : tie.Need-same-record-requires
-same-record-requires c κs = search needs
 
 returns-2 : tie.Need-returns-2
 unfolding sameRefused
@@ -37,9 +25,4 @@ pub same-refused-spec : {M : Type 1} → statement M
 same-refused-spec =
     tie.close
     (tie.spec
-    filled-outputs-requires
-    slice-aggregate-same-outputs
-    same-outputs-requires
-    returns
-    same-record-requires
-    returns-2)
+    (λ c κs. search needs) (λ c. search needs) (λ c κs. search needs) returns (λ c κs. search needs) returns-2)

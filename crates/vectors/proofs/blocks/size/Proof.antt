@@ -5,27 +5,12 @@ use Rattle.vectors.proofs.BlockLaws.{answer-below, end-accepted, end-re
 use Rattle.vectors.proofs.blocks.size.Statement.{statement}
 use Rattle.vectors.proofs.blocks.size.Tie as tie
 
-answer-place-requires : tie.Need-answer-place-requires
-answer-place-requires c κs = search needs
-
-byte-at-requires : tie.Need-byte-at-requires
-byte-at-requires c κs = search needs
-
 -- the answer's place is small
 small : (c : tie.After-answer-place) → c .answer-place .result < 2 ^ 20
 small c = omega (arith, c .answer-place .ensures, answer-below (c .before .before .args .v .now) (λ i. omega (arith, c .before .shared-slice-known .given i)))
 
 add-result : tie.Need-add-result
 add-result c = omega (arith, small (c .before .before))
-
-length-at-requires : tie.Need-length-at-requires
-length-at-requires c κs = search needs
-
-cast-result : tie.Need-cast-result
-cast-result c = search needs
-
-mul-result : tie.Need-mul-result
-mul-result c = search needs
 
 add-result-2 : tie.Need-add-result-2
 add-result-2 c = omega (arith, small (c .before .before .before))
@@ -50,14 +35,5 @@ pub size-spec : {M : Type 1} → statement M
 size-spec =
     tie.close
     (tie.spec
-    answer-place-requires
-    byte-at-requires
-    add-result
-    length-at-requires
-    cast-result
-    mul-result
-    add-result-2
-    add-result-3
-    add-result-4
-    returns
-    returns-2)
+    (λ c κs. search needs) (λ c κs. search needs) add-result (λ c κs. search needs) (λ c. search needs)
+    (λ c. search needs) add-result-2 add-result-3 add-result-4 returns returns-2)

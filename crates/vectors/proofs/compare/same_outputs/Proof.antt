@@ -20,45 +20,6 @@ abbrev μ-loop : tie.MeasureT-loop
 loop-holds : tie.Need-loop-holds Inv-loop μ-loop
 loop-holds c = refl
 
-mul-at : tie.Need-mul-at Inv-loop μ-loop
-mul-at c = search needs
-
-add-end : tie.Need-add-end Inv-loop μ-loop
-add-end c = search needs
-
-sub-same-sample : tie.Need-sub-same-sample Inv-loop μ-loop
-sub-same-sample c = search needs
-
-part-same-sample-start : tie.Need-part-same-sample-start Inv-loop μ-loop
-part-same-sample-start c = search needs
-
-part-same-sample-end : tie.Need-part-same-sample-end Inv-loop μ-loop
-part-same-sample-end c = search needs
-
-mul-same-sample : tie.Need-mul-same-sample Inv-loop μ-loop
-mul-same-sample c = search needs
-
-array-copy-out-same-sample : tie.Need-array-copy-out-same-sample Inv-loop μ-loop
-array-copy-out-same-sample c = search needs
-
-array-read-same-sample : tie.Need-array-read-same-sample Inv-loop μ-loop
-array-read-same-sample c = search needs
-
-array-copy-out-same-sample-2 : tie.Need-array-copy-out-same-sample-2 Inv-loop μ-loop
-array-copy-out-same-sample-2 c = search needs
-
-mul-same-sample-2 : tie.Need-mul-same-sample-2 Inv-loop μ-loop
-mul-same-sample-2 c = search needs
-
-array-copy-out-same-sample-3 : tie.Need-array-copy-out-same-sample-3 Inv-loop μ-loop
-array-copy-out-same-sample-3 c = search needs
-
-array-read-same-sample-2 : tie.Need-array-read-same-sample-2 Inv-loop μ-loop
-array-read-same-sample-2 c = search needs
-
-same-sample-requires : tie.Need-same-sample-requires Inv-loop μ-loop
-same-sample-requires c κs = search needs
-
 held : (c : tie.After-same-sample Inv-loop μ-loop) {b : Bool} → c .same-sample .result ≡ b → let l = c .before .before .before .before .before .before in
     let a = l .before .before .before .before .before .before .before .args in
     sameAt (a .v .now) (a .r) (l .loop .i) ≡ b
@@ -73,12 +34,6 @@ returns c =
     let l = c .before .before .before .before .before .before .before in
     let a = l .before .before .before .before .before .before .before .args in
     sym (below-stop (sameAt (a .v .now) (a .r)) (a .n) (l .loop .i) (c .before .before .before .before .before .before .loop-test .taken) (held (c .before) (not-true _ (c .if1 .taken))))
-
-add-i : tie.Need-add-i Inv-loop μ-loop
-add-i c = search needs
-
-loop-less : tie.Need-loop-less Inv-loop μ-loop
-loop-less c = search needs
 
 loop-again : tie.Need-loop-again Inv-loop μ-loop
 loop-again c =
@@ -96,24 +51,7 @@ pub same-outputs-spec : {M : Type 1} → statement M
 same-outputs-spec =
     tie.close
     (tie.spec
-    Inv-loop
-    μ-loop
-    loop-holds
-    mul-at
-    add-end
-    sub-same-sample
-    part-same-sample-start
-    part-same-sample-end
-    mul-same-sample
-    array-copy-out-same-sample
-    array-read-same-sample
-    array-copy-out-same-sample-2
-    mul-same-sample-2
-    array-copy-out-same-sample-3
-    array-read-same-sample-2
-    same-sample-requires
-    returns
-    add-i
-    loop-less
-    loop-again
-    returns-2)
+    Inv-loop μ-loop loop-holds (λ c. search needs) (λ c. search needs) (λ c. search needs) (λ c. search needs)
+    (λ c. search needs) (λ c. search needs) (λ c. search needs) (λ c. search needs) (λ c. search needs)
+    (λ c. search needs) (λ c. search needs) (λ c. search needs) (λ c κs. search needs) returns
+    (λ c. search needs) (λ c. search needs) loop-again returns-2)

@@ -12,26 +12,17 @@ use Rattle.vectors.proofs.ReadLaws.{bits-passed}
 use Rattle.vectors.proofs.compare.same_sample.Statement.{statement}
 use Rattle.vectors.proofs.compare.same_sample.Tie as tie
 
-same-long-requires : tie.Need-same-long-requires
-same-long-requires c κs = search needs
-
 returns : tie.Need-returns
 returns c = simp (bits-passed w32 _ _ (c .before .before .before .fits .y) (c .before .same-long .ensures) (not-true _ (c .if1 .taken)))
 
 y-held : (c : tie.Else1) → let a = c .before .before .before .args in eqb (ofZ w32 (a .y)) (number32 (a .v .now) 0) ≡ true
 y-held c = bits-passed w32 _ _ (c .before .before .before .fits .y) (c .before .same-long .ensures) (not-false _ (c .if1 .left))
 
-byte-at-requires : tie.Need-byte-at-requires
-byte-at-requires c κs = search needs
-
 returns-2 : tie.Need-returns-2
 returns-2 c = let y = c .before .before in simp (y-held y, sym (c .before .byte-at .ensures), ne-eqb (y .before .before .before .args .xi) _ (c .if2 .taken))
 
 xi-held : (c : tie.Else2) → let a = c .before .before .before .before .before .args in eqb (a .xi) (byteAt (a .v .now) ξPlace) ≡ true
 xi-held c = eq-eqb _ _ (c .if2 .left ∙ c .before .byte-at .ensures)
-
-same-byte-requires : tie.Need-same-byte-requires
-same-byte-requires c κs = search needs
 
 returns-3 : tie.Need-returns-3
 returns-3 c =
@@ -41,9 +32,6 @@ returns-3 c =
 d-held : (c : tie.Else3) → let a = c .before .before .before .before .before .before .before .args in eqb (ofZ w8 (a .decision)) (byteAt (a .v .now) decisionPlace) ≡ true
 d-held c = bits-passed w8 _ _ (c .before .before .before .before .before .before .before .fits .decision) (c .before .same-byte .ensures) (not-false _ (c .if3 .left))
 
-same-long-requires-2 : tie.Need-same-long-requires-2
-same-long-requires-2 c κs = search needs
-
 returns-4 : tie.Need-returns-4
 returns-4 c =
     let d = c .before .before in
@@ -52,9 +40,6 @@ returns-4 c =
 
 z-held : (c : tie.Else4) → let a = c .before .before .before .before .before .before .before .before .before .args in eqb (ofZ w32 (a .z)) (number32 (a .v .now) ZPlace) ≡ true
 z-held c = bits-passed w32 _ _ (c .before .before .before .before .before .before .before .before .before .fits .z) (c .before .same-long2 .ensures) (not-false _ (c .if4 .left))
-
-byte-at-requires-2 : tie.Need-byte-at-requires-2
-byte-at-requires-2 c κs = search needs
 
 returns-5 : tie.Need-returns-5
 returns-5 c =
@@ -67,13 +52,5 @@ pub same-sample-spec : {M : Type 1} → statement M
 same-sample-spec =
     tie.close
     (tie.spec
-    same-long-requires
-    returns
-    byte-at-requires
-    returns-2
-    same-byte-requires
-    returns-3
-    same-long-requires-2
-    returns-4
-    byte-at-requires-2
-    returns-5)
+    (λ c κs. search needs) returns (λ c κs. search needs) returns-2 (λ c κs. search needs) returns-3
+    (λ c κs. search needs) returns-4 (λ c κs. search needs) returns-5)

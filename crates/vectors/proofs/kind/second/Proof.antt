@@ -6,18 +6,6 @@ use Rattle.vectors.proofs.BlockLaws.{answer-below}
 use Rattle.vectors.proofs.kind.second.Statement.{statement}
 use Rattle.vectors.proofs.kind.second.Tie as tie
 
-enum-told : tie.Need-enum-told
-enum-told c = search needs
-
-text-place-requires : tie.Need-text-place-requires
-text-place-requires c κs = search needs
-
-enum-told-2 : tie.Need-enum-told-2
-enum-told-2 c = search needs
-
-answer-place-requires : tie.Need-answer-place-requires
-answer-place-requires c κs = search needs
-
 add-result : tie.Need-add-result
 add-result c =
     let a = c .before .before .before in
@@ -33,10 +21,5 @@ pub second-spec : {M : Type 1} → statement M
 second-spec =
     tie.close
     (tie.spec
-    enum-told
-    text-place-requires
-    enum-told-2
-    answer-place-requires
-    add-result
-    returns
+    (λ c. search needs) (λ c κs. search needs) (λ c. search needs) (λ c κs. search needs) add-result returns
     returns-2)

@@ -3,21 +3,6 @@ use mathlib.Core.Path.{refl}
 use Rattle.vectors.proofs.kind.vector.Statement.{statement}
 use Rattle.vectors.proofs.kind.vector.Tie as tie
 
-enum-told : tie.Need-enum-told
-enum-told c = search needs
-
-trace-vector-requires : tie.Need-trace-vector-requires
-trace-vector-requires c κs = search needs
-
-enum-told-2 : tie.Need-enum-told-2
-enum-told-2 c = search needs
-
-block-vector-requires : tie.Need-block-vector-requires
-block-vector-requires c κs = search needs
-
-same-length : tie.Need-same-length
-same-length c = search needs
-
 returns : tie.Need-returns
 returns c = rw (c .before .before .before .before .enum-told .given .1) (c .before .before .trace-vector .ensures)
 
@@ -28,10 +13,5 @@ pub vector-spec : {M : Type 1} → statement M
 vector-spec =
     tie.close
     (tie.spec
-    enum-told
-    trace-vector-requires
-    enum-told-2
-    block-vector-requires
-    same-length
-    returns
-    returns-2)
+    (λ c. search needs) (λ c κs. search needs) (λ c. search needs) (λ c κs. search needs) (λ c. search needs)
+    returns returns-2)

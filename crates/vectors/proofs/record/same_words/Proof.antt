@@ -6,18 +6,6 @@ use Rattle.laws.specs.Comparisons.{equal}
 use Rattle.vectors.proofs.record.same_words.Statement.{statement}
 use Rattle.vectors.proofs.record.same_words.Tie as tie
 
-slice-aggregate-put-words : tie.Need-slice-aggregate-put-words
-slice-aggregate-put-words c = search needs
-
-put-words-requires : tie.Need-put-words-requires
-put-words-requires c κs = search needs
-
-slice-aggregate-same-bytes : tie.Need-slice-aggregate-same-bytes
-slice-aggregate-same-bytes c = search needs
-
-same-bytes-requires : tie.Need-same-bytes-requires
-same-bytes-requires c κs = search needs
-
 returns : tie.Need-returns
 returns c =
     let p = c .before .before .before in
@@ -27,8 +15,4 @@ pub same-words-spec : {M : Type 1} → statement M
 same-words-spec =
     tie.close
     (tie.spec
-    slice-aggregate-put-words
-    put-words-requires
-    slice-aggregate-same-bytes
-    same-bytes-requires
-    returns)
+    (λ c. search needs) (λ c κs. search needs) (λ c. search needs) (λ c κs. search needs) returns)

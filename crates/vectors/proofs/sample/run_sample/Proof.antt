@@ -8,33 +8,6 @@ use Rattle.vectors.specs.declared.sample.SampleResult.{SampleResult}
 use Rattle.vectors.proofs.sample.run_sample.Statement.{statement}
 use Rattle.vectors.proofs.sample.run_sample.Tie as tie
 
-slice-aggregate-run : tie.Need-slice-aggregate-run
-slice-aggregate-run c = search needs
-
-slice-aggregate-run-2 : tie.Need-slice-aggregate-run-2
-slice-aggregate-run-2 c = search needs
-
-slice-aggregate-run-3 : tie.Need-slice-aggregate-run-3
-slice-aggregate-run-3 c = search needs
-
-slice-aggregate-run-4 : tie.Need-slice-aggregate-run-4
-slice-aggregate-run-4 c = search needs
-
-slice-aggregate-run-5 : tie.Need-slice-aggregate-run-5
-slice-aggregate-run-5 c = search needs
-
-slice-aggregate-run-6 : tie.Need-slice-aggregate-run-6
-slice-aggregate-run-6 c = search needs
-
-slice-aggregate-run-7 : tie.Need-slice-aggregate-run-7
-slice-aggregate-run-7 c = search needs
-
-slice-aggregate-run-8 : tie.Need-slice-aggregate-run-8
-slice-aggregate-run-8 c = search needs
-
-run-requires : tie.Need-run-requires
-run-requires c κs = search needs
-
 -- signed numbers that are passed on are the same
 passed : (e : Equaliser) (s s′ t t′ : ℤ) (r : SampleResult) → s ≡ s′ → t ≡ t′ → SampleRun e s t r → SampleRun e s′ t′ r
 passed e s s′ t t′ r a b h = subst (λ (x : ℤ). SampleRun e x t′ r) a (subst (λ (y : ℤ). SampleRun e s y r) b h)
@@ -49,13 +22,5 @@ pub run-sample-spec : {M : Type 1} → statement M
 run-sample-spec =
     tie.close
     (tie.spec
-    slice-aggregate-run
-    slice-aggregate-run-2
-    slice-aggregate-run-3
-    slice-aggregate-run-4
-    slice-aggregate-run-5
-    slice-aggregate-run-6
-    slice-aggregate-run-7
-    slice-aggregate-run-8
-    run-requires
-    returns)
+    (λ c. search needs) (λ c. search needs) (λ c. search needs) (λ c. search needs) (λ c. search needs)
+    (λ c. search needs) (λ c. search needs) (λ c. search needs) (λ c κs. search needs) returns)

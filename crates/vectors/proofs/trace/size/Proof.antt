@@ -6,21 +6,12 @@ use Rattle.vectors.proofs.TraceLaws.{text-end}
 use Rattle.vectors.proofs.trace.size.Statement.{statement}
 use Rattle.vectors.proofs.trace.size.Tie as tie
 
-text-place-requires : tie.Need-text-place-requires
-text-place-requires c κs = search needs
-
-sub-number32-at : tie.Need-sub-number32-at
-sub-number32-at c = search needs
-
 -- the text's place is small
 small : (c : tie.After-text-place) → c .text-place .result < 2 ^ 33
 small c = omega (arith, c .text-place .ensures, below32 (c .before .before .args .v .now) 0 (λ i. omega (arith, c .before .shared-slice-known .given i)))
 
 number32-at-requires : tie.Need-number32-at-requires
 number32-at-requires c κs = omega (arith, small c)
-
-cast-result : tie.Need-cast-result
-cast-result c = search needs
 
 add-result : tie.Need-add-result
 add-result c = omega (arith, small (c .before))
@@ -32,9 +23,4 @@ pub size-spec : {M : Type 1} → statement M
 size-spec =
     tie.close
     (tie.spec
-    text-place-requires
-    sub-number32-at
-    number32-at-requires
-    cast-result
-    add-result
-    returns)
+    (λ c κs. search needs) (λ c. search needs) number32-at-requires (λ c. search needs) add-result returns)

@@ -10,27 +10,16 @@ use Rattle.laws.specs.Machine.{upper}
 use Rattle.vectors.proofs.values.signed32.Statement.{statement}
 use Rattle.vectors.proofs.values.signed32.Tie as tie
 
-cast-result : tie.Need-cast-result
-cast-result c = search needs
-
-sub-result : tie.Need-sub-result
-sub-result c = search needs
-
-cast-result-2 : tie.Need-cast-result-2
-cast-result-2 c = search needs
-
 turned : (c : tie.Else1) → negsuc 0 -ℤ toZ w32 (4294967295 - c .before .args .n) ≡ toZ w32 (c .before .args .n)
 turned c = upper w32 (c .before .args .n) (4294967295 - c .before .args .n) (omega arith) (omega arith)
 
 sub-result-2 : tie.Need-sub-result-2
 sub-result-2 c = rw (turned c) (sfits-toZ (c .before .fits .n))
 
-returns : tie.Need-returns
-returns c = search needs
-
 returns-2 : tie.Need-returns-2
 returns-2 c = toZ-ofZ (sub-result-2 c) ∙ turned c
 
 pub signed32-spec : {M : Type 1} → statement M
 signed32-spec =
-    tie.close (tie.spec cast-result sub-result cast-result-2 sub-result-2 returns returns-2)
+    tie.close (tie.spec
+    (λ c. search needs) (λ c. search needs) (λ c. search needs) sub-result-2 (λ c. search needs) returns-2)

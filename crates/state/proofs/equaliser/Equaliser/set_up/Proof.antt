@@ -9,19 +9,10 @@ use Rattle.state.proofs.equaliser.Equaliser.set_up.Tie as tie
 abbrev sizes : tie.Start → Settings
 sizes c = let a = c .args in given (a .p) (a .q) (a .n) (a .r) (a .l) (a .m)
 
-settings-number-requires : tie.Need-settings-number-requires
-settings-number-requires c κs = search needs
-
-fresh-requires : tie.Need-fresh-requires
-fresh-requires c κs = search needs
-
 returns : tie.Need-returns
 returns c =
     let n = c .before .before .settings-number in
     set-up-fresh (sizes (c .before .before .before)) (n .result) (c .fresh .result) (n .ensures) (c .before .if1 .taken) (c .fresh .ensures)
-
-fresh-requires-2 : tie.Need-fresh-requires-2
-fresh-requires-2 c κs = search needs
 
 returns-2 : tie.Need-returns-2
 returns-2 c =
@@ -31,4 +22,5 @@ returns-2 c =
 pub set-up-spec : {M : Type 1} → statement M
 set-up-spec =
     tie.close
-    (tie.spec settings-number-requires fresh-requires returns fresh-requires-2 returns-2)
+    (tie.spec
+    (λ c κs. search needs) (λ c κs. search needs) returns (λ c κs. search needs) returns-2)
