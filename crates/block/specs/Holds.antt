@@ -6,7 +6,7 @@ use lib.IntN.{pos}
 use Rattle.laws.specs.Sums.{Each}
 use Rattle.steps.specs.Settings.{Settings}
 use Rattle.filter.specs.Sample.{Y, ξ, decision, Z, θ, next}
-use Rattle.steps.specs.Sound.{Small}
+use Rattle.steps.specs.Side.{Small}
 use Rattle.filter.specs.Exact.{Bounded, Faithful, Unclipped, Settled}
 use Rattle.block.specs.Block.{Block, Memory, g, after, at, entryAt, handedY, handedξ, handedDecision, handedZ, handedθ}
 

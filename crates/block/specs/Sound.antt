@@ -9,7 +9,7 @@ use Rattle.laws.specs.Sums.{Each}
 use Rattle.numbers.specs.Cut.{rescale}
 use Rattle.steps.specs.Limits.{gainLimit, exponentLimit, scaleLimit, lengthLimit}
 use Rattle.steps.specs.Settings.{Settings, Within, Admitted, isEntry, scaleForward}
-use Rattle.steps.specs.Sound.{Small}
+use Rattle.steps.specs.Side.{Small}
 use Rattle.block.specs.Block.{Block, Memory, receivedAll}
 
 -- the soundness facts between blocks

@@ -9,10 +9,10 @@ use Rattle.laws.specs.Powers.{split, positive}
 use Rattle.laws.specs.Sums.{Each}
 use Rattle.steps.specs.Limits.{outputExponentLimit}
 use Rattle.steps.specs.Settings.{Settings, scaleForward, scaleBack, isEntry}
-use Rattle.steps.specs.Side.{Side, allSmall}
+use Rattle.steps.specs.Side.{Small, Side, allSmall}
 use Rattle.filter.specs.Sample.{Taps, ν, F, H, Y, ξ, v, κ, Z, θ, J, forwardSide, backSide, newForward, newBack, small, next}
 use Rattle.filter.specs.Sound.{Fit}
-use Rattle.steps.specs.Sound.{Small, Summable, Adaptable}
+use Rattle.steps.specs.Sound.{Summable, Adaptable}
 use Rattle.filter.specs.Exact.{Bounded}
 use Rattle.filter.proofs.SideBounds.{SideFit, sum-small, sum-raised, summable, adaptable, newWeights-small, places-least, places-most, all-small, settled-small}
 use Rattle.filter.proofs.ErrorSize.{output-small, output-scaled, error-small, error-scaled}

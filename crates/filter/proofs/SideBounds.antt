@@ -14,9 +14,9 @@ use Rattle.laws.specs.Sums.{Each, each-map, each-of, each-weaken, dot-bound}
 use Rattle.numbers.specs.Cut.{cut, raise}
 use Rattle.numbers.proofs.CutLaws.{cut-lt, raise-abs}
 use Rattle.steps.specs.Limits.{symbolLimit, halvingLimit, dataExponentLimit, lengthLimit}
-use Rattle.steps.specs.Side.{Side, sum, newWeights, isSmall, allSmall, halved, largest, magnitudes}
+use Rattle.steps.specs.Side.{Small, Side, sum, newWeights, isSmall, allSmall, halved, largest, magnitudes}
 use Rattle.filter.specs.Sample.{settled}
-use Rattle.steps.specs.Sound.{Small, Summable, Adaptable}
+use Rattle.steps.specs.Sound.{Summable, Adaptable}
 use Rattle.steps.proofs.LargestLaws.{largest-magnitude, each-magnitude}
 use Rattle.steps.proofs.SideLaws.{adapt-each}
 

@@ -10,9 +10,8 @@ use Rattle.laws.specs.Sums.{dot, Each}
 use Rattle.numbers.specs.Cut.{cut, raise}
 use Rattle.steps.specs.Limits.{outputExponentLimit}
 use Rattle.steps.specs.Settings.{Settings, scaleForward, scaleBack}
-use Rattle.steps.specs.Side.{adapt, halved}
+use Rattle.steps.specs.Side.{Small, adapt, halved}
 use Rattle.filter.specs.Sample.{Taps, ν, held, F, H, Y, ξ, Z, θ, κ, v, J, forwardSide, backSide, newForward, newBack, next}
-use Rattle.steps.specs.Sound.{Small}
 
 -- y*·2^60: the unrounded sum of weight times data, W·2^(ψ−15)·A·2^(γ−15) and W·2^(ψ−15)·v
 abbrev pub exactOutput : ℕ → Taps → ℤ

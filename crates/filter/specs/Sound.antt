@@ -7,7 +7,7 @@ use lib.IntN.{ℤ, natAbs}
 use Rattle.laws.specs.Sums.{Each}
 use Rattle.steps.specs.Limits.{exponentLimit, lengthLimit}
 use Rattle.steps.specs.Settings.{Settings, Within, Admitted, isEntry, scaleForward}
-use Rattle.steps.specs.Sound.{Small}
+use Rattle.steps.specs.Side.{Small}
 use Rattle.filter.specs.Sample.{Taps}
 
 -- the soundness facts at a sample, with the exponent g = γ + 30 of the stored samples

@@ -16,8 +16,7 @@ use Rattle.laws.specs.Powers.{split, rises, lower, cancel-le}
 use Rattle.laws.specs.Sums.{Each, each-append, each-weaken}
 use Rattle.steps.specs.Limits.{symbolLimit}
 use Rattle.steps.specs.Settings.{scaleForward, stepBound, isEntry}
-use Rattle.steps.specs.Side.{allSmall}
-use Rattle.steps.specs.Sound.{Small}
+use Rattle.steps.specs.Side.{Small, allSmall}
 use Rattle.block.specs.Sound.{Sound}
 use Rattle.steps.proofs.SymbolLaws.{entry-below}
 use Rattle.state.specs.State.{settings, memory, taps, forward, back, samples, filler, symbols, isZero}

@@ -13,8 +13,7 @@ use Rattle.laws.specs.Tests.{both, tested-each, all-replicate}
 use Rattle.laws.specs.Sums.{each-append}
 use Rattle.steps.specs.Limits.{exponentLimit, halvingLimit, lengthLimit, places}
 use Rattle.steps.specs.Settings.{Settings, scaleForward, isEntry}
-use Rattle.steps.specs.Side.{allSmall, isSmall}
-use Rattle.steps.specs.Sound.{Small}
+use Rattle.steps.specs.Side.{Small, allSmall, isSmall}
 use Rattle.block.specs.Block.{Memory}
 use Rattle.block.specs.Sound.{Sound}
 use Rattle.state.specs.Sizes.{sizesFit, admits}

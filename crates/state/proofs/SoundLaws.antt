@@ -14,8 +14,7 @@ use Rattle.laws.specs.Lists.{all, and-left, and-right}
 use Rattle.laws.specs.Tests.{both, last-le, each-tested, each-parts, all-take, all-drop, all-replicate}
 use Rattle.steps.specs.Limits.{exponentLimit, lengthLimit, places}
 use Rattle.steps.specs.Settings.{Settings, Within, scaleForward, isEntry}
-use Rattle.steps.specs.Side.{isSmall}
-use Rattle.steps.specs.Sound.{Small}
+use Rattle.steps.specs.Side.{Small, isSmall}
 use Rattle.block.specs.Sound.{Sound}
 use Rattle.filter.proofs.SideBounds.{all-small}
 use Rattle.state.specs.Sizes.{sizesFit, admits, settingsNumber, given}

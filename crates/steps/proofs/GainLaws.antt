@@ -10,8 +10,7 @@ use Rattle.laws.specs.Integers.{abs-add, abs-mul}
 use Rattle.laws.specs.Powers.{split, rises}
 use Rattle.numbers.specs.Cut.{cut, raise}
 use Rattle.numbers.proofs.CutLaws.{cut-lt, raise-abs, cut-raised, unlike, cut-alike, cut-unlike}
-use Rattle.steps.specs.Side.{adapted}
-use Rattle.steps.specs.Sound.{Small}
+use Rattle.steps.specs.Side.{Small, adapted}
 
 pub gain-small : (n t : ℕ) → n < 2 ^ (29 + t) → n / 2 ^ (15 + t) < 2 ^ 14
 gain-small n t b = div-lt-iff-lt-mul {k = 2 ^ (15 + t)} {x = n} {y = 2 ^ 14} (pow-pos (15 + t)) .1 (omega (arith, b, split (29 + t) 14 (15 + t) (omega arith)))

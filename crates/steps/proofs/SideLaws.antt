@@ -20,8 +20,8 @@ use Rattle.numbers.specs.Cut.{cut, raise, rescale}
 use Rattle.numbers.proofs.BitLengthLaws.{bit-length-le}
 use Rattle.numbers.proofs.CutLaws.{cut-zero, cut-lt, raise-mul, rescale-down}
 use Rattle.steps.specs.Limits.{halvingLimit}
-use Rattle.steps.specs.Side.{adapted, adapt, halved, push, largest, longest, magnitudes, together}
-use Rattle.steps.specs.Sound.{Small, Summable, Adaptable, Storable}
+use Rattle.steps.specs.Side.{Small, adapted, adapt, halved, push, largest, longest, magnitudes, together}
+use Rattle.steps.specs.Sound.{Summable, Adaptable, Storable}
 use Rattle.steps.proofs.GainLaws.{adapted-fits}
 use Rattle.steps.proofs.LargestLaws.{magnitude-at, each-magnitude, longest-above, together-longest, together-none, together-next, together-all}
 

@@ -1,7 +1,7 @@
 -- One side of the equaliser at a sample: the feed forward filter or the feedback filter. Both are one filter.
 use mathlib.Core.Bool.{Bool}
 use mathlib.Core.List.{List, [], _∷_, map}
-use Prim.Native.Nat.{ℕ, _+_, _-_, max}
+use Prim.Native.Nat.{ℕ, _+_, _-_, _<_, max}
 use lib.IntN.{ℤ, pos, natAbs, _+ℤ_, _*ℤ_}
 use lib.Bits.{bitOr}
 use lib.Dec.{ltb}
@@ -43,6 +43,10 @@ adapt K (w ∷ ws) (a ∷ b) = adapted K w a ∷ adapt K ws b
 -- step 6: the new weights of a side
 abbrev pub newWeights : ℤ → Side → List ℤ
 newWeights J f = adapt (raise J (f .scale)) (f .weights) (f .mantissas)
+
+-- a weight as it is stored: |W| ≤ 16383
+abbrev pub Small : ℤ → Type 0
+Small w = natAbs w < halvingLimit
 
 -- step 7: a weight has not reached the halving limit
 abbrev pub isSmall : ℤ → Bool

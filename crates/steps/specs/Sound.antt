@@ -7,12 +7,8 @@ use lib.IntN.{ℤ, natAbs}
 use Rattle.laws.specs.Sums.{Each}
 use Rattle.numbers.specs.Cut.{rescale}
 use Rattle.steps.specs.Limits.{symbolLimit, exponentLimit, halvingLimit, scaleLimit, dataExponentLimit, outputExponentLimit}
-use Rattle.steps.specs.Side.{largest, magnitudes}
+use Rattle.steps.specs.Side.{Small, largest, magnitudes}
 use Rattle.steps.specs.Error.{errorExponent}
-
--- weights: |W| ≤ 16383
-abbrev pub Small : ℤ → Type 0
-Small w = natAbs w < halvingLimit
 
 -- a sum of products whose partial sums fit 32 bits
 pub record Summable (w a : List ℤ) : Type 0 where

@@ -5,8 +5,8 @@ ghost use Prim.Native.Nat.{_+_, _*_, _-_, _/_, _^_, _<_, _≤_};
 ghost use lib.IntN.{ℤ, pos, _+ℤ_, _*ℤ_, natAbs};
 ghost use Rattle.laws.specs.Sums.{dot, Each};
 ghost use Rattle.numbers.specs.Cut.{raise, rescale};
-ghost use Rattle.steps.specs.Side.{adapted, adapt, allSmall, magnitudes, together, longest};
-ghost use Rattle.steps.specs.Sound.{Small, Summable, Adaptable, Storable};
+ghost use Rattle.steps.specs.Side.{Small, adapted, adapt, allSmall, magnitudes, together, longest};
+ghost use Rattle.steps.specs.Sound.{Summable, Adaptable, Storable};
 
 // Up to so many taps are few.
 const FEW: usize = 4;

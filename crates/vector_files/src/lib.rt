@@ -8,7 +8,7 @@ use libc::STDOUT_FILENO;
 use vectors::kind::Kind;
 
 // Room for the longest text of a trace, and for a vector of a trace that has not the longest one.
-const ROOM: usize = 393216;
+const ROOM: usize = trace_text::limits::TEXT;
 
 // More vectors than a file has.
 const MOST: u64 = 1000000;
