@@ -7,7 +7,7 @@ use lib.IntN.{ℤ, natAbs}
 use Rattle.laws.specs.Lists.{and-left, and-right}
 use Rattle.laws.specs.Powers.{split, positive}
 use Rattle.laws.specs.Sums.{Each}
-use Rattle.steps.specs.Limits.{outputExponentLimit}
+use Rattle.steps.specs.Limits.{outputExponentLimit, factorPlacesLeast}
 use Rattle.steps.specs.Settings.{Settings, scaleForward, scaleBack, isEntry}
 use Rattle.steps.specs.Side.{Small, Side, allSmall}
 use Rattle.filter.specs.Sample.{Taps, ν, F, H, Y, ξ, v, κ, Z, θ, J, forwardSide, backSide, newForward, newBack, small, next}
@@ -83,8 +83,8 @@ module _ (k : Settings) (g : ℕ) (t : Taps) (entry : ℤ) (h : Fit k g t) where
 
     -- ---- step 6
 
-    -- M·Z is cut by 17 places or more
-    pub places : {n : ℕ} (f : Side) → SideFit (k .r) n f → f .exponent + θ k g t entry + 17 ≤ 60 + t .ψ + f .scale
+    -- M·Z is cut by so many places or more
+    pub places : {n : ℕ} (f : Side) → SideFit (k .r) n f → f .exponent + θ k g t entry + factorPlacesLeast ≤ 60 + t .ψ + f .scale
     places f s = places-least f s (t .ψ) (θ k g t entry) (h .within .r-most) (Sides.θ-most k g t entry h e)
 
     -- and by 60 or fewer

@@ -13,7 +13,7 @@ use Rattle.laws.specs.Powers.{split, split3, rises, cancel-le, lower}
 use Rattle.laws.specs.Sums.{Each, each-map, each-of, each-weaken, dot-bound}
 use Rattle.numbers.specs.Cut.{cut, raise}
 use Rattle.numbers.proofs.CutLaws.{cut-lt, raise-abs}
-use Rattle.steps.specs.Limits.{symbolLimit, halvingLimit, dataExponentLimit, lengthLimit}
+use Rattle.steps.specs.Limits.{symbolLimit, halvingLimit, dataExponentLimit, lengthLimit, factorPlacesLeast}
 use Rattle.steps.specs.Side.{Small, Side, sum, newWeights, isSmall, allSmall, halved, largest, magnitudes}
 use Rattle.filter.specs.Sample.{settled}
 use Rattle.steps.specs.Sound.{Summable, Adaptable}
@@ -106,8 +106,8 @@ module _ {r n : ℕ} (f : Side) (h : SideFit r n f) where
       go : (m : ℕ) → m * 2 ^ f .scale < 2 ^ 15 → natAbs (raise J (f .scale)) * m < 2 ^ 44
       go m b = omega (arith, ap (λ (l : ℕ). l * m) (raise-abs J (f .scale)), mul-le-mul-right (m * 2 ^ f .scale) j)
 
-  -- the places of M·Z never run below 17
-  pub places-least : (ψ θ : ℕ) → r ≤ symbolLimit → θ ≤ ψ + dataExponentLimit → f .exponent + θ + 17 ≤ 60 + ψ + f .scale
+  -- the places of M·Z never run below their least
+  pub places-least : (ψ θ : ℕ) → r ≤ symbolLimit → θ ≤ ψ + dataExponentLimit → f .exponent + θ + factorPlacesLeast ≤ 60 + ψ + f .scale
   places-least ψ θ l e = omega (arith, h .exponent-most)
 
   -- nor above 60
