@@ -47,7 +47,7 @@ static void run_block(setting *s, int who, const channel_block *b, const int8_t 
 static void prepare(setting *s, int p, int q) {
     channel c = {.r = 2, .l = 1};
     channel_block b;
-    uint32_t m = greatest_step(p, q, c.r, c.l);
+    uint32_t m = tigbulode_greatest_step((uint8_t)p, (uint8_t)q, (uint8_t)c.r, (uint8_t)c.l);
     for (int who = 0; who < PLAIN; who++)
         s->state[who] = tigbulode_set_up((uint8_t)p, (uint8_t)q, N, (uint8_t)c.r, (uint8_t)c.l, m).state;
     plain_set_up(&s->plain, p, q, c.r, (float)m / 1073741824.0f);

@@ -53,7 +53,7 @@ static bool sizes_fit(const tigbulode_equaliser *s) {
 
 static bool admitted(const tigbulode_equaliser *s) {
     uint64_t d = ((uint64_t)(8 + 4 * s->q) << s->l) + 4u * s->p;
-    return (uint64_t)s->m * (d << 2 * s->r) <= (uint64_t)1 << (30 + s->l);
+    return (uint64_t)s->step * (d << 2 * s->r) <= (uint64_t)1 << (30 + s->l);
 }
 
 static bool sound(const tigbulode_equaliser *s) {
@@ -227,7 +227,7 @@ static void set_work(work *k, const tigbulode_equaliser *e) {
     int p = e->p, q = e->q;
     set_side(&k->forward, p, e->weights, e->past);
     set_side(&k->back, q, e->weights + p, e->past + p);
-    k->n = e->n, k->r = e->r, k->top = (2 << e->r) - 1, k->psi = e->psi, k->m = e->m;
+    k->n = e->n, k->r = e->r, k->top = (2 << e->r) - 1, k->psi = e->psi, k->m = e->step;
     k->older = LANES * (((1u << q) - 1) & 0xfffe);
     k->lengths = 0;
     for (int i = p + q - 1; i >= p; i--) note_length(k, symbol_length[e->past[i] + 15]);

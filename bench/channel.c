@@ -13,11 +13,6 @@ uint32_t any_number(void) {
 
 uint32_t any_below(uint32_t limit) { return (uint32_t)((uint64_t)any_number() * limit >> 32); }
 
-uint32_t greatest_step(int p, int q, int r, int l) {
-    uint64_t d = (((uint64_t)(8 + 4 * q) << l) + 4 * (uint64_t)p) << 2 * r;
-    return (uint32_t)(((uint64_t)1 << (30 + l)) / d);
-}
-
 static int any_symbol(int r) { return 2 * (int)any_below(2u << r) - ((2 << r) - 1); }
 
 void channel_next(channel *c, channel_block *b) {
@@ -63,8 +58,8 @@ tigbulode_equaliser any_state(void) {
     e.n = (uint8_t)(any_below(4) ? least + (int)any_below((uint32_t)(129 - least)) : 128);
     e.r = (uint8_t)any_below(4);
     e.l = (uint8_t)(any_below(2) ? 0 : any_below(16));
-    e.m = greatest_step(e.p, e.q, e.r, e.l);
-    if (any_below(4) == 0) e.m = any_below(e.m + 1);
+    e.step = tigbulode_greatest_step(e.p, e.q, e.r, e.l);
+    if (any_below(4) == 0) e.step = any_below(e.step + 1);
     e.psi = (uint8_t)(any_below(2) ? any_below(16) : 13 + any_below(3));
     e.big = (uint8_t)any_below((uint32_t)(32 - e.l));
     e.b = (uint8_t)any_below((uint32_t)e.big + 1);

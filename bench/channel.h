@@ -21,9 +21,6 @@ typedef struct {
 uint32_t any_number(void);
 uint32_t any_below(uint32_t limit);
 
-// The greatest M that is admitted.
-uint32_t greatest_step(int p, int q, int r, int l);
-
 // The next 128 samples of a channel with three paths and little noise.
 void channel_next(channel *c, channel_block *b);
 

@@ -33,7 +33,7 @@ static void spoil_state(tigbulode_equaliser *e) {
     uint8_t *bytes = (uint8_t *)e;
     switch (any_below(4)) {
     case 0: bytes[any_below(8)] = (uint8_t)any_number(); break;
-    case 1: e->m += any_below(3) ? 1 : any_number(); break;
+    case 1: e->step += any_below(3) ? 1 : any_number(); break;
     case 2: e->weights[any_below(32)] = (int16_t)any_number(); break;
     default: e->past[any_below(32)] = (int16_t)any_number();
     }
@@ -99,7 +99,7 @@ int check_channel(int p, int q, unsigned wrong[3]) {
     plain_equaliser plain;
     int8_t decision[LONGEST_BLOCK];
     float error[LONGEST_BLOCK];
-    uint32_t m = greatest_step(p, q, c.r, c.l);
+    uint32_t m = tigbulode_greatest_step((uint8_t)p, (uint8_t)q, (uint8_t)c.r, (uint8_t)c.l);
     one.state = two.state = tigbulode_set_up((uint8_t)p, (uint8_t)q, LONGEST_BLOCK, 2, 1, m).state;
     plain_set_up(&plain, p, q, c.r, (float)m / 1073741824.0f);
     wrong[0] = wrong[1] = wrong[2] = 0;

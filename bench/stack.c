@@ -49,7 +49,7 @@ static size_t touched(run_call *run) {
 size_t stack_of(run_call *run) {
     channel c = {.r = 2, .l = 1};
     channel_next(&c, &block);
-    state = tigbulode_set_up(16, 16, N, 2, 1, greatest_step(16, 16, 2, 1)).state;
+    state = tigbulode_set_up(16, 16, N, 2, 1, tigbulode_greatest_step(16, 16, 2, 1)).state;
     touched(run);
     size_t with = touched(run), without = touched(nothing);
     return with > without ? with - without : 0;

@@ -15,7 +15,7 @@ static const int32_t response[RESPONSE] = {13000, 4000, -2000, 900}; /* of the c
 
 /* What a block reads, and what it hands out. */
 typedef struct {
-    int16_t m[N];
+    int16_t samples[N];
     uint8_t gains[N];
     int8_t entries[N];
 } block;
@@ -59,12 +59,12 @@ static int8_t receive(cable *c, int16_t *m, uint8_t *gain) {
 /* The next block, without training entries, and the symbols that were sent. */
 static block receive_block(cable *c, int8_t *sent) {
     block in = {{0}, {0}, {0}};
-    for (int i = 0; i < N; i++) sent[i] = receive(c, &in.m[i], &in.gains[i]);
+    for (int i = 0; i < N; i++) sent[i] = receive(c, &in.samples[i], &in.gains[i]);
     return in;
 }
 
 static uint8_t run(tigbulode_equaliser *s, const block *in, size_t length, outputs *out) {
-    return tigbulode_run(s, in->m, length, in->gains, length, in->entries, length, out->y, length, out->xi, length,
+    return tigbulode_run(s, in->samples, length, in->gains, length, in->entries, length, out->y, length, out->xi, length,
                          out->decision, length, out->z, length, out->theta, length);
 }
 
@@ -165,7 +165,7 @@ static void refused_records(void) {
     s.q = 0;
     refuse_block("block on a record with q 0", s, &in, N);
     s = record;
-    s.m = STEP + 1;
+    s.step = STEP + 1;
     refuse_block("block on a record with too large a step", s, &in, N);
     s = record;
     s.weights[P + Q] = 1;
@@ -175,7 +175,7 @@ static void refused_records(void) {
     s.weights[0] = TIGBULODE_MOST_WEIGHT;
     s.weights[1] = -TIGBULODE_MOST_WEIGHT;
     s.past[1] = 1;
-    in.m[0] = 0x2000;
+    in.samples[0] = 0x2000;
     in.entries[0] = 1;
     refuse_block("block that would raise psi to 16", s, &in, 1);
 }
@@ -192,7 +192,7 @@ static void refused_save(void) {
 static void print_refused(const char *about, tigbulode_answer a) {
     const tigbulode_equaliser *s = &a.state;
     printf("%s: answer %u, state p %u q %u N %u r %u L %u M %" PRIu32 "\n", about, a.number, s->p, s->q, s->n, s->r,
-           s->l, s->m);
+           s->l, s->step);
 }
 
 static void refused_set_ups_and_loads(const uint8_t *image) {

@@ -1,6 +1,7 @@
-/* The station equaliser for firmware: set-up, running a block, saving and loading.
+/* The station equaliser for firmware: set-up, running a block, saving and loading. C99 and later, C++98 and later.
  *
- * Link target/staticlib/libfirmware.a, which `rt staticlib firmware` writes.
+ * Link target/staticlib/libfirmware.a, which `rt staticlib firmware` writes; firmware/README.md has the lines for C and
+ * Rust, docs/EQUALISER.md what the numbers mean.
  *
  * What a caller owes: a pointer is not null, even beside a length of 0; it is aligned for its type and valid for as many
  * elements as its length says; what is written (the record, the five lists, the buffer) overlaps nothing else that is
@@ -9,20 +10,31 @@
  * is taken, also that of a record with anything in it. What can't be used is turned down with a number, and the record
  * and all lent memory are then as they were.
  *
+ * An image has no check sum: of the images that differ from a good one in one byte, some four in ten load with 0, as
+ * states that are sound but were never saved. So firmware keeps tigbulode_check_sum of each image beside it; after a loss
+ * of power it loads only an image whose check sum is right, takes the state only if tigbulode_same_settings finds its own
+ * settings in it, and sets up anew otherwise. firmware/station.c does so.
+ *
  * The archive is code for x86-64. docs/CLAIMS.md, "What the proof does not cover", says what a station on another
- * processor would need. */
+ * processor would need. The four functions in the archive are proved; the static inline ones below are plain C, and
+ * firmware/check tries them. */
 #ifndef TIGBULODE_H
 #define TIGBULODE_H
 
 #include <stddef.h>
 #include <stdint.h>
 
+/* Of this interface. A larger minor number only adds to it. */
+#define TIGBULODE_VERSION_MAJOR 0
+#define TIGBULODE_VERSION_MINOR 2
+#define TIGBULODE_VERSION "0.2"
+
 #ifdef __cplusplus
-#define TIGBULODE_ASSERT static_assert
 extern "C" {
-#else
-#define TIGBULODE_ASSERT _Static_assert
 #endif
+
+/* C99 and C++98 have no assertion at compile time: an array of length -1 stands in. */
+#define TIGBULODE_ASSERT(name, holds) typedef char tigbulode_assert_##name[(holds) ? 1 : -1]
 
 /* The number that each function answers with. */
 enum tigbulode_number {
@@ -54,8 +66,11 @@ enum tigbulode_room {
     TIGBULODE_IMAGE_BYTES = 140  /* the longest image */
 };
 
+/* The length of an image with these tap counts. */
+#define TIGBULODE_IMAGE_LENGTH(p, q) (TIGBULODE_HEADER_BYTES + 4 * ((size_t)(p) + (size_t)(q)))
+
 /* The equaliser record, in the saved image's order. Places at p + q and beyond are spare and 0. */
-typedef struct {
+typedef struct tigbulode_equaliser {
     uint8_t p;                         /* feed forward taps */
     uint8_t q;                         /* feedback taps */
     uint8_t n;                         /* the block length N */
@@ -64,43 +79,44 @@ typedef struct {
     uint8_t psi;                       /* the exponent that all weights share */
     uint8_t b;                         /* the last block's b */
     uint8_t big;                       /* the last block's B */
-    uint32_t m;                        /* the step size is M / 2^30 */
+    uint32_t step;                     /* M: the step size is M / 2^30 */
     int16_t weights[TIGBULODE_PLACES]; /* feed forward, then feedback */
     int16_t past[TIGBULODE_PLACES];    /* p - 1 stored samples newest first, a 0, q symbols newest first */
 } tigbulode_equaliser;
 
 /* A number beside a state. */
-typedef struct {
+typedef struct tigbulode_answer {
     uint8_t number;
     tigbulode_equaliser state;
 } tigbulode_answer;
 
 /* A number beside the length of an image; 0 where the save was turned down. */
-typedef struct {
+typedef struct tigbulode_saved {
     uint8_t number;
     size_t length;
 } tigbulode_saved;
 
-TIGBULODE_ASSERT(sizeof(tigbulode_equaliser) == 140, "the record has 140 bytes");
-TIGBULODE_ASSERT(offsetof(tigbulode_equaliser, p) == 0, "p is the first byte");
-TIGBULODE_ASSERT(offsetof(tigbulode_equaliser, big) == 7, "B is the eighth byte");
-TIGBULODE_ASSERT(offsetof(tigbulode_equaliser, m) == 8, "M follows the eight bytes");
-TIGBULODE_ASSERT(offsetof(tigbulode_equaliser, weights) == 12, "the weights follow M");
-TIGBULODE_ASSERT(offsetof(tigbulode_equaliser, past) == 76, "the data follow the weights");
-TIGBULODE_ASSERT(sizeof(tigbulode_answer) == 144, "an answer has 144 bytes");
-TIGBULODE_ASSERT(offsetof(tigbulode_answer, state) == 4, "the state is at 4");
-TIGBULODE_ASSERT(offsetof(tigbulode_saved, length) == sizeof(size_t), "the length is the second word");
-TIGBULODE_ASSERT(sizeof(tigbulode_saved) == 2 * sizeof(size_t), "a saved answer has two words");
+TIGBULODE_ASSERT(record, sizeof(tigbulode_equaliser) == 140);
+TIGBULODE_ASSERT(p, offsetof(tigbulode_equaliser, p) == 0);
+TIGBULODE_ASSERT(big, offsetof(tigbulode_equaliser, big) == 7);
+TIGBULODE_ASSERT(step, offsetof(tigbulode_equaliser, step) == 8);
+TIGBULODE_ASSERT(weights, offsetof(tigbulode_equaliser, weights) == 12);
+TIGBULODE_ASSERT(past, offsetof(tigbulode_equaliser, past) == 76);
+TIGBULODE_ASSERT(answer, sizeof(tigbulode_answer) == 144);
+TIGBULODE_ASSERT(state, offsetof(tigbulode_answer, state) == 4);
+TIGBULODE_ASSERT(length, offsetof(tigbulode_saved, length) == sizeof(size_t));
+TIGBULODE_ASSERT(saved, sizeof(tigbulode_saved) == 2 * sizeof(size_t));
 
 /* A fresh state: weights, exponent, past samples and symbols 0. Turned down with 1, then 2, the state is the fresh one
  * with p = q = N = 1 and r = L = M = 0. */
-tigbulode_answer tigbulode_set_up(uint8_t p, uint8_t q, uint8_t n, uint8_t r, uint8_t l, uint32_t m);
+tigbulode_answer tigbulode_set_up(uint8_t p, uint8_t q, uint8_t n, uint8_t r, uint8_t l, uint32_t step);
 
-/* Runs a block of N samples; the record is advanced in place. Sample i is m[i] with the gain gains[i]; entries[i] is its
- * training symbol, or 0 to adapt from the decision. Per sample: the output is y[i] * 2^(xi[i] - 30), then the decision,
- * and the error is z[i] * 2^(theta[i] - 30). Turned down with 1, 2, 9 for the record, then 3, 4, 5, 6 for the block. */
+/* Runs a block of N samples; the record is advanced in place. Sample i is samples[i] with the gain gains[i]; entries[i]
+ * is its training symbol, or 0 to adapt from the decision. Per sample: the output is y[i] * 2^(xi[i] - 30), then the
+ * decision, and the error is z[i] * 2^(theta[i] - 30). Turned down with 1, 2, 9 for the record, then 3, 4, 5, 6 for the
+ * block. tigbulode_run_block below is the same call with the lists as named members. */
 uint8_t tigbulode_run(tigbulode_equaliser *s,
-                      const int16_t *m, size_t m_length,
+                      const int16_t *samples, size_t samples_length,
                       const uint8_t *gains, size_t gains_length,
                       const int8_t *entries, size_t entries_length,
                       int32_t *y, size_t y_length,
@@ -119,5 +135,68 @@ tigbulode_answer tigbulode_load(const uint8_t *bytes, size_t length);
 #ifdef __cplusplus
 }
 #endif
+
+/* The lists of a block, each `length` long, and `length` is N. */
+typedef struct tigbulode_block {
+    size_t length;
+    const int16_t *samples; /* read */
+    const uint8_t *gains;
+    const int8_t *entries;
+    int32_t *y;             /* handed out */
+    uint8_t *xi;
+    int8_t *decision;
+    int32_t *z;
+    uint8_t *theta;
+} tigbulode_block;
+
+/* tigbulode_run with its lists as the members of a struct, so that none can take another's place. */
+static inline uint8_t tigbulode_run_block(tigbulode_equaliser *s, const tigbulode_block *block) {
+    const size_t n = block->length;
+    return tigbulode_run(s, block->samples, n, block->gains, n, block->entries, n, block->y, n, block->xi, n,
+                         block->decision, n, block->z, n, block->theta, n);
+}
+
+/* The greatest M that set-up admits with these sizes; 0 where one of them is outside its limits. */
+static inline uint32_t tigbulode_greatest_step(uint8_t p, uint8_t q, uint8_t r, uint8_t l) {
+    if (p < 1 || p > TIGBULODE_MOST_TAPS || q < 1 || q > TIGBULODE_MOST_TAPS) return 0;
+    if (r > TIGBULODE_MOST_R || l > TIGBULODE_MOST_GAIN) return 0;
+    /* M * D <= 2^30 with D = 2^(2r+2-L) * (2^L * (q + 2) + p) */
+    return (uint32_t)(((uint64_t)1 << (28 + l - 2 * r)) / ((((uint64_t)q + 2) << l) + p));
+}
+
+/* Whether both records have the same p, q, N, r, L and M. */
+static inline int tigbulode_same_settings(const tigbulode_equaliser *s, const tigbulode_equaliser *t) {
+    return s->p == t->p && s->q == t->q && s->n == t->n && s->r == t->r && s->l == t->l && s->step == t->step;
+}
+
+/* The check sum to keep beside an image: CRC-32, that of "123456789" is CBF43926. It finds every change of one byte, and
+ * of any bytes within four in a row. */
+static inline uint32_t tigbulode_check_sum(const uint8_t *bytes, size_t length) {
+    uint32_t sum = 0xFFFFFFFFu;
+    size_t i;
+    int bit;
+    for (i = 0; i < length; i++) {
+        sum ^= bytes[i];
+        for (bit = 0; bit < 8; bit++) sum = (sum >> 1) ^ ((sum & 1) ? 0xEDB88320u : 0);
+    }
+    return ~sum;
+}
+
+/* What a number says, in words. */
+static inline const char *tigbulode_number_text(uint8_t number) {
+    switch (number) {
+    case TIGBULODE_ACCEPTED: return "accepted";
+    case TIGBULODE_SIZES: return "a size is outside its limits";
+    case TIGBULODE_STEP: return "M is not admitted with these sizes";
+    case TIGBULODE_LENGTHS: return "a lent list is not N long";
+    case TIGBULODE_GAIN: return "a gain is below L or above 15";
+    case TIGBULODE_ENTRY: return "a training entry is neither 0 nor a symbol";
+    case TIGBULODE_EXPONENT: return "the weights' exponent would rise to 16";
+    case TIGBULODE_BUFFER: return "the buffer is shorter than the image";
+    case TIGBULODE_IMAGE: return "the image has a wrong length";
+    case TIGBULODE_UNSOUND: return "the state is not sound";
+    default: return "no number of the equaliser";
+    }
+}
 
 #endif

@@ -97,7 +97,7 @@ fn flip<T: Copy + std::ops::BitXor<Output = T> + From<u8>>(number: Option<&mut T
 
 impl Faulty<'_> {
     fn accepted(&self, before: &Equaliser, s: &mut Equaliser, block: Block, out: Outputs) {
-        let loud = block.m.iter().any(|m| m.unsigned_abs() >= 16384);
+        let loud = block.samples.iter().any(|m| m.unsigned_abs() >= 16384);
         let trained = block.entries.iter().any(|&entry| entry != 0);
         match self.fault {
             Fault::Output if loud => flip(out.y.last_mut()),

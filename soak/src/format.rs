@@ -33,7 +33,7 @@ fn words<T: ToString>(list: &[T]) -> String {
 /// The bytes of a record as the library has it in memory.
 fn record_bytes(e: &Equaliser) -> Vec<u8> {
     let mut bytes = vec![e.p, e.q, e.n, e.r, e.l, e.psi, e.b, e.big];
-    bytes.extend(e.m.to_le_bytes());
+    bytes.extend(e.step.to_le_bytes());
     for place in e.weights.iter().chain(&e.past) {
         bytes.extend(place.to_le_bytes());
     }
@@ -121,7 +121,7 @@ fn record(word: &str) -> Result<Equaliser, String> {
         psi: bytes[5],
         b: bytes[6],
         big: bytes[7],
-        m: u32::from_le_bytes([bytes[8], bytes[9], bytes[10], bytes[11]]),
+        step: u32::from_le_bytes([bytes[8], bytes[9], bytes[10], bytes[11]]),
         weights: std::array::from_fn(|i| place(12 + 2 * i)),
         past: std::array::from_fn(|i| place(12 + 2 * (PLACES + i))),
     })

@@ -145,5 +145,5 @@ impl<'a> Station<'a> {
 }
 
 fn settings(e: &Equaliser) -> (u8, u8, u8, u8, u8, u32) {
-    (e.p, e.q, e.n, e.r, e.l, e.m)
+    (e.p, e.q, e.n, e.r, e.l, e.step)
 }

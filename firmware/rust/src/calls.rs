@@ -210,7 +210,7 @@ impl Maker {
             _ => self.wrong_place(&mut e),
         }
         (e.p, e.q, e.n) = (settings.p, settings.q, settings.n);
-        (e.r, e.l, e.m) = (settings.r, settings.l, settings.m);
+        (e.r, e.l, e.step) = (settings.r, settings.l, settings.m);
         e
     }
 
@@ -245,7 +245,7 @@ impl Maker {
             psi: any() as u8,
             b: any() as u8,
             big: any() as u8,
-            m: any() as u32,
+            step: any() as u32,
             weights: std::array::from_fn(|_| any() as i16),
             past: std::array::from_fn(|_| any() as i16),
         }
@@ -283,7 +283,7 @@ impl Maker {
     /// the largest step.
     pub fn near_the_limit(&mut self, e: &mut Equaliser) {
         e.psi = self.random.pick(&[0, 7, 13, 14, 14, 14, 15]);
-        e.m = settings_of(e).largest_m();
+        e.step = settings_of(e).largest_m();
         let taps = usize::from(e.p + e.q);
         for weight in &mut e.weights[..taps] {
             *weight = (self.random.sign() * self.random.between(16380, 16383)) as i16;
@@ -325,7 +325,7 @@ impl Maker {
 pub fn raw_image(e: &Equaliser) -> Vec<u8> {
     let taps = PLACES.min(usize::from(e.p) + usize::from(e.q));
     let mut bytes = vec![e.p, e.q, e.n, e.r, e.l, e.psi, e.b, e.big];
-    bytes.extend(e.m.to_le_bytes());
+    bytes.extend(e.step.to_le_bytes());
     for place in e.weights[..taps].iter().chain(&e.past[..taps]) {
         bytes.extend(place.to_le_bytes());
     }

@@ -3,6 +3,10 @@
 //!
 //! Every value is taken; what can't be used is turned down with a number, and
 //! the record and all lent memory are then as they were.
+//!
+//! An image has no check sum: see `tigbulode.h`. Firmware keeps [`check_sum`] of
+//! each image beside it, and after a load compares [`Equaliser::settings`] with
+//! its own.
 
 pub mod calls;
 pub mod compare;
@@ -10,6 +14,8 @@ pub mod perform;
 pub mod sides;
 pub mod station;
 
+/// The version of the interface, that of `tigbulode.h`.
+pub const VERSION: &str = "0.2";
 /// The places for weights, and as many for data: the taps of both filters.
 pub const PLACES: usize = 32;
 /// The length of the longest image.
@@ -28,7 +34,8 @@ pub struct Equaliser {
     pub psi: u8,
     pub b: u8,
     pub big: u8,
-    pub m: u32,
+    /// M: the step size is M / 2^30.
+    pub step: u32,
     pub weights: [i16; PLACES],
     pub past: [i16; PLACES],
 }
@@ -52,7 +59,7 @@ pub struct Saved {
 /// The three lists that a block reads.
 #[derive(Clone, Copy)]
 pub struct Block<'a> {
-    pub m: &'a [i16],
+    pub samples: &'a [i16],
     pub gains: &'a [u8],
     pub entries: &'a [i8],
 }
@@ -66,12 +73,19 @@ pub struct Outputs<'a> {
     pub theta: &'a mut [u8],
 }
 
+impl Equaliser {
+    /// p, q, N, r, L and M.
+    pub fn settings(&self) -> (u8, u8, u8, u8, u8, u32) {
+        (self.p, self.q, self.n, self.r, self.l, self.step)
+    }
+}
+
 #[rustfmt::skip]
 extern "C" {
-    fn tigbulode_set_up(p: u8, q: u8, n: u8, r: u8, l: u8, m: u32) -> Answer;
+    fn tigbulode_set_up(p: u8, q: u8, n: u8, r: u8, l: u8, step: u32) -> Answer;
     fn tigbulode_run(
         s: *mut Equaliser,
-        m: *const i16, m_length: usize,
+        samples: *const i16, samples_length: usize,
         gains: *const u8, gains_length: usize,
         entries: *const i8, entries_length: usize,
         y: *mut i32, y_length: usize,
@@ -85,9 +99,9 @@ extern "C" {
 }
 
 /// A fresh state, or 1 or 2 beside the one with p = q = N = 1.
-pub fn set_up(p: u8, q: u8, n: u8, r: u8, l: u8, m: u32) -> Answer {
+pub fn set_up(p: u8, q: u8, n: u8, r: u8, l: u8, step: u32) -> Answer {
     // SAFETY: only numbers are passed.
-    unsafe { tigbulode_set_up(p, q, n, r, l, m) }
+    unsafe { tigbulode_set_up(p, q, n, r, l, step) }
 }
 
 /// Runs a block; the record is advanced in place.
@@ -99,7 +113,7 @@ pub fn run(s: &mut Equaliser, block: Block, out: Outputs) -> u8 {
     unsafe {
         tigbulode_run(
             s,
-            block.m.as_ptr(), block.m.len(),
+            block.samples.as_ptr(), block.samples.len(),
             block.gains.as_ptr(), block.gains.len(),
             block.entries.as_ptr(), block.entries.len(),
             out.y.as_mut_ptr(), out.y.len(),
@@ -121,4 +135,50 @@ pub fn save(e: Equaliser, buffer: &mut [u8]) -> Saved {
 pub fn load(bytes: &[u8]) -> Answer {
     // SAFETY: the pointer is a slice's own, with its length.
     unsafe { tigbulode_load(bytes.as_ptr(), bytes.len()) }
+}
+
+/// The length of an image with these tap counts.
+pub const fn image_length(p: u8, q: u8) -> usize {
+    12 + 4 * (p as usize + q as usize)
+}
+
+/// The greatest M that set-up admits with these sizes; none where one of them
+/// is outside its limits.
+pub fn greatest_step(p: u8, q: u8, r: u8, l: u8) -> Option<u32> {
+    if !(1..=16).contains(&p) || !(1..=16).contains(&q) || r > 3 || l > 15 {
+        return None;
+    }
+    // M * D <= 2^30 with D = 2^(2r+2-L) * (2^L * (q + 2) + p)
+    let greatest = (1u64 << (28 + l - 2 * r)) / (((u64::from(q) + 2) << l) + u64::from(p));
+    u32::try_from(greatest).ok()
+}
+
+/// The check sum to keep beside an image: CRC-32. It finds every change of one
+/// byte, and of any bytes within four in a row.
+pub fn check_sum(bytes: &[u8]) -> u32 {
+    let mut sum = u32::MAX;
+    for byte in bytes {
+        sum ^= u32::from(*byte);
+        for _ in 0..8 {
+            sum = (sum >> 1) ^ if sum & 1 == 1 { 0xEDB8_8320 } else { 0 };
+        }
+    }
+    !sum
+}
+
+/// What a number says, in words.
+pub fn number_text(number: u8) -> &'static str {
+    match number {
+        0 => "accepted",
+        1 => "a size is outside its limits",
+        2 => "M is not admitted with these sizes",
+        3 => "a lent list is not N long",
+        4 => "a gain is below L or above 15",
+        5 => "a training entry is neither 0 nor a symbol",
+        6 => "the weights' exponent would rise to 16",
+        7 => "the buffer is shorter than the image",
+        8 => "the image has a wrong length",
+        9 => "the state is not sound",
+        _ => "no number of the equaliser",
+    }
 }

@@ -109,7 +109,7 @@ impl LentBlock {
 
     fn run(&mut self, side: &dyn Operations) -> u8 {
         let block = Block {
-            m: self.m.list(),
+            samples: self.m.list(),
             gains: self.gains.list(),
             entries: self.entries.list(),
         };
@@ -156,7 +156,7 @@ fn plain(name: &'static str, numbers: Vec<i64>) -> Part {
 fn numbers_of(e: &Equaliser) -> Vec<i64> {
     let bytes = [e.p, e.q, e.n, e.r, e.l, e.psi, e.b, e.big];
     let mut numbers: Vec<i64> = bytes.map(i64::from).to_vec();
-    numbers.push(e.m.into());
+    numbers.push(e.step.into());
     numbers.extend(e.weights.map(i64::from));
     numbers.extend(e.past.map(i64::from));
     numbers

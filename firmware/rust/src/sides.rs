@@ -46,7 +46,7 @@ impl Operations for Second {
 
     fn run(&self, s: &mut Equaliser, block: Block, out: Outputs) -> u8 {
         let inputs = Inputs {
-            samples: block.m,
+            samples: block.samples,
             gains: block.gains,
             training: block.entries,
         };
@@ -90,7 +90,7 @@ pub fn settings_of(e: &Equaliser) -> Settings {
         n: e.n,
         r: e.r,
         l: e.l,
-        m: e.m,
+        m: e.step,
     }
 }
 
@@ -119,7 +119,7 @@ pub fn record_of(state: &State) -> Equaliser {
         psi: lent.psi,
         b: lent.b,
         big: lent.big_b,
-        m: lent.settings.m,
+        step: lent.settings.m,
         weights: places(lent.weights),
         past: places(lent.data),
     }

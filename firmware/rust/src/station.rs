@@ -30,7 +30,7 @@ const RESPONSE: [i32; 4] = [13000, 4000, -2000, 900];
 /// What a block reads.
 #[derive(Clone, Default)]
 struct Received {
-    m: [i16; N],
+    samples: [i16; N],
     gains: [u8; N],
     entries: [i8; N],
 }
@@ -108,7 +108,7 @@ impl Cable {
     fn receive_block(&mut self) -> (Received, [i8; N]) {
         let mut block = Received::default();
         let mut sent = [0; N];
-        let lists = block.m.iter_mut().zip(&mut block.gains);
+        let lists = block.samples.iter_mut().zip(&mut block.gains);
         for ((m, gain), symbol) in lists.zip(&mut sent) {
             (*symbol, *m, *gain) = self.receive();
         }
@@ -178,7 +178,7 @@ fn run(
     out: &mut Handed,
 ) -> u8 {
     let block = Block {
-        m: &read.m[..length],
+        samples: &read.samples[..length],
         gains: &read.gains[..length],
         entries: &read.entries[..length],
     };
@@ -206,7 +206,7 @@ impl Station<'_> {
         let mut out = Handed::filled();
         for (i, entry) in [1, 0].into_iter().enumerate() {
             let mut read = Received::default();
-            read.m[0] = 0x4000;
+            read.samples[0] = 0x4000;
             read.entries[0] = entry;
             run(self.side, &mut s, &read, 1, &mut out);
             self.line(format!(
@@ -301,7 +301,7 @@ impl Station<'_> {
         s.q = 0;
         self.refuse_block("block on a record with q 0", s, &read, N);
         s = self.record;
-        s.m = SIZES.m + 1;
+        s.step = SIZES.m + 1;
         self.refuse_block("block on a record with too large a step", s, &read, N);
         s = self.record;
         s.weights[SIZES.taps()] = 1;
@@ -312,7 +312,7 @@ impl Station<'_> {
         s.weights[0] = 16383;
         s.weights[1] = -16383;
         s.past[1] = 1;
-        read.m[0] = 0x2000;
+        read.samples[0] = 0x2000;
         read.entries[0] = 1;
         self.refuse_block("block that would raise psi to 16", s, &read, 1);
     }
@@ -330,10 +330,16 @@ impl Station<'_> {
     fn print_refused(&mut self, about: &str, answer: Answer) {
         let number = answer.number;
         let Equaliser {
-            p, q, n, r, l, m, ..
+            p,
+            q,
+            n,
+            r,
+            l,
+            step,
+            ..
         } = answer.state;
         self.line(format!(
-            "{about}: answer {number}, state p {p} q {q} N {n} r {r} L {l} M {m}"
+            "{about}: answer {number}, state p {p} q {q} N {n} r {r} L {l} M {step}"
         ));
     }
 
@@ -369,7 +375,7 @@ impl Station<'_> {
             psi: 0xFF,
             b: 0xFF,
             big: 0xFF,
-            m: u32::MAX,
+            step: u32::MAX,
             weights: [-1; crate::PLACES],
             past: [-1; crate::PLACES],
         };

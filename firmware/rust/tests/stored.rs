@@ -48,7 +48,7 @@ fn the_calls_with_changes() {
 #[test]
 fn the_records() {
     assert_eq!(size_of::<Equaliser>(), 140);
-    assert_eq!(offset_of!(Equaliser, m), 8);
+    assert_eq!(offset_of!(Equaliser, step), 8);
     assert_eq!(offset_of!(Equaliser, weights), 12);
     assert_eq!(offset_of!(Equaliser, past), 76);
     assert_eq!((size_of::<Answer>(), offset_of!(Answer, state)), (144, 4));
