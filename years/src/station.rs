@@ -78,8 +78,8 @@ impl<'a> Station<'a> {
     }
 
     /// The decisions and the sum of squared errors of one call.
-    fn run(&mut self, m: &[i16], gains: &[u8], entries: &[i8]) -> (Vec<i8>, f64) {
-        let n = m.len();
+    fn run(&mut self, samples: &[i16], gains: &[u8], entries: &[i8]) -> (Vec<i8>, f64) {
+        let n = samples.len();
         let (mut y, mut z) = (vec![0; n], vec![0; n]);
         let (mut xi, mut theta) = (vec![0; n], vec![0; n]);
         let mut decision = vec![0; n];
@@ -90,7 +90,12 @@ impl<'a> Station<'a> {
             z: &mut z,
             theta: &mut theta,
         };
-        let number = tigbulode::run(&mut self.record, Block { m, gains, entries }, out);
+        let block = Block {
+            samples,
+            gains,
+            entries,
+        };
+        let number = tigbulode::run(&mut self.record, block, out);
         if number != 0 {
             self.count(number);
             return (Vec::new(), 0.0);
