@@ -1,4 +1,4 @@
-//! "One block" and "One sample" of document 01, step by step.
+//! "One block" and "One sample" of the specification, step by step.
 
 use crate::numbers::{bit_length, is_symbol, scale_count, Dyadic};
 use crate::settings::Settings;

@@ -1,4 +1,4 @@
-//! "The saved image" of document 01: saving and loading.
+//! "The saved image" of the specification: saving and loading.
 
 use crate::settings::Settings;
 use crate::state::State;

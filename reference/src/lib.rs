@@ -1,6 +1,7 @@
-//! A second implementation of the station equaliser, written from document 01
-//! alone. It is meant to be read beside that document and to be compared with
-//! a faster implementation; it is not meant to be fast.
+//! A second implementation of the station equaliser, written from its
+//! specification alone. It is meant to be read beside `docs/EQUALISER.md`, which
+//! says the same, and to be compared with a faster implementation; it is not
+//! meant to be fast.
 //!
 //! Every number is exact. The equaliser itself works on whole numbers and on
 //! dyadic numbers (a whole number times a power of two) in 128 bits, with

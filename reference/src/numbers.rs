@@ -1,5 +1,5 @@
-//! "Numbers" of document 01: the cut T, the bit length and the scale count S,
-//! on exact dyadic numbers.
+//! "Numbers" of the specification: the cut T, the bit length and the scale
+//! count S, on exact dyadic numbers.
 
 use std::cmp::Ordering;
 

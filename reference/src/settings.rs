@@ -1,4 +1,4 @@
-//! "Sizes" of document 01: the limits and the step admission.
+//! "Sizes" of the specification: the limits and the step admission.
 
 use crate::numbers::Dyadic;
 use crate::{ACCEPTED, SIZES, STEP};

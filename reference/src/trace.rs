@@ -1,4 +1,4 @@
-//! "The trace program" of document 01: the bytes of a trace to its text.
+//! "The trace" of the specification: the bytes of a trace to its text.
 
 use crate::block::{run, Inputs, Outputs};
 use crate::settings::Settings;

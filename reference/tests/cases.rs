@@ -1,4 +1,4 @@
-//! The worked example and the cases beside the limits of document 01.
+//! The worked example and the cases beside the limits.
 
 use reference::block::{decide, step7, work};
 use reference::numbers::Dyadic;

@@ -1,4 +1,4 @@
--- Document 01's worked example, computed by the definitions.
+-- The specification's worked example, computed by the definitions.
 use mathlib.Core.Path.{_≡_, refl}
 use mathlib.Core.List.{List, [], _∷_, _++_}
 use Prim.Native.Nat.{ℕ, _+_}

@@ -1,4 +1,4 @@
--- Document 01's starred cases: a table of what the definitions give and what document 01 says.
+-- The starred cases beside the limits: a table of what the definitions give and what the specification (docs/EQUALISER.md) says.
 use mathlib.Core.Path.{_≡_, refl}
 use mathlib.Core.List.{List, [], _∷_, _++_, map}
 use Prim.Native.Nat.{ℕ, _-_}
