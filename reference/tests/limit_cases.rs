@@ -64,9 +64,24 @@ fn the_program_has_these_lines() {
     text += &block("zeros first", &mut state(0, 0, 67108864, 0, 0, 0), 0, 0);
     text += &block("y 2", &mut state(1, 3, 0, 0, 8192, 1), 0, 0);
     text += &block("y -2", &mut state(1, 3, 0, 0, 8192, -1), 0, 0);
-    text += &block("new weight 16383", &mut state(0, 0, 131072, 16382, -3, 0), 16384, 1);
-    text += &block("new weight 16384", &mut state(0, 0, 131072, 16383, -3, 0), 16384, 1);
-    text += &block("new weight -16385", &mut state(0, 0, 196608, -16383, -3, 0), 16384, -1);
+    text += &block(
+        "new weight 16383",
+        &mut state(0, 0, 131072, 16382, -3, 0),
+        16384,
+        1,
+    );
+    text += &block(
+        "new weight 16384",
+        &mut state(0, 0, 131072, 16383, -3, 0),
+        16384,
+        1,
+    );
+    text += &block(
+        "new weight -16385",
+        &mut state(0, 0, 196608, -16383, -3, 0),
+        16384,
+        -1,
+    );
     let mut s = state(0, 0, 67108864, 0, 0, 0);
     text += &block("first sample", &mut s, 16384, 1);
     text += &block("second sample", &mut s, 16384, 0);
