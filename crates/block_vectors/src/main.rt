@@ -2,5 +2,8 @@
 use vectors::kind::Kind;
 
 fn main() {
-    vector_files::run_file(b"blocks.bin", Kind::Block);
+    let usage = b"usage: block_vectors, in a folder with the second implementation's blocks.bin\n";
+    if streams::no_arguments(b"block_vectors", usage) {
+        vector_files::run_file(b"blocks.bin", Kind::Block);
+    }
 }

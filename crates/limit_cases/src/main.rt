@@ -165,10 +165,17 @@ fn two_samples() {
     block(b"second sample: answer ", first, 16384, 0);
 }
 
-fn main() {
+fn run() {
     set_ups();
     loudness();
     ties();
     halvings();
     two_samples();
+}
+
+fn main() {
+    let usage = b"usage: limit_cases\nWrites a line for each case beside the limits.\n";
+    if streams::no_arguments(b"limit_cases", usage) {
+        run();
+    }
 }

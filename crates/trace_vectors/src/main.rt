@@ -2,5 +2,8 @@
 use vectors::kind::Kind;
 
 fn main() {
-    vector_files::run_file(b"traces.bin", Kind::Trace);
+    let usage = b"usage: trace_vectors, in a folder with the second implementation's traces.bin\n";
+    if streams::no_arguments(b"trace_vectors", usage) {
+        vector_files::run_file(b"traces.bin", Kind::Trace);
+    }
 }

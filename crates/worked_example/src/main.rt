@@ -35,7 +35,7 @@ fn put_all(image: &[u8; IMAGE]) {
     put(image[LAST], b'\n');
 }
 
-fn main() {
+fn run() {
     let fresh = Equaliser::set_up(1, 1, 1, 0, 0, 67108864);
     let first = block(fresh.state, 1);
     let second = block(first, 0);
@@ -43,5 +43,13 @@ fn main() {
     let saved = image::save::save(second, &mut image);
     if saved.length == IMAGE {
         put_all(&image);
+    }
+}
+
+fn main() {
+    let usage =
+        b"usage: worked_example\nWrites the image that the specification's two samples leave.\n";
+    if streams::no_arguments(b"worked_example", usage) {
+        run();
     }
 }
