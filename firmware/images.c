@@ -2,12 +2,10 @@
  * byte for byte; a damaged one gives its number and the fresh state. Each image is also compared with changed
  * expectations, which must be told apart. Exit status 1: a difference, with its place; 2: no such file, or one that
  * breaks off. */
+#include "arguments.h"
 #include "tigbulode.h"
 
 #include <stdbool.h>
-#include <stdio.h>
-#include <stdlib.h>
-#include <string.h>
 
 enum { SENTINEL = 0x55, AFTER = 16, MOST_FILE = 1 << 20, NUMBERS = 10 };
 
@@ -130,10 +128,7 @@ static void print_counts(const unsigned *counts, unsigned count) {
 
 int main(int argc, char **argv) {
     unsigned counts[NUMBERS] = {0}, count = 0;
-    if (argc != 2) {
-        fprintf(stderr, "usage: images FILE\n");
-        return 2;
-    }
+    take_arguments(argc, argv, 1, "images FILE: loads every image of a file such as firmware/images.bin, and compares");
     read_file(argv[1]);
     for (size_t place = 0; place < file_length; count++) {
         const image i = image_at(place);

@@ -1,16 +1,15 @@
-/* A station as firmware would run it: it keeps one record, trains on known symbols, goes on from its own decisions, saves,
- * loses power, loads, and goes on. Prints a line for each thing that happens; 1 is the exit status where something that
- * was turned down left a mark. */
+/* A station as firmware would run it: it has one record, trains on known symbols, goes on from its own decisions, keeps
+ * its state beside a check sum, loses power, recovers, and goes on. Then calls that are turned down, and every bent byte
+ * in what it keeps. Prints a line for each thing that happens; 1 is the exit status where something that was turned down
+ * left a mark, or a bent image was taken. */
+#include "arguments.h"
 #include "tigbulode.h"
 
 #include <inttypes.h>
 #include <stdbool.h>
-#include <stdio.h>
-#include <stdlib.h>
-#include <string.h>
 
-enum { P = 4, Q = 3, N = 16, R = 1, L = 0, RESPONSE = 4, IMAGE = 12 + 4 * (P + Q) };
-static const uint32_t STEP = 7456540; /* the largest that is admitted */
+enum { P = 4, Q = 3, N = 16, R = 1, L = 0, RESPONSE = 4, IMAGE = TIGBULODE_IMAGE_LENGTH(P, Q) };
+static const uint32_t STEP = 7456540; /* the greatest that is admitted */
 static const int32_t response[RESPONSE] = {13000, 4000, -2000, 900}; /* of the cable, in units of 1/32768 */
 
 /* What a block reads, and what it hands out. */
@@ -28,14 +27,57 @@ typedef struct {
     int8_t decision[N];
 } outputs;
 
+/* What lies in the memory that survives a loss of power. */
+typedef struct {
+    uint8_t image[IMAGE];
+    uint32_t check_sum;
+} kept;
+
+/* What the station finds there. Only the first is taken. */
+typedef enum { OWN_STATE, WRONG_CHECK_SUM, TURNED_DOWN, OTHER_SETTINGS, FINDINGS } finding;
+
+static const char *const finding_texts[FINDINGS] = {
+    "recovered",
+    "set up anew, the check sum is wrong",
+    "set up anew, the load is turned down",
+    "set up anew, the settings are not the station's own",
+};
+
+static tigbulode_equaliser record;
+static int marks;
+
+static uint8_t run(tigbulode_equaliser *s, const block *in, size_t length, outputs *out) {
+    const tigbulode_block lists = {
+        .length = length, .samples = in->samples, .gains = in->gains, .entries = in->entries,
+        .y = out->y, .xi = out->xi, .decision = out->decision, .z = out->z, .theta = out->theta,
+    };
+    return tigbulode_run_block(s, &lists);
+}
+
+/* Keeps a state: its image, and the check sum of that. */
+static tigbulode_saved keep(const tigbulode_equaliser *s, kept *k) {
+    tigbulode_saved saved = tigbulode_save(*s, k->image, IMAGE);
+    if (saved.number == TIGBULODE_ACCEPTED) k->check_sum = tigbulode_check_sum(k->image, IMAGE);
+    return saved;
+}
+
+/* The state after a loss of power: the kept one, if its check sum is right, it can be loaded and its settings are the
+ * station's own; otherwise a fresh one. */
+static finding recover(const kept *k, tigbulode_equaliser *s) {
+    *s = tigbulode_set_up(P, Q, N, R, L, STEP).state;
+    if (tigbulode_check_sum(k->image, IMAGE) != k->check_sum) return WRONG_CHECK_SUM;
+    const tigbulode_answer a = tigbulode_load(k->image, IMAGE);
+    if (a.number != TIGBULODE_ACCEPTED) return TURNED_DOWN;
+    if (!tigbulode_same_settings(&a.state, s)) return OTHER_SETTINGS;
+    *s = a.state;
+    return OWN_STATE;
+}
+
 /* The far end of the cable and the converter. */
 typedef struct {
     uint32_t random;
     int32_t sent[RESPONSE]; /* newest first */
 } cable;
-
-static tigbulode_equaliser record;
-static int marks;
 
 static uint32_t next_random(cable *c) {
     c->random = c->random * 1664525u + 1013904223u;
@@ -61,11 +103,6 @@ static block receive_block(cable *c, int8_t *sent) {
     block in = {{0}, {0}, {0}};
     for (int i = 0; i < N; i++) sent[i] = receive(c, &in.samples[i], &in.gains[i]);
     return in;
-}
-
-static uint8_t run(tigbulode_equaliser *s, const block *in, size_t length, outputs *out) {
-    return tigbulode_run(s, in->samples, length, in->gains, length, in->entries, length, out->y, length, out->xi, length,
-                         out->decision, length, out->z, length, out->theta, length);
 }
 
 /* A sum over all that a block handed out. */
@@ -106,11 +143,11 @@ static void print_bytes(const uint8_t *bytes, size_t length) {
     printf("\n");
 }
 
-/* Saves the record and prints the image. */
-static void save(uint8_t *image) {
-    tigbulode_saved saved = tigbulode_save(record, image, IMAGE);
-    printf("saved: answer %u, length %zu\nimage", saved.number, saved.length);
-    print_bytes(image, saved.length);
+/* Keeps the record and prints what is kept. */
+static void keep_record(kept *k) {
+    tigbulode_saved saved = keep(&record, k);
+    printf("kept: answer %u, length %zu, check sum %08" PRIX32 "\nimage", saved.number, saved.length, k->check_sum);
+    print_bytes(k->image, saved.length);
 }
 
 /* The two samples of the specification's example, and the image that they leave. */
@@ -131,7 +168,7 @@ static void worked_example(void) {
     print_bytes(image, saved.length);
 }
 
-static const char *kept(bool same) {
+static const char *unchanged(bool same) {
     if (!same) marks++;
     return same ? "kept" : "CHANGED";
 }
@@ -143,8 +180,8 @@ static void refuse_block(const char *about, tigbulode_equaliser s, const block *
     memset(&out, 0x55, sizeof out);
     lent = out;
     uint8_t number = run(&s, in, length, &out);
-    printf("%s: answer %u, record %s, ", about, number, kept(memcmp(&s, &before, sizeof s) == 0));
-    printf("outputs %s\n", kept(memcmp(&out, &lent, sizeof out) == 0));
+    printf("%s: answer %u, record %s, ", about, number, unchanged(memcmp(&s, &before, sizeof s) == 0));
+    printf("outputs %s\n", unchanged(memcmp(&out, &lent, sizeof out) == 0));
 }
 
 static void refused_lists(cable c) {
@@ -186,7 +223,7 @@ static void refused_save(void) {
     memcpy(lent, buffer, sizeof lent);
     tigbulode_saved saved = tigbulode_save(record, buffer, sizeof buffer);
     printf("save to %zu bytes: answer %u, length %zu, buffer %s\n", sizeof buffer, saved.number, saved.length,
-           kept(memcmp(buffer, lent, sizeof lent) == 0));
+           unchanged(memcmp(buffer, lent, sizeof lent) == 0));
 }
 
 static void print_refused(const char *about, tigbulode_answer a) {
@@ -211,34 +248,111 @@ static void refused_set_ups_and_loads(const uint8_t *image) {
     print_refused("load with a weight of 16384 or more", tigbulode_load(damaged, IMAGE));
 }
 
-static void lose_power_and_load(const uint8_t *image) {
+static void lose_power_and_recover(const kept *k) {
     const tigbulode_equaliser before = record;
     const block in = {{0}, {0}, {0}};
     memset(&record, 0xFF, sizeof record);
     printf("power lost\n");
     refuse_block("block on a record of FF bytes", record, &in, N);
-    tigbulode_answer a = tigbulode_load(image, IMAGE);
-    record = a.state;
-    printf("loaded: answer %u, record of before the loss %s\n", a.number, kept(memcmp(&record, &before, sizeof record) == 0));
+    printf("%s, ", finding_texts[recover(k, &record)]);
+    printf("record of before the loss %s\n", unchanged(memcmp(&record, &before, sizeof record) == 0));
 }
 
-int main(void) {
+/* Counts what the station finds. Where it doesn't recover it has the fresh state. */
+static void count_finding(const kept *k, unsigned *counts) {
+    const tigbulode_equaliser fresh = tigbulode_set_up(P, Q, N, R, L, STEP).state;
+    tigbulode_equaliser s;
+    const finding found = recover(k, &s);
+    counts[found]++;
+    if (found != OWN_STATE && memcmp(&s, &fresh, sizeof s) != 0) marks++;
+}
+
+/* What the station finds with one byte of the image bent in every way. The check sum stays that of the good image, or is
+ * made right, as if there were none. */
+static void bend_byte(kept k, int place, bool made_right, unsigned *counts) {
+    const uint8_t good = k.image[place];
+    for (unsigned bend = 1; bend < 256; bend++) {
+        k.image[place] = (uint8_t)(good ^ bend);
+        if (made_right) k.check_sum = tigbulode_check_sum(k.image, IMAGE);
+        count_finding(&k, counts);
+    }
+}
+
+/* Bends every byte of the image. Without a check sum some must be taken, or the bending would show nothing. */
+static void bend_image(const kept *k) {
+    unsigned counts[FINDINGS] = {0}, without[FINDINGS] = {0};
+    for (int place = 0; place < IMAGE; place++) {
+        bend_byte(*k, place, false, counts);
+        bend_byte(*k, place, true, without);
+    }
+    printf("bent images: %d; a load alone takes %u of them as sound states, %u of these with other settings; ", IMAGE * 255,
+           without[OWN_STATE] + without[OTHER_SETTINGS], without[OTHER_SETTINGS]);
+    printf("taken after check sum and settings: %u\n", counts[OWN_STATE]);
+    if (counts[OWN_STATE] != 0 || without[OWN_STATE] == 0) marks++;
+}
+
+/* Bends every byte of the check sum. */
+static void bend_check_sum(kept k) {
+    const uint32_t good = k.check_sum;
+    unsigned counts[FINDINGS] = {0};
+    for (unsigned i = 0; i < 4 * 255; i++) {
+        k.check_sum = good ^ (1 + i % 255) << (8 * (i / 255));
+        count_finding(&k, counts);
+    }
+    printf("bent check sums: %d; taken: %u\n", 4 * 255, counts[OWN_STATE]);
+    if (counts[OWN_STATE] != 0) marks++;
+}
+
+/* The station recovers from memory that doesn't hold its own state. */
+static void recover_from(const char *about, const kept *k) {
+    const finding found = recover(k, &record);
+    printf("%s: %s\n", about, finding_texts[found]);
+    if (found == OWN_STATE) marks++;
+}
+
+/* The state of another station, kept as that one would keep it. */
+static void recover_from_other(const char *about, uint8_t p, uint8_t q, uint32_t step) {
+    const tigbulode_equaliser other = tigbulode_set_up(p, q, N, R, L, step).state;
+    kept k;
+    keep(&other, &k);
+    recover_from(about, &k);
+}
+
+static void recover_from_anything(kept k) {
+    k.image[13] = 0x40;
+    k.check_sum = tigbulode_check_sum(k.image, IMAGE);
+    recover_from("image with a weight of 16384 or more, its check sum right", &k);
+    recover_from_other("image of a station with p 3 q 4", Q, P, tigbulode_greatest_step(Q, P, R, L));
+    recover_from_other("image of a station with a smaller step", P, Q, STEP - 1);
+    memset(&k, 0, sizeof k);
+    recover_from("memory of zeros", &k);
+    memset(&k, 0xFF, sizeof k);
+    recover_from("memory of FF bytes", &k);
+}
+
+int main(int argc, char **argv) {
+    take_arguments(argc, argv, 0, "station, without arguments: the lines of a station that uses the static library");
     worked_example();
     cable c = {2026, {0}};
-    uint8_t image[IMAGE];
+    kept k;
     tigbulode_answer a = tigbulode_set_up(P, Q, N, R, L, STEP);
     printf("set-up p %d q %d N %d r %d L %d M %" PRIu32 ": answer %u\n", P, Q, N, R, L, STEP, a.number);
     record = a.state;
     for (unsigned first = 0; first < 64; first += 16) run_blocks(&c, first, true);
     for (unsigned first = 64; first < 128; first += 16) run_blocks(&c, first, false);
-    save(image);
-    lose_power_and_load(image);
+    keep_record(&k);
+    lose_power_and_recover(&k);
     for (unsigned first = 128; first < 192; first += 16) run_blocks(&c, first, false);
     refused_lists(c);
     refused_records();
     refused_save();
-    refused_set_ups_and_loads(image);
+    refused_set_ups_and_loads(k.image);
     run_blocks(&c, 192, false);
-    save(image);
+    keep_record(&k);
+    bend_image(&k);
+    bend_check_sum(k);
+    recover_from_anything(k);
+    for (unsigned first = 208; first < 240; first += 16) run_blocks(&c, first, true);
+    run_blocks(&c, 240, false);
     return marks == 0 ? EXIT_SUCCESS : EXIT_FAILURE;
 }

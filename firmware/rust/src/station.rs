@@ -1,13 +1,18 @@
-//! A station as firmware would run it, with the lines of `station.c`: it keeps
-//! one record, trains on known symbols, goes on from its own decisions, saves,
-//! loses power, loads, and goes on.
+//! A station as firmware would run it, with the lines of `station.c`: it has
+//! one record, trains on known symbols, goes on from its own decisions, keeps
+//! its state beside a check sum, loses power, recovers, and goes on. Then calls
+//! that are turned down, and every bent byte in what it keeps.
+
+mod kept;
 
 use crate::sides::Operations;
-use crate::{Answer, Block, Equaliser, Outputs};
+use crate::{greatest_step, image_length};
+use crate::{Answer, Block, Equaliser, Outputs, Saved};
+use kept::{keep, recover, Finding, Findings, Kept};
 use reference::Settings;
 
 const N: usize = 16;
-const IMAGE: usize = 40;
+const IMAGE: usize = image_length(SIZES.p, SIZES.q);
 const SIZES: Settings = Settings {
     p: 4,
     q: 3,
@@ -130,7 +135,7 @@ struct Station<'a> {
 }
 
 /// The lines of the station by one side, and whether nothing that was turned
-/// down left a mark.
+/// down left a mark and no bent image was taken.
 pub fn text(side: &dyn Operations) -> (String, bool) {
     let answer = side.set_up(SIZES);
     let mut station = Station {
@@ -151,17 +156,23 @@ pub fn text(side: &dyn Operations) -> (String, bool) {
     for first in [64, 80, 96, 112] {
         station.run_blocks(first, false);
     }
-    let image = station.save();
-    station.lose_power_and_load(&image);
+    let kept = station.keep_record();
+    station.lose_power_and_recover(&kept);
     for first in [128, 144, 160, 176] {
         station.run_blocks(first, false);
     }
     station.refused_lists();
     station.refused_records();
     station.refused_save();
-    station.refused_set_ups_and_loads(&image);
+    station.refused_set_ups_and_loads(&kept.image);
     station.run_blocks(192, false);
-    station.save();
+    let kept = station.keep_record();
+    station.bend_image(&kept);
+    station.bend_check_sum(kept);
+    station.recover_from_anything(kept);
+    station.run_blocks(208, true);
+    station.run_blocks(224, true);
+    station.run_blocks(240, false);
     (station.text, station.marks == 0)
 }
 
@@ -251,19 +262,19 @@ impl Station<'_> {
         ));
     }
 
-    /// Saves the record and prints the image.
-    fn save(&mut self) -> [u8; IMAGE] {
-        let mut image = [0; IMAGE];
-        let saved = self.side.save(self.record, &mut image);
+    /// Keeps the record and prints what is kept.
+    fn keep_record(&mut self) -> Kept {
+        let mut kept = Kept::filled(0);
+        let Saved { number, length } = keep(self.side, self.record, &mut kept);
+        let sum = kept.check_sum;
         self.line(format!(
-            "saved: answer {}, length {}",
-            saved.number, saved.length
+            "kept: answer {number}, length {length}, check sum {sum:08X}"
         ));
-        self.line(format!("image{}", hexadecimal(&image[..saved.length])));
-        image
+        self.line(format!("image{}", hexadecimal(&kept.image[..length])));
+        kept
     }
 
-    fn kept(&mut self, same: bool) -> &'static str {
+    fn unchanged(&mut self, same: bool) -> &'static str {
         self.marks += u32::from(!same);
         if same {
             "kept"
@@ -277,8 +288,8 @@ impl Station<'_> {
         let mut s = before;
         let mut out = Handed::filled();
         let number = run(self.side, &mut s, read, length, &mut out);
-        let record = self.kept(s == before);
-        let outputs = self.kept(out == Handed::filled());
+        let record = self.unchanged(s == before);
+        let outputs = self.unchanged(out == Handed::filled());
         self.line(format!(
             "{about}: answer {number}, record {record}, outputs {outputs}"
         ));
@@ -320,7 +331,7 @@ impl Station<'_> {
     fn refused_save(&mut self) {
         let mut buffer = [0x55; IMAGE - 1];
         let saved = self.side.save(self.record, &mut buffer);
-        let kept = self.kept(buffer == [0x55; IMAGE - 1]);
+        let kept = self.unchanged(buffer == [0x55; IMAGE - 1]);
         let (number, length) = (saved.number, saved.length);
         self.line(format!(
             "save to 39 bytes: answer {number}, length {length}, buffer {kept}"
@@ -364,7 +375,7 @@ impl Station<'_> {
         self.print_refused("load with a weight of 16384 or more", damaged(13, 0x40));
     }
 
-    fn lose_power_and_load(&mut self, image: &[u8; IMAGE]) {
+    fn lose_power_and_recover(&mut self, kept: &Kept) {
         let before = self.record;
         let lost = Equaliser {
             p: 0xFF,
@@ -386,12 +397,101 @@ impl Station<'_> {
             &Received::default(),
             N,
         );
-        let answer = self.side.load(image);
-        self.record = answer.state;
-        let kept = self.kept(self.record == before);
-        let number = answer.number;
+        let (found, state) = recover(self.side, kept);
+        self.record = state;
+        let record = self.unchanged(self.record == before);
+        let text = found.text();
+        self.line(format!("{text}, record of before the loss {record}"));
+    }
+
+    /// Counts what the station finds. Where it doesn't recover it has the
+    /// fresh state.
+    fn count_finding(&mut self, kept: &Kept, counts: &mut Findings) {
+        let fresh = self.side.set_up(SIZES).state;
+        let (found, state) = recover(self.side, kept);
+        counts.add(found);
+        self.marks += u32::from(found != Finding::OwnState && state != fresh);
+    }
+
+    /// What the station finds with one byte of the image bent in every way.
+    /// The check sum stays that of the good image, or is made right, as if
+    /// there were none.
+    fn bend_byte(&mut self, good: &Kept, place: usize, made_right: bool, counts: &mut Findings) {
+        for bend in 1..=255 {
+            let mut kept = *good;
+            kept.image[place] ^= bend;
+            if made_right {
+                kept.make_right();
+            }
+            self.count_finding(&kept, counts);
+        }
+    }
+
+    /// Bends every byte of the image. Without a check sum some must be taken,
+    /// or the bending would show nothing.
+    fn bend_image(&mut self, kept: &Kept) {
+        let (mut counts, mut without) = (Findings::default(), Findings::default());
+        for place in 0..IMAGE {
+            self.bend_byte(kept, place, false, &mut counts);
+            self.bend_byte(kept, place, true, &mut without);
+        }
+        let other = without.of(Finding::OtherSettings);
+        let sound = without.of(Finding::OwnState) + other;
+        let taken = counts.of(Finding::OwnState);
+        let all = IMAGE * 255;
         self.line(format!(
-            "loaded: answer {number}, record of before the loss {kept}"
+            "bent images: {all}; a load alone takes {sound} of them as sound states, \
+             {other} of these with other settings; \
+             taken after check sum and settings: {taken}"
         ));
+        self.marks += u32::from(taken != 0 || sound == other);
+    }
+
+    /// Bends every byte of the check sum.
+    fn bend_check_sum(&mut self, good: Kept) {
+        let mut counts = Findings::default();
+        for i in 0..4 * 255 {
+            let mut kept = good;
+            kept.check_sum ^= (1 + i % 255) << (8 * (i / 255));
+            self.count_finding(&kept, &mut counts);
+        }
+        let taken = counts.of(Finding::OwnState);
+        self.line(format!("bent check sums: {}; taken: {taken}", 4 * 255));
+        self.marks += u32::from(taken != 0);
+    }
+
+    /// The station recovers from memory that doesn't hold its own state.
+    fn recover_from(&mut self, about: &str, kept: &Kept) {
+        let (found, state) = recover(self.side, kept);
+        self.record = state;
+        self.line(format!("{about}: {}", found.text()));
+        self.marks += u32::from(found == Finding::OwnState);
+    }
+
+    /// The state of another station, kept as that one would keep it.
+    fn recover_from_other(&mut self, about: &str, settings: Settings) {
+        let other = self.side.set_up(settings).state;
+        let mut kept = Kept::filled(0);
+        keep(self.side, other, &mut kept);
+        self.recover_from(about, &kept);
+    }
+
+    fn recover_from_anything(&mut self, mut kept: Kept) {
+        kept.image[13] = 0x40;
+        kept.make_right();
+        let about = "image with a weight of 16384 or more, its check sum right";
+        self.recover_from(about, &kept);
+        let Settings { p, q, r, l, m, .. } = SIZES;
+        let turned = Settings {
+            p: q,
+            q: p,
+            ..SIZES
+        };
+        let greatest = greatest_step(q, p, r, l).expect("the sizes are within their limits");
+        self.recover_from_other("image of a station with p 3 q 4", turned.with_m(greatest));
+        let smaller = SIZES.with_m(m - 1);
+        self.recover_from_other("image of a station with a smaller step", smaller);
+        self.recover_from("memory of zeros", &Kept::filled(0));
+        self.recover_from("memory of FF bytes", &Kept::filled(0xFF));
     }
 }

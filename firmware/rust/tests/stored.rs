@@ -1,11 +1,13 @@
-//! The stored outputs are the second implementation's, and the records are
-//! laid out as the header has them.
+//! The stored outputs are the second implementation's, the records are laid
+//! out as the header has them, and the README shows what is stored.
 
 use reference::vectors::image_vectors;
+use reference::Settings;
 use std::mem::{offset_of, size_of};
 use tigbulode::compare::{text, text_changed, CHANGED_COUNT, COUNT, SEED};
-use tigbulode::sides::Second;
-use tigbulode::{Answer, Equaliser, Saved};
+use tigbulode::sides::{Operations, Second};
+use tigbulode::{greatest_step, number_text};
+use tigbulode::{Answer, Block, Equaliser, Outputs, Saved};
 
 #[test]
 fn the_station() {
@@ -43,6 +45,62 @@ fn the_calls_with_changes() {
     let (text, all) = text_changed(&Second, &Second, SEED, CHANGED_COUNT);
     assert!(all);
     assert_eq!(text, include_str!("../../changed.out"));
+}
+
+/// What the first program prints.
+fn first_program() -> String {
+    let step = greatest_step(1, 1, 0, 0).unwrap();
+    let settings = Settings {
+        p: 1,
+        q: 1,
+        n: 2,
+        r: 0,
+        l: 0,
+        m: step,
+    };
+    let (mut y, mut xi, mut decision) = ([0; 2], [0; 2], [0; 2]);
+    let block = Block {
+        samples: &[0x4000, 0x4000],
+        gains: &[0, 0],
+        entries: &[1, 0],
+    };
+    let out = Outputs {
+        y: &mut y,
+        xi: &mut xi,
+        decision: &mut decision,
+        z: &mut [0; 2],
+        theta: &mut [0; 2],
+    };
+    let number = Second.run(&mut Second.set_up(settings).state, block, out);
+    let about = number_text(number);
+    format!(
+        "{about}: y {} * 2^({} - 30), decision {}\n",
+        y[1], xi[1], decision[1]
+    )
+}
+
+#[test]
+fn the_first_program() {
+    let in_c_and_cpp_and_rust = first_program().repeat(3);
+    assert_eq!(in_c_and_cpp_and_rust, include_str!("../../first.out"));
+}
+
+#[test]
+fn the_readme() {
+    let readme = include_str!("../../README.md");
+    let shown = |text: &str| assert!(readme.contains(text), "the README lacks {text}");
+    let in_c = include_str!("../../first.c");
+    shown(&format!("\n```c\n{in_c}```\n"));
+    let in_rust = include_str!("../examples/first.rs");
+    shown(&format!("\n```rust\n{in_rust}```\n"));
+    shown(&format!("`{}`", first_program().trim()));
+    for number in 0..10 {
+        shown(&format!("\n| {number} | {} |\n", number_text(number)));
+    }
+    let station = include_str!("../../station.out").lines();
+    for line in station.filter(|line| line.starts_with("bent")) {
+        shown(&format!("\n    {line}\n"));
+    }
 }
 
 #[test]

@@ -1,0 +1,233 @@
+/* Tries what tigbulode.h has in plain C beside the four functions, against these: `interface`. This file is C99, C11 and
+ * C++98 at once. Exit status 1: a difference, or a change that was not told apart. */
+#include "arguments.h"
+#include "tigbulode.h"
+
+enum { LONGEST = TIGBULODE_MOST_BLOCK, N = 16, BLOCKS = 32, RECORD = sizeof(tigbulode_equaliser) };
+
+/* One more than the limit of each size, and all sizes up to there. */
+enum {
+    TAPS = TIGBULODE_MOST_TAPS + 2,
+    RS = TIGBULODE_MOST_R + 2,
+    GAINS = TIGBULODE_MOST_GAIN + 2,
+    ALL_SIZES = TAPS * TAPS * RS * GAINS
+};
+
+typedef struct {
+    uint8_t p, q, r, l;
+} sizes;
+
+/* What a block reads, and what it hands out. */
+typedef struct {
+    int16_t samples[N];
+    uint8_t gains[N];
+    int8_t entries[N];
+} block;
+
+typedef struct {
+    int32_t y[N], z[N];
+    uint8_t xi[N], theta[N];
+    int8_t decision[N];
+} outputs;
+
+static unsigned differences, changes, told;
+
+/* The first difference is printed, with its place. */
+static void expect(int holds, const char *about, unsigned place) {
+    if (holds) return;
+    if (differences == 0) fprintf(stderr, "interface: %s, case %u: not as expected\n", about, place);
+    differences++;
+}
+
+/* A changed expectation, which must be told apart. */
+static void try_changed(int holds) {
+    changes++;
+    told += !holds;
+}
+
+static void try_version(void) {
+    char text[16];
+    sprintf(text, "%d.%d", TIGBULODE_VERSION_MAJOR, TIGBULODE_VERSION_MINOR);
+    expect(strcmp(text, TIGBULODE_VERSION) == 0, "version", 0);
+    printf("version %s\n", TIGBULODE_VERSION);
+}
+
+static void try_number_texts(void) {
+    int number;
+    for (number = 0; number <= 10; number++) printf("number %d: %s\n", number, tigbulode_number_text((uint8_t)number));
+}
+
+static uint8_t answer_of(sizes s, uint32_t step) { return tigbulode_set_up(s.p, s.q, LONGEST, s.r, s.l, step).number; }
+
+static int is_greatest(sizes s, uint32_t step) {
+    return answer_of(s, step) == TIGBULODE_ACCEPTED && answer_of(s, step + 1) == TIGBULODE_STEP;
+}
+
+/* The greatest step with these sizes, or 0; gives whether they are within the limits. */
+static unsigned try_greatest_step(sizes s, unsigned place) {
+    const uint32_t greatest = tigbulode_greatest_step(s.p, s.q, s.r, s.l);
+    const uint8_t number = answer_of(s, 0);
+    if (number != TIGBULODE_ACCEPTED) {
+        expect(number == TIGBULODE_SIZES && greatest == 0, "sizes outside the limits", place);
+        return 0;
+    }
+    expect(is_greatest(s, greatest), "greatest step", place);
+    try_changed(is_greatest(s, greatest - 1));
+    try_changed(is_greatest(s, greatest + 1));
+    return 1;
+}
+
+static sizes sizes_of(unsigned number) {
+    sizes s;
+    s.p = (uint8_t)(number % TAPS);
+    s.q = (uint8_t)(number / TAPS % TAPS);
+    s.r = (uint8_t)(number / (TAPS * TAPS) % RS);
+    s.l = (uint8_t)(number / (TAPS * TAPS * RS));
+    return s;
+}
+
+static void try_greatest_steps(void) {
+    unsigned number, within = 0;
+    for (number = 0; number < ALL_SIZES; number++) within += try_greatest_step(sizes_of(number), number);
+    printf("greatest step: %u sizes within the limits, %u outside\n", within, ALL_SIZES - within);
+}
+
+/* Each size from 0 to 255, the others being 1. */
+static void try_any_size(void) {
+    unsigned i, within = 0;
+    for (i = 0; i < 4 * 256; i++) {
+        sizes s = {1, 1, 1, 1};
+        uint8_t *const each[4] = {&s.p, &s.q, &s.r, &s.l};
+        *each[i / 256] = (uint8_t)(i % 256);
+        within += try_greatest_step(s, i);
+    }
+    printf("greatest step, one size of any value: %u within the limits, %u outside\n", within, 4 * 256 - within);
+}
+
+static void try_image_lengths(void) {
+    uint8_t image[TIGBULODE_IMAGE_LENGTH(TIGBULODE_MOST_TAPS, TIGBULODE_MOST_TAPS)];
+    unsigned i;
+    expect(sizeof image == TIGBULODE_IMAGE_BYTES, "longest image", 0);
+    for (i = 0; i < 256; i++) {
+        const unsigned p = 1 + i / 16, q = 1 + i % 16;
+        const tigbulode_answer a = tigbulode_set_up((uint8_t)p, (uint8_t)q, LONGEST, 0, 0, 0);
+        const tigbulode_saved saved = tigbulode_save(a.state, image, sizeof image);
+        expect(saved.number == TIGBULODE_ACCEPTED && saved.length == TIGBULODE_IMAGE_LENGTH(p, q), "image length", i);
+        try_changed(saved.length == TIGBULODE_IMAGE_LENGTH(p, q + 1));
+    }
+    printf("image lengths: %u\n", i);
+}
+
+/* The check sum of the text that is usual for it, and of 0 to 140 bytes. */
+static void try_check_sums(void) {
+    static const char text[] = "123456789";
+    uint8_t bytes[TIGBULODE_IMAGE_BYTES];
+    uint32_t sum = tigbulode_check_sum((const uint8_t *)text, 9);
+    size_t length;
+    expect(sum == 0xCBF43926u, "check sum", 0);
+    printf("check sum of %s: %08lX\n", text, (unsigned long)sum);
+    sum = 0;
+    for (length = 0; length < sizeof bytes; length++) {
+        sum = 31 * sum + tigbulode_check_sum(bytes, length);
+        bytes[length] = (uint8_t)(37 * length + 11);
+    }
+    printf("check sums of 0 to 139 bytes: %08lX\n", (unsigned long)sum);
+}
+
+/* Each byte of a record changed: the settings are the first five bytes and M. */
+static void try_same_settings(void) {
+    const tigbulode_equaliser s = tigbulode_set_up(3, 2, N, 1, 1, 1).state;
+    unsigned i, other = 0;
+    expect(tigbulode_same_settings(&s, &s), "settings of one record", 0);
+    for (i = 0; i < RECORD; i++) {
+        tigbulode_equaliser t = s;
+        ((uint8_t *)&t)[i] ^= 1;
+        const int same = tigbulode_same_settings(&s, &t);
+        other += !same;
+        expect(same == !(i < 5 || (i >= 8 && i < 12)) && same == tigbulode_same_settings(&t, &s), "settings", i);
+    }
+    printf("settings: %u bytes changed, %u of them told\n", i, other);
+}
+
+static block any_block(uint32_t *random) {
+    block in;
+    int i;
+    for (i = 0; i < N; i++) {
+        *random = *random * 1664525u + 1013904223u;
+        in.samples[i] = (int16_t)((int32_t)(*random >> 16) - 32768);
+        in.gains[i] = (uint8_t)(*random >> 8 & 3);
+        in.entries[i] = (int8_t)(2 * (int32_t)(*random >> 4 & 1) - 1);
+    }
+    return in;
+}
+
+static tigbulode_block lists_of(const block *in, outputs *out, size_t length) {
+    tigbulode_block lists;
+    lists.length = length;
+    lists.samples = in->samples;
+    lists.gains = in->gains;
+    lists.entries = in->entries;
+    lists.y = out->y;
+    lists.xi = out->xi;
+    lists.decision = out->decision;
+    lists.z = out->z;
+    lists.theta = out->theta;
+    return lists;
+}
+
+/* Whether run_block leaves the same answer, record and outputs as run. */
+static int same_run(tigbulode_equaliser s, const block *in, size_t n, tigbulode_block lists, const outputs *handed) {
+    tigbulode_equaliser t = s;
+    outputs out;
+    uint8_t number;
+    memset(&out, 0x55, sizeof out);
+    number = tigbulode_run(&s, in->samples, n, in->gains, n, in->entries, n, out.y, n, out.xi, n, out.decision, n, out.z, n,
+                           out.theta, n);
+    expect(number == (n == N ? TIGBULODE_ACCEPTED : TIGBULODE_LENGTHS), "answer to a block of length", (unsigned)n);
+    return tigbulode_run_block(&t, &lists) == number && memcmp(&s, &t, sizeof s) == 0 &&
+           memcmp(&out, handed, sizeof out) == 0;
+}
+
+/* A block of a length by both calls, and with two lists in each other's places. */
+static void try_block(const tigbulode_equaliser *s, const block *in, size_t length) {
+    outputs out;
+    tigbulode_block lists = lists_of(in, &out, length);
+    memset(&out, 0x55, sizeof out);
+    expect(same_run(*s, in, length, lists, &out), "both calls with a block of length", (unsigned)length);
+    if (length != N) return;
+    lists.y = out.z;
+    lists.z = out.y;
+    try_changed(same_run(*s, in, length, lists, &out));
+    lists = lists_of(in, &out, length - 1);
+    try_changed(same_run(*s, in, length, lists, &out));
+}
+
+static void try_blocks(void) {
+    tigbulode_equaliser s = tigbulode_set_up(4, 3, N, 0, 0, tigbulode_greatest_step(4, 3, 0, 0)).state;
+    uint32_t random = 2026;
+    unsigned i;
+    for (i = 0; i < BLOCKS; i++) {
+        const block in = any_block(&random);
+        outputs out;
+        const tigbulode_block lists = lists_of(&in, &out, N);
+        size_t length;
+        for (length = 0; length <= N; length++) try_block(&s, &in, length);
+        expect(tigbulode_run_block(&s, &lists) == TIGBULODE_ACCEPTED, "block", i);
+    }
+    printf("blocks: %u of length %d, %u of other lengths\n", i, N, i * N);
+}
+
+int main(int argc, char **argv) {
+    take_arguments(argc, argv, 0, "interface, without arguments: tries the plain C of tigbulode.h against the library");
+    try_version();
+    try_number_texts();
+    try_greatest_steps();
+    try_any_size();
+    try_image_lengths();
+    try_check_sums();
+    try_same_settings();
+    try_blocks();
+    printf("changed expectations told apart: %u of %u\n", told, changes);
+    printf("differences: %u\n", differences);
+    return differences == 0 && told == changes ? EXIT_SUCCESS : EXIT_FAILURE;
+}
