@@ -10,8 +10,8 @@
  * is taken, also that of a record with anything in it. What can't be used is turned down with a number, and the record
  * and all lent memory are then as they were.
  *
- * An image has no check sum: of the images that differ from a good one in one byte, some four in ten load with 0, as
- * states that are sound but were never saved. So firmware keeps tigbulode_check_sum of each image beside it; after a loss
+ * An image has no check sum: of the images that differ from a good one in one byte, three to five in ten load with 0,
+ * as states that are sound but were never saved. So firmware keeps tigbulode_check_sum of each image beside it; after a loss
  * of power it loads only an image whose check sum is right, takes the state only if tigbulode_same_settings finds its own
  * settings in it, and sets up anew otherwise. firmware/station.c does so.
  *

@@ -8,14 +8,36 @@
 //! each image beside it, and after a load compares [`Equaliser::settings`] with
 //! its own.
 
+#![cfg_attr(not(feature = "compare"), no_std)]
+
+#[cfg(feature = "compare")]
 pub mod calls;
+#[cfg(feature = "compare")]
 pub mod compare;
+pub mod number;
+#[cfg(feature = "compare")]
 pub mod perform;
+#[cfg(feature = "compare")]
 pub mod sides;
+#[cfg(feature = "compare")]
 pub mod station;
+
+pub use number::number_text;
 
 /// The version of the interface, that of `tigbulode.h`.
 pub const VERSION: &str = "0.2";
+/// The most taps of one filter.
+pub const MOST_TAPS: u8 = 16;
+/// The most samples of a block.
+pub const MOST_BLOCK: u8 = 128;
+/// The greatest r: a symbol is odd, of magnitude at most 2^(r+1) - 1.
+pub const MOST_R: u8 = 3;
+/// The greatest gain of a sample, and so of L.
+pub const MOST_GAIN: u8 = 15;
+/// The greatest exponent of the weights.
+pub const MOST_EXPONENT: u8 = 15;
+/// The greatest magnitude of a stored weight.
+pub const MOST_WEIGHT: i16 = 16383;
 /// The places for weights, and as many for data: the taps of both filters.
 pub const PLACES: usize = 32;
 /// The length of the longest image.
@@ -145,7 +167,8 @@ pub const fn image_length(p: u8, q: u8) -> usize {
 /// The greatest M that set-up admits with these sizes; none where one of them
 /// is outside its limits.
 pub fn greatest_step(p: u8, q: u8, r: u8, l: u8) -> Option<u32> {
-    if !(1..=16).contains(&p) || !(1..=16).contains(&q) || r > 3 || l > 15 {
+    let taps = 1..=MOST_TAPS;
+    if !taps.contains(&p) || !taps.contains(&q) || r > MOST_R || l > MOST_GAIN {
         return None;
     }
     // M * D <= 2^30 with D = 2^(2r+2-L) * (2^L * (q + 2) + p)
@@ -164,21 +187,4 @@ pub fn check_sum(bytes: &[u8]) -> u32 {
         }
     }
     !sum
-}
-
-/// What a number says, in words.
-pub fn number_text(number: u8) -> &'static str {
-    match number {
-        0 => "accepted",
-        1 => "a size is outside its limits",
-        2 => "M is not admitted with these sizes",
-        3 => "a lent list is not N long",
-        4 => "a gain is below L or above 15",
-        5 => "a training entry is neither 0 nor a symbol",
-        6 => "the weights' exponent would rise to 16",
-        7 => "the buffer is shorter than the image",
-        8 => "the image has a wrong length",
-        9 => "the state is not sound",
-        _ => "no number of the equaliser",
-    }
 }
