@@ -4,6 +4,7 @@
 mod common;
 
 use common::{ended, program, soak, Ended, Folder};
+use soak::faults::Fault;
 use soak::soak::Until;
 use soak::stop::{end_at_once, listen, SAME, SIGNALS};
 use std::io::{BufRead, BufReader, Read};
@@ -131,5 +132,8 @@ fn help() {
         let ended = soak(&folder, words);
         assert_eq!((ended.status, ended.err.as_str()), (Some(0), ""));
         assert!(ended.out.starts_with("usage: soak/run "), "{}", ended.out);
+        let words: Vec<&str> = ended.out.split([' ', ',', '.', '\n']).collect();
+        let missing = Fault::ALL.iter().find(|(name, _)| !words.contains(name));
+        assert_eq!(missing, None);
     }
 }
