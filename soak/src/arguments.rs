@@ -11,13 +11,13 @@ pub const SEED: u64 = 2026;
 /// The seconds of the long run.
 pub const LONG: u64 = 600;
 
-pub const USAGE: &str = "\
-usage: soak [--calls N | --seconds S | --long] [--seed SEED] [--out FOLDER]
-       soak --fault KIND SEED [--calls N] [--out FOLDER]
-       soak replay FILE";
+/// It is a file of its own for `soak/run`, which prints it before anything is
+/// built.
+pub const USAGE: &str = include_str!("../usage.txt");
 
 #[derive(Clone, Debug, PartialEq, Eq)]
 pub enum Asked {
+    Help,
     Run(Run),
     Replay(PathBuf),
 }
@@ -48,6 +48,9 @@ fn clock() -> u64 {
 /// What the words ask for.
 pub fn asked(words: &[String]) -> Result<Asked, String> {
     let words: Vec<&str> = words.iter().map(String::as_str).collect();
+    if words.contains(&"--help") || words.contains(&"-h") {
+        return Ok(Asked::Help);
+    }
     match words[..] {
         ["replay", file] => Ok(Asked::Replay(PathBuf::from(file))),
         ["replay", ..] => Err("replay takes one file".to_string()),

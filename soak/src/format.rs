@@ -96,7 +96,7 @@ fn room(word: &str) -> Result<usize, String> {
 
 fn bytes(word: &str) -> Result<Vec<u8>, String> {
     let digits = word.as_bytes();
-    if digits.len() % 2 != 0 || !digits.iter().all(u8::is_ascii_hexdigit) {
+    if !digits.len().is_multiple_of(2) || !digits.iter().all(u8::is_ascii_hexdigit) {
         return Err(format!("{word:?} is no row of hexadecimal bytes"));
     }
     let pairs = (0..word.len()).step_by(2);

@@ -10,6 +10,7 @@
 //! * [`format`]: a list as text.
 //! * [`shrink`]: a shorter list that still fails.
 //! * [`soak`]: many lists, and what is printed.
+//! * [`stop`]: a signal that asks a run to stop.
 //! * [`arguments`]: what is asked for.
 
 pub mod arguments;
@@ -23,3 +24,4 @@ pub mod progress;
 pub mod report;
 pub mod shrink;
 pub mod soak;
+pub mod stop;

@@ -232,7 +232,7 @@ impl Lister {
     }
 
     fn top(&mut self, turn: usize, record: &Equaliser) -> Call {
-        if turn % 6 == 0 {
+        if turn.is_multiple_of(6) {
             let settings = self.maker.random.settings();
             let mut e = record_of(&self.maker.random.sound_state(settings));
             self.maker.near_the_limit(&mut e);
@@ -288,7 +288,7 @@ impl Lister {
     }
 
     fn bounds(&mut self, turn: usize, record: &Equaliser) -> Call {
-        if turn % 3 == 0 {
+        if turn.is_multiple_of(3) {
             return Call::Load(raw_image(&self.record_at_bounds()));
         }
         let aim = self.maker.random.pick(&[Aim::Ends, Aim::Ends, Aim::Mixed]);

@@ -1,9 +1,11 @@
 //! Lists of calls on the static library and on the second implementation side
 //! by side, with the figures of demand 3: see `soak/README.md`. Exit status 1:
-//! something failed; 2: bad arguments or files.
+//! something failed; 2: bad arguments or files; 128 and the number of the signal
+//! that stopped a run.
 
 use soak::arguments::{asked, Asked, USAGE};
-use soak::soak::{replay, run};
+use soak::soak::{replay, run, Verdict};
+use soak::stop;
 use std::io::Write;
 use std::process::ExitCode;
 
@@ -11,10 +13,12 @@ fn main() -> ExitCode {
     let words: Vec<String> = std::env::args().skip(1).collect();
     let asked = match asked(&words) {
         Ok(asked) => asked,
-        Err(message) => return bad(&format!("{message}\n{USAGE}")),
+        Err(message) => return bad(&format!("{message}\n{}", USAGE.trim_end())),
     };
     let result = match &asked {
+        Asked::Help => Ok(Verdict::good(USAGE.to_string())),
         Asked::Run(wanted) => {
+            stop::listen();
             if let Err(message) = print(&format!("seed {}\n", wanted.seed)) {
                 return bad(&message);
             }
@@ -28,8 +32,7 @@ fn main() -> ExitCode {
     };
     match print(&result.text) {
         Err(message) => bad(&message),
-        Ok(()) if result.good => ExitCode::SUCCESS,
-        Ok(()) => ExitCode::FAILURE,
+        Ok(()) => ExitCode::from(result.status),
     }
 }
 

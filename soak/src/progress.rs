@@ -31,14 +31,14 @@ impl Progress {
     }
 
     /// Shows the text if it is time again.
-    pub fn show(&mut self, text: impl FnOnce() -> String) {
+    pub fn show(&mut self, text: impl FnOnce(u64) -> String) {
         let now = Instant::now();
         if now < self.next {
             return;
         }
         self.next = now + self.every;
         self.shown = true;
-        let line = format!("{}, {} s", text(), self.seconds());
+        let line = text(self.seconds());
         let mut stream = std::io::stderr().lock();
         let _ = match self.terminal {
             true => write!(stream, "\r{line}\x1b[K").and_then(|()| stream.flush()),

@@ -8,6 +8,7 @@ use crate::lists::Lister;
 use crate::progress::Progress;
 use crate::report::covered;
 use crate::shrink::shrink;
+use crate::stop;
 use std::path::{Path, PathBuf};
 use tigbulode::calls::Call;
 use tigbulode::sides::{Library, Operations, Second};
@@ -17,6 +18,25 @@ use tigbulode::sides::{Library, Operations, Second};
 pub enum Until {
     Calls(u64),
     Seconds(u64),
+}
+
+impl Until {
+    /// How far a run is.
+    pub fn so_far(self, calls: u64, seconds: u64) -> String {
+        let calls = grouped(calls);
+        match self {
+            Until::Calls(count) => format!("{calls} of {} calls, {seconds} s", grouped(count)),
+            Until::Seconds(end) => format!("{calls} calls, {seconds} of {end} s"),
+        }
+    }
+}
+
+/// A number with a comma before every three digits.
+fn grouped(number: u64) -> String {
+    match number {
+        0..1000 => number.to_string(),
+        _ => format!("{},{:03}", grouped(number / 1000), number % 1000),
+    }
 }
 
 /// A run that is asked for.
@@ -29,10 +49,32 @@ pub struct Run {
     pub out: PathBuf,
 }
 
-/// What is printed, and whether nothing failed.
+/// What is printed, and the exit status.
 pub struct Verdict {
     pub text: String,
-    pub good: bool,
+    pub status: u8,
+}
+
+impl Verdict {
+    pub fn good(text: String) -> Verdict {
+        Verdict { text, status: 0 }
+    }
+
+    fn failing(text: String) -> Verdict {
+        Verdict { text, status: 1 }
+    }
+
+    /// A run that saw no difference and came to its end, or was stopped; then
+    /// the exit status is the one that shells give for the signal.
+    fn seen(text: String) -> Verdict {
+        let Some((name, number)) = stop::noted() else {
+            return Verdict::good(format!("{text}no difference\n"));
+        };
+        Verdict {
+            text: format!("{text}stopped by a signal, {name}: no difference up to there\n"),
+            status: 128 + number as u8,
+        }
+    }
 }
 
 /// Both sides, with a fault or without, for `work`.
@@ -75,6 +117,9 @@ struct Running<'a> {
 
 impl Running<'_> {
     fn ended(&self) -> bool {
+        if stop::noted().is_some() {
+            return true;
+        }
         match self.run.until {
             Until::Calls(count) => self.calls >= count,
             Until::Seconds(seconds) => self.progress.seconds() >= seconds,
@@ -107,10 +152,8 @@ impl Running<'_> {
                 }
             }
             self.calls += 1;
-            let (lists, calls) = (self.lists, self.calls);
-            let samples = self.bench.tally.samples;
-            self.progress
-                .show(|| format!("list {lists}, {calls} calls, {samples} samples"));
+            let (until, calls) = (self.run.until, self.calls);
+            self.progress.show(|seconds| until.so_far(calls, seconds));
         }
         None
     }
@@ -134,17 +177,20 @@ pub fn failure_of(fault: Option<Fault>, calls: &[Call]) -> Option<Failure> {
     })
 }
 
-/// A short list that fails in the same check.
+/// A short list that fails in the same check. A signal ends the search.
 pub fn shrunk(fault: Option<Fault>, calls: Vec<Call>, failure: &Failure) -> Vec<Call> {
     let check = &failure.failing.check;
     let mut fails = |calls: &[Call]| {
-        let failure = failure_of(fault, calls);
+        let failure = match stop::noted() {
+            Some(_) => None,
+            None => failure_of(fault, calls),
+        };
         failure.is_some_and(|failure| failure.failing.check == *check)
     };
     shrink(calls, &mut fails)
 }
 
-/// Runs what is asked for. A folder that can't be had is an error.
+/// Runs what is asked for, until its end or a signal. A folder that can't be had is an error.
 pub fn run(run: &Run) -> Result<Verdict, String> {
     std::fs::create_dir_all(&run.out).map_err(|error| format!("{}: {error}", run.out.display()))?;
     let verdict = with_sides(run.fault, |library, second| {
@@ -161,8 +207,7 @@ pub fn run(run: &Run) -> Result<Verdict, String> {
             Some(found) => failed(run, found),
             None => {
                 let counts = format!("{} lists, {} calls\n", running.lists, running.calls);
-                let text = format!("{counts}{}no difference\n", covered(&running.bench));
-                Verdict { text, good: true }
+                Verdict::seen(format!("{counts}{}", covered(&running.bench)))
             }
         }
     });
@@ -191,10 +236,13 @@ fn failed(run: &Run, found: Found) -> Verdict {
         calls,
     };
     match format::write(&path, &format::text(&saved, &format!("{from}\n{failure}"))) {
-        Ok(()) => text += &format!("saved: {}\n", path.display()),
+        Ok(()) => {
+            let path = path.display();
+            text += &format!("saved: {path}\nonce more: soak/run replay {path}\n");
+        }
         Err(error) => text += &format!("not saved: {error}\n{}", format::text(&saved, "")),
     }
-    Verdict { text, good: false }
+    Verdict::failing(text)
 }
 
 fn samples(calls: &[Call]) -> usize {
@@ -212,13 +260,7 @@ pub fn replay(path: &Path) -> Result<Verdict, String> {
     let fault = saved.fault.map(|fault| format!(", fault {}", fault.name()));
     let count = format!("{} calls{}\n", saved.calls.len(), fault.unwrap_or_default());
     Ok(match failure {
-        Some(failure) => Verdict {
-            text: format!("{count}{failure}\n"),
-            good: false,
-        },
-        None => Verdict {
-            text: format!("{count}no difference\n"),
-            good: true,
-        },
+        Some(failure) => Verdict::failing(format!("{count}{failure}\n")),
+        None => Verdict::good(format!("{count}no difference\n")),
     })
 }

@@ -5,12 +5,22 @@ use reference::vectors::{block_vectors, image_vectors, trace_vectors};
 use std::path::Path;
 use std::process::ExitCode;
 
+const USAGE: &str = "usage: vectors OUTDIR";
+
 fn main() -> ExitCode {
-    let Some(folder) = std::env::args().nth(1) else {
-        eprintln!("usage: vectors OUTDIR");
-        return ExitCode::from(2);
+    let words: Vec<String> = std::env::args().skip(1).collect();
+    let folder = match &words[..] {
+        [word] if word == "--help" || word == "-h" => {
+            println!("{USAGE}");
+            return ExitCode::SUCCESS;
+        }
+        [folder] if !folder.starts_with('-') => folder,
+        _ => {
+            eprintln!("{USAGE}");
+            return ExitCode::from(2);
+        }
     };
-    match write_all(Path::new(&folder)) {
+    match write_all(Path::new(folder)) {
         Ok(()) => ExitCode::SUCCESS,
         Err(error) => {
             eprintln!("{folder}: {error}");
@@ -23,7 +33,9 @@ fn write_all(folder: &Path) -> std::io::Result<()> {
     std::fs::create_dir_all(folder)?;
     let write = |name: &str, count: usize, bytes: Vec<u8>| {
         println!("{name}: {count} vectors, {} bytes", bytes.len());
-        std::fs::write(folder.join(name), bytes)
+        let part = folder.join(format!("{name}.part"));
+        std::fs::write(&part, bytes)?;
+        std::fs::rename(part, folder.join(name))
     };
     let traces = trace_vectors();
     let bytes = traces.iter().flat_map(|vector| vector.bytes()).collect();

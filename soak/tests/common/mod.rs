@@ -1,7 +1,7 @@
 //! A folder of its own for a test, and the program run in it.
 
 use std::path::{Path, PathBuf};
-use std::process::Command;
+use std::process::{Command, Output};
 
 pub struct Folder(pub PathBuf);
 
@@ -28,16 +28,20 @@ pub struct Ended {
     pub err: String,
 }
 
-pub fn soak(folder: &Folder, words: &[&str]) -> Ended {
-    let program = env!("CARGO_BIN_EXE_soak");
-    let ended = Command::new(program)
-        .args(words)
-        .current_dir(&folder.0)
-        .output()
-        .unwrap();
+pub fn program(folder: &Folder, words: &[&str]) -> Command {
+    let mut command = Command::new(env!("CARGO_BIN_EXE_soak"));
+    command.args(words).current_dir(&folder.0);
+    command
+}
+
+pub fn ended(output: Output) -> Ended {
     Ended {
-        status: ended.status.code(),
-        out: String::from_utf8(ended.stdout).unwrap(),
-        err: String::from_utf8(ended.stderr).unwrap(),
+        status: output.status.code(),
+        out: String::from_utf8(output.stdout).unwrap(),
+        err: String::from_utf8(output.stderr).unwrap(),
     }
+}
+
+pub fn soak(folder: &Folder, words: &[&str]) -> Ended {
+    ended(program(folder, words).output().unwrap())
 }

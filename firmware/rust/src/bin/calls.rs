@@ -8,7 +8,10 @@ use std::process::ExitCode;
 use tigbulode::compare::{text, text_changed, CHANGED_COUNT, COUNT, SEED};
 use tigbulode::sides::{Library, Second};
 
+const USAGE: &str = "usage: calls [SEED [COUNT]] or calls --changed";
+
 enum Asked {
+    Help,
     Compare(u64, u64),
     Changed,
 }
@@ -16,11 +19,12 @@ enum Asked {
 fn main() -> ExitCode {
     let words: Vec<String> = std::env::args().skip(1).collect();
     let (text, good) = match asked(&words) {
+        Ok(Asked::Help) => (format!("{USAGE}\n"), true),
         Ok(Asked::Compare(seed, count)) => text(&Library, &Second, seed, count),
         Ok(Asked::Changed) => text_changed(&Library, &Second, SEED, CHANGED_COUNT),
         Err(message) => {
             eprintln!("calls: {message}");
-            eprintln!("usage: calls [SEED [COUNT]] or calls --changed");
+            eprintln!("{USAGE}");
             return ExitCode::from(2);
         }
     };
@@ -39,6 +43,7 @@ fn asked(words: &[String]) -> Result<Asked, String> {
     };
     match words {
         [] => Ok(Asked::Compare(SEED, COUNT)),
+        [word] if word == "--help" || word == "-h" => Ok(Asked::Help),
         [word] if word == "--changed" => Ok(Asked::Changed),
         [seed] => Ok(Asked::Compare(number(seed)?, COUNT)),
         [seed, count] => match (number(seed)?, number(count)?) {
