@@ -1,0 +1,210 @@
+//! The bytes and numbers of `docs/EQUALISER.md`, made anew.
+
+use reference::block::{work, BlockDetail, SampleDetail};
+use reference::trace::trace_with_state;
+use reference::{save, set_up, trace, Inputs, Settings, State};
+use std::fmt::Display;
+
+fn file(name: &str) -> Vec<u8> {
+    let path = format!("{}/../{name}", env!("CARGO_MANIFEST_DIR"));
+    std::fs::read(&path).unwrap_or_else(|error| panic!("{name}: {error}"))
+}
+
+fn page() -> String {
+    String::from_utf8(file("docs/EQUALISER.md")).expect("the page is UTF-8")
+}
+
+fn hexadecimal(bytes: &[u8]) -> String {
+    let bytes: Vec<String> = bytes.iter().map(|byte| format!("{byte:02X}")).collect();
+    bytes.join(" ")
+}
+
+/// Whether the page has these bytes, perhaps over several lines.
+fn has_bytes(page: &str, bytes: &[u8]) -> bool {
+    let digits = |c: char| c.is_ascii_digit() || ('A'..='F').contains(&c);
+    let is_byte = |word: &&str| word.len() == 2 && word.chars().all(digits);
+    let kept: Vec<String> = page
+        .lines()
+        .map(|line| {
+            line.split_whitespace()
+                .take_while(is_byte)
+                .collect::<Vec<_>>()
+                .join(" ")
+        })
+        .collect();
+    let wanted = hexadecimal(bytes);
+    kept.join(" ").contains(&wanted) || page.contains(&wanted)
+}
+
+fn has_text(page: &str, text: &str) -> bool {
+    let lines: String = text.lines().map(|line| format!("    {line}\n")).collect();
+    page.contains(&lines)
+}
+
+fn image(state: &State) -> Vec<u8> {
+    let mut buffer = vec![0; 140];
+    let (number, length) = save(state, &mut buffer);
+    assert_eq!(number, 0);
+    buffer.truncate(length);
+    buffer
+}
+
+/// Numbers with a minus sign as a page has it.
+fn words(numbers: impl IntoIterator<Item = impl Display>) -> String {
+    let words: Vec<String> = numbers.into_iter().map(|n| n.to_string()).collect();
+    words.join(" ").replace('-', "−")
+}
+
+fn pair(one: impl Display, two: impl Display) -> String {
+    format!("{one}, {two}").replace('-', "−")
+}
+
+fn row(place: usize, entry: (i16, u8, i8), block: &BlockDetail, d: &SampleDetail) -> String {
+    let given = format!("{}, {}, {}", entry.0, entry.1, entry.2).replace('-', "−");
+    let (forward, feedback) = d.weights_after.split_at(d.a.len());
+    let cells = [
+        place.to_string(),
+        given,
+        format!("{}, {}, {}", block.b, block.big_b, block.gamma),
+        words(&d.a),
+        format!("{}, {}", d.nu, words(&d.held)),
+        pair(d.f, d.h),
+        pair(d.y, d.xi),
+        pair(d.decision, d.v),
+        pair(d.z, d.theta),
+        pair(d.j_forward, d.j_feedback),
+        format!("{}, {}", words(forward), words(feedback)),
+    ];
+    format!("| {} |\n", cells.join(" | "))
+}
+
+const LONGER: Settings = Settings {
+    p: 3,
+    q: 2,
+    n: 2,
+    r: 1,
+    l: 0,
+    m: 9_586_980,
+};
+const SAMPLES: [(i16, u8, i8); 8] = [
+    (-20001, 1, -3),
+    (9001, 1, 1),
+    (30001, 0, 3),
+    (-25001, 0, -1),
+    (5003, 2, 0),
+    (-7003, 2, 0),
+    (3001, 3, 0),
+    (-4003, 3, 0),
+];
+
+#[test]
+fn the_traces_texts_and_images_are_on_the_page() {
+    let page = page();
+    for name in ["worked", "blocks"] {
+        let bytes = file(&format!("examples/{name}.trace"));
+        let (text, state) = trace_with_state(&bytes);
+        assert!(has_bytes(&page, &bytes), "{name}: trace");
+        assert!(has_text(&page, &text), "{name}: text");
+        assert!(has_bytes(&page, &image(&state)), "{name}: image");
+        let mut other = image(&state);
+        other[5] ^= 1;
+        assert!(!has_bytes(&page, &other), "{name}: another image");
+    }
+}
+
+#[test]
+fn the_longer_example_has_these_rows() {
+    let page = page();
+    assert_eq!(LONGER.m, LONGER.largest_m());
+    let (_, mut state) = set_up(LONGER);
+    for (at, block) in SAMPLES.chunks(2).enumerate() {
+        let list = |i: usize| block[i];
+        let inputs = Inputs {
+            samples: &[list(0).0, list(1).0],
+            gains: &[list(0).1, list(1).1],
+            training: &[list(0).2, list(1).2],
+        };
+        let (detail, next) = work(&state, inputs).expect("an accepted block");
+        for (i, sample) in detail.samples.iter().enumerate() {
+            let row = row(2 * at + i, block[i], &detail, sample);
+            assert!(page.contains(&row), "{row}");
+        }
+        state = next;
+    }
+}
+
+#[test]
+fn the_refused_traces_stop_as_the_page_says() {
+    let rows = [
+        (
+            "01 01 01 00 00 00 01 00 01 00 00 04 00 40 00 01",
+            "stop 2 0\n",
+        ),
+        (
+            "01 01 01 00 00 00 02 00 00 00 00 04 00 40 00 00 40 10 01 00",
+            "0 0 1 1\nstop 4 1\n",
+        ),
+        (
+            "01 01 01 00 00 00 02 00 00 00 00 04 00 40 00 00 40 00 01 03",
+            "0 0 1 1\nstop 5 1\n",
+        ),
+        (
+            "01 01 01 00 00 00 02 00 00 00 00 04 00 40 00 00 40 00 01",
+            "stop 8 0\n",
+        ),
+        ("04 01 02 00 00 00 00 00 00 00 00 00", "stop 1 0\n"),
+        ("01 01 01 00 00 00 00 00 00 00 00 00", ""),
+    ];
+    let page = page();
+    for (bytes, text) in rows {
+        let byte = |word: &str| u8::from_str_radix(word, 16).expect("a byte");
+        let row = page
+            .lines()
+            .find(|line| line.starts_with(&format!("| {bytes} (")));
+        let row = row.unwrap_or_else(|| panic!("no row of {bytes}"));
+        assert_eq!(trace(&bytes.split(' ').map(byte).collect::<Vec<_>>()), text);
+        let said: Vec<&str> = text.lines().collect();
+        let said = said.join("`, then `");
+        let said = if said.is_empty() {
+            "nothing".to_string()
+        } else {
+            format!("`{said}`")
+        };
+        assert!(row.ends_with(&format!(" | {said} |")), "{row}");
+    }
+}
+
+/// The text of a file below `crates/`, or of every file of a folder there.
+fn source(name: &str) -> String {
+    let path = format!("{}/../crates/{name}", env!("CARGO_MANIFEST_DIR"));
+    if !name.ends_with('/') {
+        return std::fs::read_to_string(&path).unwrap_or_else(|error| panic!("{name}: {error}"));
+    }
+    let files = std::fs::read_dir(&path).unwrap_or_else(|error| panic!("{name}: {error}"));
+    let text = |file: std::fs::DirEntry| std::fs::read_to_string(file.path()).expect("a text");
+    files.map(|file| text(file.expect("a file"))).collect()
+}
+
+#[test]
+fn each_definition_stands_in_a_file_that_the_page_names_beside_it() {
+    let page = page();
+    let formal: Vec<&str> = page.split("*Formally*: ").skip(1).collect();
+    assert!(formal.len() >= 10);
+    for part in formal {
+        let part = part.split("\n\n").next().unwrap_or(part);
+        let quoted: Vec<&str> = part.split('`').skip(1).step_by(2).collect();
+        let is_file = |word: &&&str| word.contains('/') && !word.starts_with("docs/");
+        let sources: String = quoted
+            .iter()
+            .filter(is_file)
+            .map(|name| source(name))
+            .collect();
+        for name in quoted.iter().filter(|word| !word.contains('/')) {
+            let separators = |c: char| c.is_whitespace() || "(){};,.".contains(c);
+            assert!(
+                sources.split(separators).any(|word| word == *name),
+                "{name} in: {part}"
+            );
+        }
+    }
+}
