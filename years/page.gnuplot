@@ -142,5 +142,6 @@ plot @shade, \
     csv using @time:(column("refused")) with steps lw 3 lc rgb black title "refused so far", \
     csv using @time:(lost(1, 0.9)) axes x1y2 with points pt 6 ps 1.4 lw 2 lc rgb black title "power lost, loaded", \
     csv using @time:(lost(3, 0.72)) axes x1y2 with points pt 8 ps 1.6 lw 2 lc rgb red title "damaged, but loaded", \
+    csv using @time:(lost(4, 0.72)) axes x1y2 with points pt 13 ps 1.6 lw 2 lc rgb red title "check sum wrong", \
     csv using @time:(lost(2, 0.72)) axes x1y2 with points pt 5 ps 1.4 lw 2 lc rgb red title "set up anew"
 unset multiplot

@@ -81,6 +81,8 @@ pub struct Power {
     pub save_every_days: u32,
     pub loss_days: f64,
     pub damaged_images: f64,
+    /// Whether the station keeps a check sum beside its image.
+    pub check_sum: bool,
 }
 
 #[derive(Clone, Copy, Debug, PartialEq)]
@@ -255,6 +257,7 @@ impl Power {
             save_every_days: t.whole("save_every_days", 1..=36525) as u32,
             loss_days: t.number("power_loss_days", 0.0..=36525.0),
             damaged_images: t.number("damaged_images", 0.0..=1.0),
+            check_sum: t.whole("check_sum", 0..=1) == 1,
         }
     }
 }

@@ -109,11 +109,12 @@ pub fn summary(given: &Assumptions, readings: &[Reading]) -> String {
     let count = |wanted: Return| losses.clone().filter(|how| *how == wanted).count();
     let _ = writeln!(
         text,
-        "power lost {} times: {} images loaded, {} damaged ones among them, {} times set up anew",
+        "power lost {} times: {} images loaded, {} damaged ones among them, {} times set up anew, {} for a wrong check sum",
         losses.clone().count(),
         count(Return::Loaded) + count(Return::LoadedDamaged),
         count(Return::LoadedDamaged),
-        count(Return::SetUpAnew)
+        count(Return::SetUpAnew) + count(Return::CheckSumWrong),
+        count(Return::CheckSumWrong)
     );
     let refused = readings.last().map_or([0; 10], |x| x.refused);
     let by_number = (1..10).map(|n| format!(" {n}: {}", refused[n]));
