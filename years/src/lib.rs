@@ -5,6 +5,7 @@
 //! Numbers are whole, or f64 with nothing but + − × ÷ and comparisons, which
 //! every machine rounds alike.
 
+pub mod agreement;
 pub mod assumptions;
 pub mod burst;
 pub mod cable;

@@ -32,6 +32,9 @@ fn run(path: &Path, outdir: &Path) -> Result<String, (u8, String)> {
             lines.iter().map(with_path).collect::<Vec<_>>().join("\n"),
         )
     })?;
+    for note in assumptions::notes(&text, &given) {
+        eprintln!("{}", with_path(&note));
+    }
     std::fs::create_dir_all(outdir)
         .map_err(|e| (1, format!("{}: can't be made: {e}", outdir.display())))?;
     let mut progress = Progress::new(given.readings());
