@@ -6,10 +6,16 @@ use common::given;
 use years::assumptions::Assumptions;
 use years::history::{run, Reading};
 use years::station::Return;
-use years::table::csv;
+use years::table;
 
 fn history(given: &Assumptions) -> Vec<Reading> {
     run(given, |_| {})
+}
+
+fn csv(given: &Assumptions, readings: &[Reading]) -> String {
+    let mut bytes = Vec::new();
+    table::csv(given, readings, &mut bytes).expect("written");
+    String::from_utf8(bytes).expect("text")
 }
 
 fn lost(readings: &[Reading]) -> usize {
