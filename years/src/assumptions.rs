@@ -1,6 +1,6 @@
 //! The assumptions of a history, a field for each key of the text.
 
-use crate::payload;
+use crate::agreement;
 use crate::reader::{line_of, Reader};
 
 pub const DAYS_A_YEAR: f64 = 365.25;
@@ -81,6 +81,8 @@ pub struct Power {
     pub save_every_days: u32,
     pub loss_days: f64,
     pub damaged_images: f64,
+    /// Whether the station keeps a check sum beside its image.
+    pub check_sum: bool,
 }
 
 #[derive(Clone, Copy, Debug, PartialEq)]
@@ -100,12 +102,28 @@ pub fn parse(text: &str) -> Result<Assumptions, Vec<String>> {
     let mut reader = Reader::new(text);
     let assumptions = Assumptions::take(&mut reader);
     reader.finish()?;
-    let problems = assumptions.disagreements();
+    let problems = with_lines(text, agreement::problems(&assumptions));
     if problems.is_empty() {
-        return Ok(assumptions);
+        Ok(assumptions)
+    } else {
+        Err(problems)
     }
-    let with_line = |(key, what): &(&str, String)| format!("line {}: {what}", line_of(text, key));
-    Err(problems.iter().map(with_line).collect())
+}
+
+/// What is possible, but likely not meant, a line each.
+pub fn notes(text: &str, given: &Assumptions) -> Vec<String> {
+    with_lines(text, agreement::notes(given))
+}
+
+/// Each sentence after the line of its key, in the order of the lines.
+fn with_lines(text: &str, found: Vec<agreement::Sentence>) -> Vec<String> {
+    let mut lines: Vec<(usize, String)> = found
+        .into_iter()
+        .map(|(key, sentence)| (line_of(text, key), sentence))
+        .collect();
+    lines.sort_by_key(|(line, _)| *line);
+    let told = lines.iter().map(|(line, s)| format!("line {line}: {s}"));
+    told.collect()
 }
 
 impl Assumptions {
@@ -125,39 +143,13 @@ impl Assumptions {
         }
     }
 
-    /// What is wrong with the values together: a key and a sentence.
-    fn disagreements(&self) -> Vec<(&'static str, String)> {
-        let mut found = Vec::new();
-        match self.sizes.set_up().number {
-            1 => {
-                let limits = "p and q are 1 to 16, N is 1 to 128 and at least p - 1, r is 0 to 3, L is 0 to 15";
-                let sentence = format!("set-up turns p, q, N, r, L down with 1: {limits}");
-                return vec![("p", sentence)];
-            }
-            2 => {
-                let sentence = "set-up turns M down with 2: too large a step for these p, q, r, L";
-                found.push(("M", sentence.to_string()));
-            }
-            _ => {}
-        }
-        let (new, old) = (self.cable.new.len(), self.cable.old.len());
-        if new != old {
-            let sentence = format!("cable_old has {old} taps, but cable_new has {new}");
-            found.push(("cable_old", sentence));
-        }
-        let (room, needed) = (
-            self.payload_symbols(),
-            payload::symbols_of_word(self.sizes.r),
-        );
-        if room < needed {
-            let sentence = format!("the payload has {room} symbols, but a pressure takes {needed}");
-            found.push(("payload_blocks", sentence));
-        }
-        found
-    }
-
     pub fn payload_symbols(&self) -> usize {
         self.burst.payload_blocks as usize * usize::from(self.sizes.n)
+    }
+
+    pub fn samples_of_reading(&self) -> u64 {
+        let blocks = self.burst.preamble_blocks + self.burst.payload_blocks;
+        u64::from(blocks) * u64::from(self.sizes.n)
     }
 
     pub fn days(&self) -> u32 {
@@ -177,11 +169,11 @@ impl Assumptions {
 impl Sizes {
     fn take(t: &mut Reader) -> Sizes {
         Sizes {
-            p: t.whole("p", 0..=255) as u8,
-            q: t.whole("q", 0..=255) as u8,
-            n: t.whole("N", 0..=255) as u8,
-            r: t.whole("r", 0..=255) as u8,
-            l: t.whole("L", 0..=255) as u8,
+            p: t.whole("p", 1..=16) as u8,
+            q: t.whole("q", 1..=16) as u8,
+            n: t.whole("N", 1..=128) as u8,
+            r: t.whole("r", 0..=3) as u8,
+            l: t.whole("L", 0..=15) as u8,
             m: t.whole("M", 0..=u32::MAX.into()) as u32,
         }
     }
@@ -255,6 +247,7 @@ impl Power {
             save_every_days: t.whole("save_every_days", 1..=36525) as u32,
             loss_days: t.number("power_loss_days", 0.0..=36525.0),
             damaged_images: t.number("damaged_images", 0.0..=1.0),
+            check_sum: t.whole("check_sum", 0..=1) == 1,
         }
     }
 }

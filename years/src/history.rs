@@ -31,6 +31,14 @@ pub struct Reading {
     pub refused: [u32; 10],
 }
 
+impl Reading {
+    /// A wrong pressure that the check bits let pass.
+    pub fn is_wrong(&self) -> bool {
+        let sent = self.pressure_sent;
+        self.pressure_received.is_some_and(|n| n != sent)
+    }
+}
+
 struct World<'a> {
     given: &'a Assumptions,
     sender: Sender<'a>,

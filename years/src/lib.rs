@@ -3,17 +3,25 @@
 //! library.
 //!
 //! Numbers are whole, or f64 with nothing but + − × ÷ and comparisons, which
-//! every machine rounds alike.
+//! every machine rounds alike. The pages' dB and axes alone take more.
 
+pub mod agreement;
 pub mod assumptions;
+pub mod axis;
 pub mod burst;
 pub mod cable;
 pub mod converter;
+pub mod curve;
+pub mod files;
 pub mod history;
+pub mod page;
 pub mod payload;
 pub mod progress;
 pub mod random;
 pub mod reader;
+pub mod script;
 pub mod season;
 pub mod station;
 pub mod table;
+pub mod view;
+pub mod words;

@@ -12,7 +12,7 @@ struct Line<'a> {
 /// The lines not yet taken, and what was wrong so far.
 pub struct Reader<'a> {
     lines: Vec<Line<'a>>,
-    last: usize,
+    missing: Vec<String>,
     problems: Vec<(usize, String)>,
 }
 
@@ -31,7 +31,7 @@ impl<'a> Reader<'a> {
     pub fn new(text: &'a str) -> Reader<'a> {
         let mut reader = Reader {
             lines: Vec::new(),
-            last: text.lines().count(),
+            missing: Vec::new(),
             problems: Vec::new(),
         };
         for (place, line) in text.lines().map(str::trim).enumerate() {
@@ -69,8 +69,7 @@ impl<'a> Reader<'a> {
         read: impl Fn(&str) -> Option<T>,
     ) -> T {
         let Some(place) = self.lines.iter().position(|line| line.key == key) else {
-            let sentence = format!("the text ends here and no line gives {key}, {wanted}");
-            self.problem(self.last, sentence);
+            self.missing.push(format!("no line gives {key}, {wanted}"));
             return stand_in;
         };
         let line = self.lines.remove(place);
@@ -109,7 +108,7 @@ impl<'a> Reader<'a> {
     }
 
     /// Every problem in the order of the lines, the keys that nobody took
-    /// among them.
+    /// among them, then the keys that no line gives.
     pub fn finish(mut self) -> Result<(), Vec<String>> {
         for line in std::mem::take(&mut self.lines) {
             self.problem(line.number, format!("unknown key {}", line.key));
@@ -118,6 +117,7 @@ impl<'a> Reader<'a> {
         let problems = self.problems.into_iter();
         let sentences: Vec<String> = problems
             .map(|(line, s)| format!("line {line}: {s}"))
+            .chain(self.missing)
             .collect();
         if sentences.is_empty() {
             Ok(())

@@ -9,7 +9,8 @@ use tigbulode::{Block, Equaliser, Outputs, IMAGE_BYTES};
 pub struct Station<'a> {
     given: &'a Assumptions,
     record: Equaliser,
-    image: Option<Vec<u8>>,
+    /// The kept image and its check sum.
+    image: Option<(Vec<u8>, u32)>,
     damage: Random,
     /// What the gain control holds.
     level: f64,
@@ -31,9 +32,12 @@ pub struct Decided {
 #[derive(Clone, Copy, PartialEq, Eq, Debug)]
 pub enum Return {
     Loaded = 1,
+    /// There was no image, or it was turned down or had other settings.
     SetUpAnew = 2,
     /// A damaged image that is still one of a sound state.
     LoadedDamaged = 3,
+    /// Set up anew, since the image's check sum was wrong.
+    CheckSumWrong = 4,
 }
 
 impl<'a> Station<'a> {
@@ -105,29 +109,34 @@ impl<'a> Station<'a> {
         (decision, errors.map(error).map(|e| e * e).sum())
     }
 
-    /// Keeps the image of the record.
+    /// Keeps the image of the record, and its check sum beside it.
     pub fn save(&mut self) {
         let mut buffer = [0; IMAGE_BYTES];
         let saved = tigbulode::save(self.record, &mut buffer);
         self.count(saved.number);
         if saved.number == 0 {
-            self.image = Some(buffer[..saved.length].to_vec());
+            let image = buffer[..saved.length].to_vec();
+            let sum = tigbulode::check_sum(&image);
+            self.image = Some((image, sum));
         }
     }
 
     /// Forgets all but the image, which may be damaged, and loads it. Where
-    /// there is none, or it is turned down, or its sizes or M are not the
-    /// station's own, the station is set up anew.
+    /// there is none, its check sum is wrong, it is turned down, or its sizes
+    /// or M are not the station's own, the station is set up anew.
     pub fn lose_power(&mut self) -> Return {
         self.level = full_scale(self.given.sizes.r, self.given.sizes.l);
         self.record = self.given.sizes.set_up().state;
-        let Some(kept) = self.image.clone() else {
+        let Some((kept, sum)) = self.image.clone() else {
             return Return::SetUpAnew;
         };
         let image = self.damaged(&kept);
+        if self.given.power.check_sum && tigbulode::check_sum(&image) != sum {
+            return Return::CheckSumWrong;
+        }
         let answer = tigbulode::load(&image);
         self.count(answer.number);
-        if answer.number != 0 || settings(&answer.state) != settings(&self.record) {
+        if answer.number != 0 || answer.state.settings() != self.record.settings() {
             return Return::SetUpAnew;
         }
         self.record = answer.state;
@@ -147,8 +156,4 @@ impl<'a> Station<'a> {
         }
         image
     }
-}
-
-fn settings(e: &Equaliser) -> (u8, u8, u8, u8, u8, u32) {
-    (e.p, e.q, e.n, e.r, e.l, e.step)
 }

@@ -4,7 +4,8 @@ use crate::assumptions::{Assumptions, DAYS_A_YEAR};
 use crate::converter::power_of_two;
 use crate::history::Reading;
 use crate::station::Return;
-use std::fmt::Write;
+use crate::words;
+use std::io::{Result, Write};
 
 /// Weights times their unit, feed forward first.
 fn weights(reading: &Reading) -> Vec<f64> {
@@ -23,6 +24,14 @@ fn largest(weights: &[f64]) -> f64 {
         0.0,
         |most: f64, w| if w.abs() > most.abs() { *w } else { most },
     )
+}
+
+pub fn largest_forward(reading: &Reading) -> f64 {
+    largest(&weights(reading)[..usize::from(reading.record.p)])
+}
+
+pub fn largest_back(reading: &Reading) -> f64 {
+    largest(&weights(reading)[usize::from(reading.record.p)..])
 }
 
 fn header(given: &Assumptions) -> String {
@@ -45,7 +54,6 @@ fn bar(given: &Assumptions, number: Option<u16>) -> String {
 
 fn row(given: &Assumptions, reading: &Reading) -> String {
     let weights = weights(reading);
-    let (forward, back) = weights.split_at(usize::from(reading.record.p));
     let lost = reading.power_lost.map_or(0, |how| how as u8);
     let mut fields = vec![
         reading.number.to_string(),
@@ -59,8 +67,8 @@ fn row(given: &Assumptions, reading: &Reading) -> String {
         reading
             .error_power
             .map_or(String::new(), |e| format!("{e:.4e}")),
-        format!("{:.6}", largest(forward)),
-        format!("{:.6}", largest(back)),
+        format!("{:.6}", largest_forward(reading)),
+        format!("{:.6}", largest_back(reading)),
     ];
     let record = &reading.record;
     let gains = [reading.gain_least, reading.gain_most];
@@ -77,66 +85,61 @@ fn row(given: &Assumptions, reading: &Reading) -> String {
 }
 
 /// The whole table: a header and a row for each reading.
-pub fn csv(given: &Assumptions, readings: &[Reading]) -> String {
-    let mut text = header(given);
-    text.extend(readings.iter().map(|reading| row(given, reading)));
-    text
+pub fn csv(given: &Assumptions, readings: &[Reading], out: &mut impl Write) -> Result<()> {
+    out.write_all(header(given).as_bytes())?;
+    readings
+        .iter()
+        .try_for_each(|reading| out.write_all(row(given, reading).as_bytes()))
 }
 
-/// One line of settings, then what came of them.
+/// A name for readings, and which they are.
+type Kind = (&'static str, fn(&Reading) -> bool);
+
+/// The settings, then what came of them.
 pub fn summary(given: &Assumptions, readings: &[Reading]) -> String {
-    let s = given.sizes;
-    let mut text = format!(
-        "p {}, q {}, N {}, r {}, L {}, M {}; {} years, {} readings a day, seed {}\n",
-        s.p, s.q, s.n, s.r, s.l, s.m, given.years, given.readings_a_day, given.seed
-    );
-    for (name, chosen) in [
-        ("all", 0),
-        ("quiet", 1),
-        ("loud spell", 2),
-        ("noisy joint", 3),
-    ] {
-        let of = |x: &&Reading| match chosen {
-            0 => true,
-            1 => !x.loud && !x.joint,
-            2 => x.loud,
-            _ => x.joint,
-        };
-        let part: Vec<&Reading> = readings.iter().filter(of).collect();
-        text.push_str(&counts(name, &part));
-    }
-    let losses = readings.iter().filter_map(|x| x.power_lost);
-    let count = |wanted: Return| losses.clone().filter(|how| *how == wanted).count();
-    let _ = writeln!(
-        text,
-        "power lost {} times: {} images loaded, {} damaged ones among them, {} times set up anew",
-        losses.clone().count(),
-        count(Return::Loaded) + count(Return::LoadedDamaged),
-        count(Return::LoadedDamaged),
-        count(Return::SetUpAnew)
-    );
+    let kinds: [Kind; 4] = [
+        ("all", |_| true),
+        ("quiet", |x| !x.loud && !x.joint),
+        ("loud spell", |x| x.loud),
+        ("noisy joint", |x| x.joint),
+    ];
+    let part =
+        |(name, of): Kind| counts(name, &readings.iter().filter(|x| of(x)).collect::<Vec<_>>());
+    let [taps, step] = words::settings(&given.sizes);
+    let mut text = format!("{taps}\n{step}\n{}\n", words::extent(given));
+    text.extend(kinds.map(part));
+    text.push_str(&returns(readings));
     let refused = readings.last().map_or([0; 10], |x| x.refused);
     let by_number = (1..10).map(|n| format!(" {n}: {}", refused[n]));
-    let _ = writeln!(
-        text,
-        "calls turned down, by number:{}",
-        by_number.collect::<Vec<_>>().join(",")
-    );
-    text
+    let by_number = by_number.collect::<Vec<_>>().join(",");
+    text + &format!("calls turned down, by number:{by_number}\n")
+}
+
+/// How the station came back after its losses of power.
+fn returns(readings: &[Reading]) -> String {
+    let losses = readings.iter().filter_map(|x| x.power_lost);
+    let count = |wanted: Return| losses.clone().filter(|how| *how == wanted).count();
+    let damaged = count(Return::LoadedDamaged);
+    let wrong = count(Return::CheckSumWrong);
+    format!(
+        "power lost {}: {} loaded, {damaged} damaged among them; {} set up anew, {wrong} for a wrong check sum\n",
+        words::count(losses.clone().count() as u64, "time"),
+        words::count((count(Return::Loaded) + damaged) as u64, "image"),
+        words::count((count(Return::SetUpAnew) + wrong) as u64, "time"),
+    )
 }
 
 fn counts(name: &str, part: &[&Reading]) -> String {
-    let symbols: u32 = part.iter().map(|x| x.symbols).sum();
-    let wrong: u32 = part.iter().map(|x| x.wrong).sum();
-    let lost = part
-        .iter()
-        .filter(|x| x.pressure_received.is_none())
-        .count();
-    let passed = |x: &&&Reading| x.pressure_received.is_some_and(|n| n != x.pressure_sent);
-    let passed = part.iter().filter(passed).count();
+    let symbols: u64 = part.iter().map(|x| u64::from(x.symbols)).sum();
+    let wrong: u64 = part.iter().map(|x| u64::from(x.wrong)).sum();
+    let lost = part.iter().filter(|x| x.pressure_received.is_none());
+    let lost = lost.count() as u64;
+    let past = part.iter().filter(|x| x.is_wrong()).count() as u64;
+    let readings = part.len() as u64;
     format!(
-        "{name}: {} readings, {wrong} of {symbols} payload symbols wrong, {lost} pressures lost, \
-         {passed} wrong pressures past the check\n",
-        part.len()
+        "{name}: {}; {}; {} past the check\n",
+        words::share(lost, readings, "reading", "lost"),
+        words::share(wrong, symbols, "payload symbol", "wrong"),
+        words::count(past, "wrong pressure"),
     )
 }

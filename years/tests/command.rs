@@ -12,6 +12,9 @@ fn years(assumptions: &Path, outdir: &Path) -> Output {
     output.expect("the program runs")
 }
 
+/// By a history without a loud spell or a noisy joint.
+const WRITTEN: [&str; 3] = ["summary.txt", "years.csv", "years.gnuplot"];
+
 fn files(folder: &Path) -> Vec<String> {
     let entries = std::fs::read_dir(folder).expect("the folder");
     let name = |entry: std::io::Result<std::fs::DirEntry>| entry.expect("an entry").file_name();
@@ -29,9 +32,9 @@ fn two_runs_write_the_same_bytes() {
     std::fs::write(&assumptions, text_with(&[("years", "1")])).expect("written");
     for outdir in [&one, &two] {
         assert!(years(&assumptions, outdir).status.success());
-        assert_eq!(files(outdir), ["summary.txt", "years.csv"]);
+        assert_eq!(files(outdir), WRITTEN);
     }
-    for name in ["summary.txt", "years.csv"] {
+    for name in WRITTEN {
         let read = |folder: &Path| std::fs::read(folder.join(name)).expect("read");
         assert_eq!(read(&one), read(&two));
     }
@@ -80,4 +83,61 @@ fn a_table_that_cannot_be_renamed_leaves_no_part() {
     let output = years(&assumptions, &outdir);
     assert_eq!(output.status.code(), Some(1));
     assert_eq!(files(&outdir), ["short.txt", "years.csv"]);
+}
+
+#[test]
+fn help_is_told_and_wrong_arguments_end_with_2() {
+    let program = || Command::new(env!("CARGO_BIN_EXE_years"));
+    for word in ["--help", "-h"] {
+        let output = program().arg(word).output().expect("the program runs");
+        assert_eq!(output.status.code(), Some(0));
+        assert!(output
+            .stdout
+            .starts_with(b"usage: years ASSUMPTIONS OUTDIR"));
+    }
+    let output = program().arg("one").output().expect("the program runs");
+    assert_eq!(output.status.code(), Some(2));
+    assert!(output.stdout.is_empty() && output.stderr.starts_with(b"usage: years"));
+}
+
+/// A run of one year with a seed into a folder that has a picture.
+fn run_beside_a_picture(outdir: &Path, seed: &str) -> Output {
+    let assumptions = folder(&format!("given-{seed}")).join("short.txt");
+    std::fs::write(&assumptions, text_with(&[("years", "1"), ("seed", seed)])).expect("written");
+    std::fs::write(outdir.join("years.png"), "an earlier picture").expect("written");
+    years(&assumptions, outdir)
+}
+
+#[test]
+fn a_new_table_never_stands_beside_an_earlier_picture() {
+    let outdir = folder("earlier");
+    assert!(run_beside_a_picture(&outdir, "31").status.success());
+    assert_eq!(files(&outdir), WRITTEN);
+}
+
+#[test]
+fn a_run_that_cannot_write_leaves_the_earlier_one_whole() {
+    let outdir = folder("full");
+    assert!(run_beside_a_picture(&outdir, "32").status.success());
+    let table = std::fs::read(outdir.join("years.csv")).expect("read");
+    std::fs::create_dir(outdir.join("years.gnuplot.part")).expect("a folder in the way");
+    let output = run_beside_a_picture(&outdir, "33");
+    assert_eq!(output.status.code(), Some(1));
+    let message = String::from_utf8_lossy(&output.stderr);
+    assert!(
+        message.contains("years.gnuplot: can't be written"),
+        "{message}"
+    );
+    assert_eq!(
+        std::fs::read(outdir.join("years.csv")).expect("read"),
+        table
+    );
+    let there = [
+        "summary.txt",
+        "years.csv",
+        "years.gnuplot",
+        "years.gnuplot.part",
+        "years.png",
+    ];
+    assert_eq!(files(&outdir), there);
 }

@@ -5,10 +5,22 @@ mod common;
 use common::given;
 use years::assumptions::Assumptions;
 use years::history::{run, Reading};
-use years::table::csv;
+use years::station::Return;
+use years::table;
 
 fn history(given: &Assumptions) -> Vec<Reading> {
     run(given, |_| {})
+}
+
+fn csv(given: &Assumptions, readings: &[Reading]) -> String {
+    let mut bytes = Vec::new();
+    table::csv(given, readings, &mut bytes).expect("written");
+    String::from_utf8(bytes).expect("text")
+}
+
+fn lost(readings: &[Reading]) -> usize {
+    let lost = |x: &&Reading| x.pressure_received.is_none();
+    readings.iter().filter(lost).count()
 }
 
 const STEADY: [(&str, &str); 12] = [
@@ -81,20 +93,46 @@ fn every_row_has_the_columns_of_the_header() {
     assert_eq!(lines.count(), 365);
 }
 
+const DAMAGED: [(&str, &str); 5] = [
+    ("years", "4"),
+    ("power_loss_days", "3"),
+    ("damaged_images", "1"),
+    ("loud_days", "0"),
+    ("joint_days", "0"),
+];
+
+fn returns(readings: &[Reading], wanted: Return) -> usize {
+    let came = |x: &&Reading| x.power_lost == Some(wanted);
+    readings.iter().filter(came).count()
+}
+
 #[test]
 fn a_damaged_image_never_stops_the_station() {
-    let changes = [
-        ("years", "4"),
-        ("power_loss_days", "3"),
-        ("damaged_images", "1"),
-        ("loud_days", "0"),
-        ("joint_days", "0"),
-    ];
+    let mut changes = DAMAGED.to_vec();
+    changes.push(("check_sum", "0"));
     let readings = history(&given(&changes));
     let last = readings.last().expect("readings");
     assert!(last.refused[9] > 0);
     assert_eq!(last.refused[3..=7], [0; 5]);
+    assert!(returns(&readings, Return::LoadedDamaged) > 0);
+    assert_eq!(returns(&readings, Return::CheckSumWrong), 0);
     assert!(readings
         .iter()
         .all(|reading| reading.record.p == 6 && reading.record.n == 64));
+}
+
+#[test]
+fn with_a_check_sum_no_damaged_image_is_loaded() {
+    let readings = history(&given(&DAMAGED));
+    assert!(returns(&readings, Return::CheckSumWrong) > 0);
+    assert_eq!(returns(&readings, Return::LoadedDamaged), 0);
+    assert_eq!(readings.last().expect("readings").refused, [0; 10]);
+}
+
+#[test]
+fn without_a_check_sum_a_bent_exponent_costs_years() {
+    let without = history(&given(&[("seed", "9"), ("check_sum", "0")]));
+    let with = history(&given(&[("seed", "9")]));
+    assert_eq!(lost(&without), 2347);
+    assert!(lost(&with) < 200, "{}", lost(&with));
 }

@@ -1,8 +1,9 @@
-//! The gain rule, the converter, the payload and the seasons.
+//! The gain rule, the converter, the payload, the seasons, axes and words.
 
+use years::axis::Axis;
 use years::converter::{convert, full_scale, gain_for, power_of_two};
 use years::random::{Purpose, Random};
-use years::{payload, season};
+use years::{payload, progress, season, words};
 
 #[test]
 fn a_gain_is_the_greatest_that_fits_and_within_its_limits() {
@@ -68,4 +69,73 @@ fn powers_of_two_are_exact() {
     for exponent in -45..=30 {
         assert_eq!(power_of_two(exponent), f64::powi(2.0, exponent));
     }
+}
+
+fn labels_differ(axis: &Axis) -> bool {
+    let mut texts: Vec<&String> = axis.labels.iter().map(|(_, text)| text).collect();
+    texts.dedup();
+    texts.len() == axis.labels.len()
+}
+
+#[test]
+fn an_axis_holds_what_it_is_made_for_and_has_labels_enough() {
+    let mut random = Random::new(1, Purpose::Filler);
+    for _ in 0..20_000 {
+        let size = power_of_two(random.below(40) as i32 - 20);
+        let least = random.either_way() * size;
+        let greatest = least + random.share() * size * power_of_two(-(random.below(10) as i32));
+        let axis = Axis::around(least, greatest, 5, 1e-7);
+        assert!(axis.holds(least) && axis.holds(greatest), "{axis:?}");
+        assert!((2..=6).contains(&axis.labels.len()), "{axis:?}");
+        assert!(labels_differ(&axis), "{axis:?}");
+    }
+}
+
+#[test]
+fn axes_of_ordinary_things_have_round_numbers() {
+    let texts = |axis: Axis| {
+        axis.labels
+            .into_iter()
+            .map(|(_, t)| t)
+            .collect::<Vec<_>>()
+            .join(" ")
+    };
+    assert_eq!(texts(Axis::around(0.0, 6.7, 5, 0.01)), "0 2 4 6 8");
+    assert_eq!(texts(Axis::around(16.0, 16.0, 4, 1.0)), "15 16 17");
+    assert_eq!(texts(Axis::counts(0.0, 4)), "0 1");
+    assert_eq!(texts(Axis::counts(15.0, 5)), "0 5 10 15");
+    assert_eq!(
+        texts(Axis::between(0.0, 1.0, 20, 0.1)).split(' ').count(),
+        11
+    );
+    assert_eq!(
+        texts(Axis::between(0.0, 100.0, 20, 0.1)).split(' ').count(),
+        21
+    );
+    assert_eq!(texts(Axis::shares(896)), "100 10 1 0.1");
+    assert_eq!(texts(Axis::shares(1)), "100");
+    assert_eq!(texts(Axis::shares(2_000_000)), "100 1 0.01 0.0001");
+}
+
+#[test]
+fn numbers_in_words() {
+    assert_eq!(words::count(1, "year"), "1 year");
+    assert_eq!(words::count(20, "year"), "20 years");
+    let shares = [
+        (0, "0 %"),
+        (1, "0.0068 %"),
+        (68, "0.47 %"),
+        (14609, "> 99.9 %"),
+        (14610, "100 %"),
+    ];
+    for (part, wanted) in shares {
+        assert_eq!(words::percent(part, 14610), wanted);
+    }
+    assert_eq!(
+        words::share(68, 14610, "reading", "lost"),
+        "68 of 14610 readings lost (0.47 %)"
+    );
+    assert_eq!(progress::time_left(10.0, 100, 500), ", 40 s left");
+    assert_eq!(progress::time_left(100.0, 100, 500), ", 7 min left");
+    assert_eq!(progress::time_left(1.0, 1, 500), "");
 }

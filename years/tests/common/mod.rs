@@ -3,7 +3,7 @@ use years::assumptions::{parse, Assumptions};
 
 pub const DEFAULT: &str = include_str!("../../assumptions.txt");
 
-/// The default text with other values for some keys.
+/// The default text with other values for some keys; the first of two counts.
 pub fn text_with(changes: &[(&str, &str)]) -> String {
     let changed = |line: &str| {
         let key = line.split('=').next().unwrap_or("").trim();

@@ -1,0 +1,464 @@
+//! What stands on a page: its words and its panels.
+
+use crate::axis::Axis;
+use crate::curve::{line, steps, Curve, Look, Point, Rows, BLACK, BLUE, GREY, RED};
+use crate::history::Reading;
+use crate::station::Return;
+use crate::table::{largest_back, largest_forward};
+use crate::view::{received, Span, View};
+use crate::words;
+
+pub struct Page {
+    pub title: String,
+    pub lines: Vec<String>,
+    pub time: Axis,
+    pub time_name: &'static str,
+    pub shades: Vec<Shade>,
+    /// What dots in place of a line are, where there are any.
+    pub dots: Option<String>,
+    pub panels: Vec<Panel>,
+}
+
+/// A time in which the cable was out of its ordinary.
+pub struct Shade {
+    pub name: &'static str,
+    pub colour: &'static str,
+    pub times: Vec<(f64, f64)>,
+}
+
+pub struct Panel {
+    /// In the picture's points.
+    pub height: f64,
+    /// At the left.
+    pub label: &'static str,
+    /// At the right, above the legend: the panel's name, then more of it.
+    pub name: String,
+    pub notes: Vec<String>,
+    pub axis: Axis,
+    pub curves: Vec<Curve>,
+}
+
+const THICK: Look = Look {
+    width: 2.5,
+    colour: BLACK,
+};
+
+fn values(points: &[Point]) -> impl Iterator<Item = f64> + '_ {
+    points.iter().filter_map(|p| p.value)
+}
+
+/// The least and the greatest value, and the given ones among them.
+fn ends(points: &[Point], low: f64, high: f64) -> (f64, f64) {
+    values(points).fold((low, high), |(low, high), v| (low.min(v), high.max(v)))
+}
+
+pub fn page(view: &View, title: String) -> Page {
+    let years = view.unit > 1.0;
+    let most = if years && view.to > 10.0 { 20 } else { 10 };
+    Page {
+        title,
+        lines: head(view),
+        time: Axis::between(view.from, view.to, most, 0.1),
+        time_name: if years { "years" } else { "days" },
+        shades: shades(view),
+        dots: dots(view),
+        panels: panels(view),
+    }
+}
+
+fn head(view: &View) -> Vec<String> {
+    let past = view.total(|x| x.is_wrong().into());
+    let readings = view.readings.len() as u64;
+    let lost = words::share(view.total(is_lost), readings, "reading", "lost");
+    let past = words::count(past, "wrong pressure");
+    let [taps, step] = words::settings(&view.given.sizes);
+    let proved = "Run by the proved library: every block, save and load.";
+    vec![
+        format!("{lost}, {past} past the check"),
+        format!("Assumed: cable, noise, gain control, converter. {proved}"),
+        taps,
+        format!("{step}; {}", words::extent(view.given)),
+    ]
+}
+
+fn dots(view: &View) -> Option<String> {
+    let silent = view.parts.iter().any(|part| !received(part));
+    let name = view.span.name();
+    let dots = match view.span {
+        Span::Reading => "dots: the reading was lost".to_string(),
+        _ => format!("dots: {name} without a reading"),
+    };
+    silent.then_some(dots)
+}
+
+fn shades(view: &View) -> Vec<Shade> {
+    let loud = view.marked(|x| x.loud);
+    let joint = view.marked(|x| x.joint);
+    let both = [
+        ("loud spell", "#999999", loud),
+        ("noisy joint", "#d3bf75", joint),
+    ];
+    let shade = |(name, colour, times)| Shade {
+        name,
+        colour,
+        times,
+    };
+    let there = both.into_iter().map(shade);
+    there.filter(|s| !s.times.is_empty()).collect()
+}
+
+fn panels(view: &View) -> Vec<Panel> {
+    let mut panels = vec![
+        pressure(view),
+        difference(view),
+        lost(view),
+        wrong(view),
+        clipped(view),
+        error_power(view),
+        weight(view, "largest feed forward weight", largest_forward, 130.0),
+        weight(view, "largest feedback weight", largest_back, 100.0),
+        exponent_and_gain(view),
+        lengths(view),
+    ];
+    panels.extend(power(view));
+    panels.extend(refused(view));
+    panels
+}
+
+fn received_bar(view: &View, reading: &Reading) -> Option<f64> {
+    let number = reading.pressure_received;
+    number.map(|n| view.given.pressure.bar(n))
+}
+
+/// Marks of wrong pressures that passed the check.
+fn wrong_marks(view: &View, title: &str, height: impl Fn(&Reading) -> Option<f64>) -> Curve {
+    let wrong = view.readings.iter().filter(|x| x.is_wrong());
+    let places = wrong.filter_map(|x| Some((x.day / view.unit, height(x)?)));
+    let style = format!("points pt 9 ps 1.4 lc rgb '{RED}'");
+    Curve::marks(places, &style, title)
+}
+
+fn pressure(view: &View) -> Panel {
+    let truth = view.single(|x| Some(x.pressure_true));
+    let right = |x: &Reading| received_bar(view, x).filter(|_| !x.is_wrong());
+    let (low, high) = ends(&truth, f64::INFINITY, f64::NEG_INFINITY);
+    let wide = Look {
+        width: 7.0,
+        colour: BLUE,
+    };
+    let thin = Look {
+        width: 1.4,
+        colour: BLACK,
+    };
+    let axis = Axis::around(low, high, 7, view.given.pressure.unit);
+    let on_scale = |x: &Reading| received_bar(view, x).filter(|v| axis.holds(*v));
+    let mut curves = line(&truth, wide, Some("true"));
+    curves.extend(line(&view.single(right), thin, Some("received")));
+    curves.push(wrong_marks(view, "wrong past the check", on_scale));
+    Panel {
+        height: 270.0,
+        label: "pressure, bar",
+        name: "pressure".to_string(),
+        notes: match view.thinned() {
+            1 => Vec::new(),
+            few => vec![format!("each point the mean of {few} readings")],
+        },
+        axis,
+        curves,
+    }
+}
+
+/// Received less true, of readings that are right but for their rounding.
+fn right_differences<'a>(view: &'a View, part: &'a [Reading]) -> impl Iterator<Item = f64> + 'a {
+    let right = part.iter().filter(|x| !x.is_wrong());
+    right.filter_map(|x| Some(received_bar(view, x)? - x.pressure_true))
+}
+
+/// A box for each span, from its least difference to its greatest; a point for
+/// a single reading.
+fn differences(view: &View) -> Curve {
+    let mut rows = Rows::default();
+    for part in &view.parts {
+        let (at, reach) = view.place(part);
+        let start = (f64::INFINITY, f64::NEG_INFINITY);
+        let found = right_differences(view, part);
+        let (low, high) = found.fold(start, |(l, h), d| (l.min(d), h.max(d)));
+        if low <= high {
+            rows.add(&[at, low, at - reach, at + reach, low, high]);
+        }
+    }
+    let colour = format!("lc rgb '{BLUE}'");
+    if view.span == Span::Reading {
+        return Curve::new(
+            rows,
+            format!("with points pt 7 ps 0.4 {colour}"),
+            Some("of a reading"),
+        );
+    }
+    let style =
+        format!("using 1:2:3:4:5:6 with boxxyerror fs solid border {colour} fc rgb '{BLUE}'");
+    let title = format!("least to greatest of {}", view.span.name());
+    Curve::new(rows, style, Some(&title))
+}
+
+fn difference(view: &View) -> Panel {
+    let unit = view.given.pressure.unit;
+    let half = unit / 2.0;
+    let mut guide = Rows::default();
+    for height in [-half, half] {
+        guide.break_off();
+        guide.add(&[view.from, height]);
+        guide.add(&[view.to, height]);
+    }
+    let style = format!("with lines dt 2 lw 1.5 lc rgb '{GREY}'");
+    let title = format!("half the sensor's unit of {unit} bar");
+    Panel {
+        height: 90.0,
+        label: "bar",
+        name: "pressure received − true".to_string(),
+        notes: Vec::new(),
+        axis: Axis::between(-unit, unit, 4, unit / 2.0),
+        curves: vec![
+            differences(view),
+            Curve::new(guide, style, Some(&title)),
+            wrong_marks(view, "wrong, off the scale", |_| Some(0.85 * unit)),
+        ],
+    }
+}
+
+/// Shares of a span in per cent: how many of how many.
+fn share(
+    view: &View,
+    colour: &str,
+    part: impl Fn(&Reading) -> u64,
+    whole: impl Fn(&Reading) -> u64,
+) -> (Axis, Curve) {
+    let sum = |readings: &[Reading], of: &dyn Fn(&Reading) -> u64| readings.iter().map(of).sum();
+    let wholes = view.parts.iter().map(|p| -> u64 { sum(p, &whole) });
+    let axis = Axis::shares(wholes.max().unwrap_or(1));
+    let mut rows = Rows::default();
+    for readings in &view.parts {
+        let (some, all): (u64, u64) = (sum(readings, &part), sum(readings, &whole));
+        if some > 0 {
+            rows.add(&[view.place(readings).0, 100.0 * some as f64 / all as f64]);
+        }
+    }
+    let style = format!("with impulses lw 2.5 lc rgb '{colour}'");
+    (axis, Curve::new(rows, style, None))
+}
+
+fn is_lost(reading: &Reading) -> u64 {
+    reading.pressure_received.is_none().into()
+}
+
+fn share_panel(
+    view: &View,
+    (label, name, what): (&'static str, &str, &str),
+    (height, colour): (f64, &str),
+    part: impl Fn(&Reading) -> u64,
+    whole: impl Fn(&Reading) -> u64,
+) -> Panel {
+    let note = words::share(view.total(&part), view.total(&whole), what, "");
+    let (axis, curve) = share(view, colour, part, whole);
+    Panel {
+        height,
+        label,
+        name: format!("{name}{}", view.span.share()),
+        notes: vec![note],
+        axis,
+        curves: vec![curve],
+    }
+}
+
+fn lost(view: &View) -> Panel {
+    let words = ("lost, %", "readings lost", "reading");
+    share_panel(view, words, (70.0, RED), is_lost, |_| 1)
+}
+
+fn wrong(view: &View) -> Panel {
+    let words = ("wrong, %", "wrong decisions", "symbol");
+    let symbols = |x: &Reading| x.symbols.into();
+    share_panel(view, words, (100.0, BLACK), |x| x.wrong.into(), symbols)
+}
+
+fn clipped(view: &View) -> Panel {
+    let words = ("clipped, %", "samples clipped", "sample");
+    let samples = view.given.samples_of_reading();
+    let clipped = |x: &Reading| x.clipped.into();
+    share_panel(view, words, (100.0, BLACK), clipped, |_| samples)
+}
+
+/// In dB; what is less than −100 dB is drawn there.
+fn decibels(power: f64) -> f64 {
+    10.0 * power.max(1e-10).log10()
+}
+
+/// The powers of single readings, beside which spans have their means.
+fn single_powers(view: &View) -> Vec<(f64, f64)> {
+    let few = view.readings.iter().step_by(view.thinned());
+    let powers = few.filter_map(|x| Some((x.day / view.unit, decibels(x.error_power?))));
+    powers.filter(|_| view.span != Span::Reading).collect()
+}
+
+fn error_power(view: &View) -> Panel {
+    let mut means = view.means(|x| x.error_power);
+    means
+        .iter_mut()
+        .for_each(|p| p.value = p.value.map(decibels));
+    let single = single_powers(view);
+    let start = ends(&means, -20.0, 0.0);
+    let (low, high) = single
+        .iter()
+        .fold(start, |(low, high), (_, v)| (low.min(*v), high.max(*v)));
+    let few = match view.thinned() {
+        1 => String::new(),
+        every => format!(", 1 in {every} drawn"),
+    };
+    let style = format!("points pt 7 ps 0.15 lc rgb '{BLUE}'");
+    let title = format!("mean of a reading{few}");
+    let mut curves = vec![Curve::marks(single.into_iter(), &style, &title)];
+    let title = format!("mean of {}", view.span.name());
+    curves.extend(line(&means, THICK, Some(&title)));
+    Panel {
+        height: 160.0,
+        label: "dB",
+        name: "error power".to_string(),
+        notes: vec![
+            "0 dB: an error (root mean square) of".to_string(),
+            "one symbol unit, half the distance".to_string(),
+            "between neighbouring symbols".to_string(),
+        ],
+        axis: Axis::around(low, high, 6, 5.0),
+        curves,
+    }
+}
+
+fn weight(view: &View, name: &str, of: fn(&Reading) -> f64, height: f64) -> Panel {
+    let means = view.means(|x| Some(of(x)));
+    let (low, high) = ends(&means, 0.0, 0.0);
+    Panel {
+        height,
+        label: "weight",
+        name: name.to_string(),
+        notes: vec![format!("times its unit, {}", view.span.after())],
+        axis: Axis::around(low, high, 5, 0.01),
+        curves: line(&means, THICK, None),
+    }
+}
+
+fn exponent_and_gain(view: &View) -> Panel {
+    let psi = view.held(|x| x.record.psi.into());
+    let gain = view.means(|x| Some((f64::from(x.gain_least) + f64::from(x.gain_most)) / 2.0));
+    let (_, high) = ends(&psi, 0.0, 1.0);
+    let (_, high) = ends(&gain, 0.0, high);
+    let blue = Look {
+        width: 2.5,
+        colour: BLUE,
+    };
+    let mut curves = steps(&psi, THICK, Some("ψ, the weights' exponent"));
+    curves.extend(line(
+        &gain,
+        blue,
+        Some(&format!("gain g, mean of {}", view.span.name())),
+    ));
+    Panel {
+        height: 110.0,
+        label: "ψ, g",
+        name: "exponent and gain".to_string(),
+        notes: Vec::new(),
+        axis: Axis::counts(high, 5),
+        curves,
+    }
+}
+
+fn lengths(view: &View) -> Panel {
+    let block = view.means(|x| Some(x.record.b.into()));
+    let window = view.means(|x| Some(x.record.big.into()));
+    let (low, high) = ends(&window, f64::INFINITY, f64::NEG_INFINITY);
+    let (low, high) = ends(&block, low, high);
+    let wide = Look {
+        width: 7.0,
+        colour: BLUE,
+    };
+    let mut curves = line(&window, wide, Some("B: and of the block's before it"));
+    curves.extend(line(
+        &block,
+        THICK,
+        Some("b: bits of a block's largest sample"),
+    ));
+    Panel {
+        height: 90.0,
+        label: "b, B",
+        name: format!("bits of samples, {}", view.span.after()),
+        notes: Vec::new(),
+        axis: Axis::around(low, high, 4, 1.0),
+        curves,
+    }
+}
+
+/// How the station came back, in words, and the mark for it.
+const RETURNS: [(Return, &str, &str, &str); 4] = [
+    (Return::Loaded, "image loaded", "pt 6", BLACK),
+    (Return::LoadedDamaged, "damaged image loaded", "pt 8", RED),
+    (
+        Return::SetUpAnew,
+        "no image taken, set up anew",
+        "pt 5",
+        RED,
+    ),
+    (
+        Return::CheckSumWrong,
+        "check sum wrong, set up anew",
+        "pt 13",
+        RED,
+    ),
+];
+
+/// A row of marks for each way that the station came back; none where power
+/// was never lost.
+fn power(view: &View) -> Option<Panel> {
+    let count = |how: Return| view.total(|x| (x.power_lost == Some(how)).into());
+    let there: Vec<_> = RETURNS.iter().filter(|r| count(r.0) > 0).collect();
+    let total: u64 = there.iter().map(|r| count(r.0)).sum();
+    let rows = there.len() as f64;
+    let curves = there
+        .iter()
+        .enumerate()
+        .map(|(row, (how, words, mark, colour))| {
+            let parts = view.parts.iter();
+            let first = parts.filter_map(|part| part.iter().find(|x| x.power_lost == Some(*how)));
+            let places = first.map(|x| (x.day / view.unit, rows - row as f64));
+            let style = format!("points {mark} ps 1.5 lw 2 lc rgb '{colour}'");
+            Curve::marks(places, &style, &format!("{words}: {}", count(*how)))
+        });
+    let curves: Vec<Curve> = curves.collect();
+    (total > 0).then(|| Panel {
+        height: 30.0 + 26.0 * rows,
+        label: "power",
+        name: format!("power lost {}", words::count(total, "time")),
+        notes: Vec::new(),
+        axis: Axis {
+            labels: Vec::new(),
+            ..Axis::between(0.2, rows + 0.8, 1, 1.0)
+        },
+        curves,
+    })
+}
+
+/// None where no call was turned down.
+fn refused(view: &View) -> Option<Panel> {
+    let all = |x: &Reading| f64::from(x.refused.iter().sum::<u32>());
+    let so_far = view.held(all);
+    let (_, high) = ends(&so_far, 0.0, 0.0);
+    let last = view.readings.last().map_or([0; 10], |x| x.refused);
+    let some = (1..10).filter(|n| last[*n] > 0);
+    let numbers: Vec<String> = some.map(|n| format!("{n}: {}", last[n])).collect();
+    (high > 0.0).then(|| Panel {
+        height: 90.0,
+        label: "calls",
+        name: "calls turned down so far, by number".to_string(),
+        notes: numbers.chunks(3).map(|few| few.join(", ")).collect(),
+        axis: Axis::counts(high, 4),
+        curves: steps(&so_far, THICK, None),
+    })
+}
