@@ -202,6 +202,36 @@ static void try_block(const tigbulode_equaliser *s, const block *in, size_t leng
     try_changed(same_run(*s, in, length, lists, &out));
 }
 
+/* A block without one of its eight lists. */
+static void try_left_out(const tigbulode_equaliser *s, const block *in, unsigned list) {
+    tigbulode_equaliser t = *s;
+    outputs out, lent;
+    tigbulode_block lists = lists_of(in, &out, N);
+    memset(&out, 0x55, sizeof out);
+    lent = out;
+    switch (list) {
+    case 0: lists.samples = NULL; break;
+    case 1: lists.gains = NULL; break;
+    case 2: lists.entries = NULL; break;
+    case 3: lists.y = NULL; break;
+    case 4: lists.xi = NULL; break;
+    case 5: lists.decision = NULL; break;
+    case 6: lists.z = NULL; break;
+    default: lists.theta = NULL; break;
+    }
+    expect(tigbulode_run_block(&t, &lists) == TIGBULODE_LENGTHS, "answer without list", list);
+    expect(memcmp(&t, s, sizeof t) == 0 && memcmp(&out, &lent, sizeof out) == 0, "what was lent without list", list);
+}
+
+static void try_lists_left_out(void) {
+    const tigbulode_equaliser s = tigbulode_set_up(4, 3, N, 0, 0, 0).state;
+    uint32_t random = 2026;
+    const block in = any_block(&random);
+    unsigned list;
+    for (list = 0; list < 8; list++) try_left_out(&s, &in, list);
+    printf("lists left out: %u, each turned down with %d\n", list, TIGBULODE_LENGTHS);
+}
+
 static void try_blocks(void) {
     tigbulode_equaliser s = tigbulode_set_up(4, 3, N, 0, 0, tigbulode_greatest_step(4, 3, 0, 0)).state;
     uint32_t random = 2026;
@@ -227,6 +257,7 @@ int main(int argc, char **argv) {
     try_check_sums();
     try_same_settings();
     try_blocks();
+    try_lists_left_out();
     printf("changed expectations told apart: %u of %u\n", told, changes);
     printf("differences: %u\n", differences);
     return differences == 0 && told == changes ? EXIT_SUCCESS : EXIT_FAILURE;

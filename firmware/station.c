@@ -159,8 +159,9 @@ static void worked_example(void) {
     int32_t y = 0, z = 0;
     printf("worked example\n");
     for (int i = 0; i < 2; i++) {
-        tigbulode_run(&s, &m, 1, &gain, 1, &entries[i], 1, &y, 1, &xi, 1, &decision, 1, &z, 1, &theta, 1);
-        printf("%d %" PRId32 " %u %d\n", i, y, xi, decision);
+        uint8_t number =
+            tigbulode_run(&s, &m, 1, &gain, 1, &entries[i], 1, &y, 1, &xi, 1, &decision, 1, &z, 1, &theta, 1);
+        if (number == TIGBULODE_ACCEPTED) printf("%d %" PRId32 " %u %d\n", i, y, xi, decision);
     }
     uint8_t image[TIGBULODE_IMAGE_BYTES];
     tigbulode_saved saved = tigbulode_save(s, image, sizeof image);
@@ -314,7 +315,7 @@ static void recover_from(const char *about, const kept *k) {
 static void recover_from_other(const char *about, uint8_t p, uint8_t q, uint32_t step) {
     const tigbulode_equaliser other = tigbulode_set_up(p, q, N, R, L, step).state;
     kept k;
-    keep(&other, &k);
+    if (keep(&other, &k).number != TIGBULODE_ACCEPTED) marks++;
     recover_from(about, &k);
 }
 

@@ -7,8 +7,9 @@
  * elements as its length says; what is written (the record, the five lists, the buffer) overlaps nothing else that is
  * lent to the same call; until the call returns, nothing else writes to what is lent, no interrupt, no DMA transfer and
  * no thread, and nothing else reads what is written; the stack has room (docs/PERFORMANCE.md has the bytes). Every value
- * is taken, also that of a record with anything in it. What can't be used is turned down with a number, and the record
- * and all lent memory are then as they were.
+ * is taken, also that of a record with anything in it (but C converts a value to its parameter's type first: 257 for p
+ * arrives as 1; -Wconversion tells). What can't be used is turned down with a number, and the record and all lent memory
+ * are then as they were.
  *
  * An image has no check sum: of the images that differ from a good one in one byte, three to five in ten load with 0,
  * as states that are sound but were never saved. So firmware keeps tigbulode_check_sum of each image beside it; after a loss
@@ -31,6 +32,13 @@
 
 #ifdef __cplusplus
 extern "C" {
+#endif
+
+/* A number is to be looked at: GCC and Clang warn where it is not. */
+#ifdef __GNUC__
+#define TIGBULODE_NUMBER __attribute__((warn_unused_result))
+#else
+#define TIGBULODE_NUMBER
 #endif
 
 /* C99 and C++98 have no assertion at compile time: an array of length -1 stands in. */
@@ -109,12 +117,14 @@ TIGBULODE_ASSERT(saved, sizeof(tigbulode_saved) == 2 * sizeof(size_t));
 
 /* A fresh state: weights, exponent, past samples and symbols 0. Turned down with 1, then 2, the state is the fresh one
  * with p = q = N = 1 and r = L = M = 0. */
+TIGBULODE_NUMBER
 tigbulode_answer tigbulode_set_up(uint8_t p, uint8_t q, uint8_t n, uint8_t r, uint8_t l, uint32_t step);
 
 /* Runs a block of N samples; the record is advanced in place. Sample i is samples[i] with the gain gains[i]; entries[i]
  * is its training symbol, or 0 to adapt from the decision. Per sample: the output is y[i] * 2^(xi[i] - 30), then the
  * decision, and the error is z[i] * 2^(theta[i] - 30). Turned down with 1, 2, 9 for the record, then 3, 4, 5, 6 for the
  * block. tigbulode_run_block below is the same call with the lists as named members. */
+TIGBULODE_NUMBER
 uint8_t tigbulode_run(tigbulode_equaliser *s,
                       const int16_t *samples, size_t samples_length,
                       const uint8_t *gains, size_t gains_length,
@@ -126,17 +136,19 @@ uint8_t tigbulode_run(tigbulode_equaliser *s,
                       uint8_t *theta, size_t theta_length);
 
 /* Writes the image to the front of the buffer and gives its length; later bytes stay. Turned down with 1, 2, 9, 7. */
+TIGBULODE_NUMBER
 tigbulode_saved tigbulode_save(tigbulode_equaliser e, uint8_t *buffer, size_t length);
 
 /* The state that an image holds. Turned down with 8 for less than 12 bytes, 1, 8 for any other wrong length, 2, 9, the
  * state is the fresh one with p = q = N = 1 and r = L = M = 0. */
+TIGBULODE_NUMBER
 tigbulode_answer tigbulode_load(const uint8_t *bytes, size_t length);
 
 #ifdef __cplusplus
 }
 #endif
 
-/* The lists of a block, each `length` long, and `length` is N. */
+/* The lists of a block, each `length` long, and `length` is N. Fill its members by name: by place they can be exchanged. */
 typedef struct tigbulode_block {
     size_t length;
     const int16_t *samples; /* read */
@@ -149,9 +161,22 @@ typedef struct tigbulode_block {
     uint8_t *theta;
 } tigbulode_block;
 
-/* tigbulode_run with its lists as the members of a struct, so that none can take another's place. */
+/* Whether no list was left out. */
+static inline int tigbulode_has_lists(const tigbulode_block *block) {
+    return block->samples && block->gains && block->entries && block->y && block->xi && block->decision && block->z &&
+           block->theta;
+}
+
+/* tigbulode_run with its lists as the members of a struct. Where a list is a null pointer, the lists count as empty, so that
+ * the block is turned down with 3 (or before that with 1, 2 or 9). */
+TIGBULODE_NUMBER
 static inline uint8_t tigbulode_run_block(tigbulode_equaliser *s, const tigbulode_block *block) {
-    const size_t n = block->length;
+    const size_t n = tigbulode_has_lists(block) ? block->length : 0;
+    int32_t none = 0;
+    void *empty = &none;
+    if (n == 0)
+        return tigbulode_run(s, (int16_t *)empty, 0, (uint8_t *)empty, 0, (int8_t *)empty, 0, (int32_t *)empty, 0,
+                             (uint8_t *)empty, 0, (int8_t *)empty, 0, (int32_t *)empty, 0, (uint8_t *)empty, 0);
     return tigbulode_run(s, block->samples, n, block->gains, n, block->entries, n, block->y, n, block->xi, n,
                          block->decision, n, block->z, n, block->theta, n);
 }

@@ -1,18 +1,36 @@
 //! Links the static library: that of TIGBULODE_LIB, or the one that
-//! `rt staticlib firmware` writes.
+//! `firmware/library` names, which is not older than the sources.
 
 use std::path::{Path, PathBuf};
+use std::process::{exit, Command, Stdio};
+
+/// The path that `firmware/library` prints; what it tells goes to the error
+/// stream.
+fn library(package: &Path) -> PathBuf {
+    let crates = package.join("../../crates");
+    println!("cargo:rerun-if-changed={}", crates.display());
+    println!("cargo:rerun-if-changed={}.txt", crates.display());
+    let mut script = Command::new(package.join("../library"));
+    match script.stderr(Stdio::inherit()).output() {
+        Ok(output) if output.status.success() => {
+            PathBuf::from(String::from_utf8_lossy(&output.stdout).trim_end())
+        }
+        Ok(_) => exit(1),
+        Err(error) => {
+            eprintln!("firmware/library can't be run: {error}; name a library in TIGBULODE_LIB");
+            exit(1)
+        }
+    }
+}
 
 fn main() {
     println!("cargo:rerun-if-env-changed=TIGBULODE_LIB");
     let package = std::env::var("CARGO_MANIFEST_DIR").expect("cargo names the package's folder");
     let given = std::env::var_os("TIGBULODE_LIB").map(PathBuf::from);
-    let default = Path::new(&package).join("../../target/staticlib/libfirmware.a");
-    let archive = given.unwrap_or(default);
+    let archive = given.unwrap_or_else(|| library(Path::new(&package)));
     let Ok(archive) = archive.canonicalize() else {
         eprintln!("no static library at {}", archive.display());
-        eprintln!("run `rt staticlib firmware`, or name one in TIGBULODE_LIB");
-        std::process::exit(1);
+        exit(1);
     };
     println!("cargo:rerun-if-changed={}", archive.display());
     let folder = archive.parent().expect("a file is in a folder").display();

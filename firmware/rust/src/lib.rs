@@ -64,6 +64,7 @@ pub struct Equaliser {
 
 /// A number beside a state.
 #[repr(C)]
+#[must_use]
 #[derive(Clone, Copy, Debug, PartialEq, Eq)]
 pub struct Answer {
     pub number: u8,
@@ -72,6 +73,7 @@ pub struct Answer {
 
 /// A number beside the length of an image.
 #[repr(C)]
+#[must_use]
 #[derive(Clone, Copy, Debug, PartialEq, Eq)]
 pub struct Saved {
     pub number: u8,
@@ -127,6 +129,7 @@ pub fn set_up(p: u8, q: u8, n: u8, r: u8, l: u8, step: u32) -> Answer {
 }
 
 /// Runs a block; the record is advanced in place.
+#[must_use]
 #[rustfmt::skip]
 pub fn run(s: &mut Equaliser, block: Block, out: Outputs) -> u8 {
     // SAFETY: each pointer is a reference's or a slice's own, so it is not

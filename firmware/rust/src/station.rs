@@ -6,7 +6,7 @@
 mod kept;
 
 use crate::sides::Operations;
-use crate::{greatest_step, image_length};
+use crate::{greatest_step, image_length, number};
 use crate::{Answer, Block, Equaliser, Outputs, Saved};
 use kept::{keep, recover, Finding, Findings, Kept};
 use reference::Settings;
@@ -219,11 +219,12 @@ impl Station<'_> {
             let mut read = Received::default();
             read.samples[0] = 0x4000;
             read.entries[0] = entry;
-            run(self.side, &mut s, &read, 1, &mut out);
-            self.line(format!(
-                "{i} {} {} {}",
-                out.y[0], out.xi[0], out.decision[0]
-            ));
+            if run(self.side, &mut s, &read, 1, &mut out) == number::ACCEPTED {
+                self.line(format!(
+                    "{i} {} {} {}",
+                    out.y[0], out.xi[0], out.decision[0]
+                ));
+            }
         }
         let mut image = [0; crate::IMAGE_BYTES];
         let saved = self.side.save(s, &mut image);
@@ -472,7 +473,8 @@ impl Station<'_> {
     fn recover_from_other(&mut self, about: &str, settings: Settings) {
         let other = self.side.set_up(settings).state;
         let mut kept = Kept::filled(0);
-        keep(self.side, other, &mut kept);
+        let saved = keep(self.side, other, &mut kept);
+        self.marks += u32::from(saved.number != number::ACCEPTED);
         self.recover_from(about, &kept);
     }
 

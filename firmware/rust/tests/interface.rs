@@ -158,6 +158,7 @@ fn the_interface() {
     // p, q, N, r, L and the four bytes of M.
     text += "settings: 140 bytes changed, 9 of them told\n";
     text += "blocks: 32 of length 16, 512 of other lengths\n";
+    text += "lists left out: 8, each turned down with 3\n";
     // A step more and a step less, another length, two changes of a block.
     let changes = 2 * (good + good_any) + 256 + 2 * 32;
     text += &format!("changed expectations told apart: {changes} of {changes}\n");

@@ -95,7 +95,7 @@ fn the_readme() {
     shown(&format!("\n```rust\n{in_rust}```\n"));
     shown(&format!("`{}`", first_program().trim()));
     for number in 0..10 {
-        shown(&format!("\n| {number} | {} |\n", number_text(number)));
+        shown(&format!("\n| {number} | {} | ", number_text(number)));
     }
     let station = include_str!("../../station.out").lines();
     for line in station.filter(|line| line.starts_with("bent")) {
