@@ -2,7 +2,7 @@
 
 use reference::block::{work, BlockDetail, SampleDetail};
 use reference::trace::trace_with_state;
-use reference::{save, set_up, trace, Inputs, Settings, State};
+use reference::{load, save, set_up, trace, Inputs, Settings, State};
 use std::fmt::Display;
 
 fn file(name: &str) -> Vec<u8> {
@@ -130,6 +130,43 @@ fn the_longer_example_has_these_rows() {
             assert!(page.contains(&row), "{row}");
         }
         state = next;
+    }
+}
+
+#[test]
+fn the_halving_is_on_the_page() {
+    let before = [
+        0x01, 0x01, 0x01, 0x01, 0x02, 0x03, 0x1C, 0x1C, 0xB1, 0x13, 0x3B, 0x01, 0xFC, 0x3F, 0xD7,
+        0xDC, 0x00, 0x00, 0x01, 0x00,
+    ];
+    let (number, state) = load(&before);
+    assert_eq!((number, state.settings.m), (0, state.settings.largest_m()));
+    let inputs = Inputs {
+        samples: &[30001],
+        gains: &[2],
+        training: &[3],
+    };
+    let (block, next) = work(&state, inputs).expect("an accepted block");
+    let d = &block.samples[0];
+    let page = page();
+    assert!(has_bytes(&page, &before) && has_bytes(&page, &image(&next)));
+    assert_eq!(
+        (d.weights_new[0], d.weights_new[1], d.psi_after),
+        (16501, -8736, 4)
+    );
+    let numbers = [
+        block.x[0],
+        d.a[0],
+        d.held[0],
+        d.f,
+        d.h,
+        d.y,
+        d.z,
+        d.j_forward,
+        d.j_feedback,
+    ];
+    for number in numbers {
+        assert!(page.contains(&words([number])), "{number}");
     }
 }
 

@@ -129,7 +129,8 @@ impl Reader {
             [m, g, entry] => self.values([m, g, entry]),
             _ => {
                 let found = format!("values: {} ({})", words.len(), shown(content));
-                let wanted = "m and g are wanted, or m, g and a training entry";
+                let wanted =
+                    "m and g are wanted, or m, g and a training entry, with spaces between";
                 self.problem(self.line, format!("{found}, but {wanted}"));
                 Sample::default()
             }

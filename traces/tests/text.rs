@@ -142,15 +142,15 @@ fn wrong_samples() {
         ),
         (
             "7",
-            "values: 1 (7), but m and g are wanted, or m, g and a training entry",
+            "values: 1 (7), but m and g are wanted, or m, g and a training entry, with spaces between",
         ),
         (
             "1 2 3 4",
-            "values: 4 (1 2 3 4), but m and g are wanted, or m, g and a training entry",
+            "values: 4 (1 2 3 4), but m and g are wanted, or m, g and a training entry, with spaces between",
         ),
         (
             "1,2",
-            "values: 1 (1,2), but m and g are wanted, or m, g and a training entry",
+            "values: 1 (1,2), but m and g are wanted, or m, g and a training entry, with spaces between",
         ),
     ];
     for (line, wanted) in cases {
