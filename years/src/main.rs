@@ -28,6 +28,11 @@ fn main() -> ExitCode {
         print!("{USAGE}");
         return ExitCode::SUCCESS;
     }
+    let is_option = |a: &&std::ffi::OsString| a.as_encoded_bytes().starts_with(b"-");
+    if let Some(option) = arguments.iter().find(is_option) {
+        eprint!("no such option: {}\n{USAGE}", option.to_string_lossy());
+        return ExitCode::from(2);
+    }
     let [given, outdir] = &arguments[..] else {
         eprint!("{USAGE}");
         return ExitCode::from(2);

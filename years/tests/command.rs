@@ -98,6 +98,12 @@ fn help_is_told_and_wrong_arguments_end_with_2() {
     let output = program().arg("one").output().expect("the program runs");
     assert_eq!(output.status.code(), Some(2));
     assert!(output.stdout.is_empty() && output.stderr.starts_with(b"usage: years"));
+    let output = program().args(["--bogus", "one"]).output();
+    let output = output.expect("the program runs");
+    assert_eq!(output.status.code(), Some(2));
+    assert!(output
+        .stderr
+        .starts_with(b"no such option: --bogus\nusage: years"));
 }
 
 /// A run of one year with a seed into a folder that has a picture.
