@@ -73,12 +73,14 @@ fn head(view: &View) -> Vec<String> {
     let past = words::count(past, "wrong pressure");
     let [taps, step] = words::settings(&view.given.sizes);
     let proved = "Run by the proved library: every block, save and load.";
-    vec![
+    let mut lines = vec![
         format!("{lost}, {past} past the check"),
         format!("Assumed: cable, noise, gain control, converter. {proved}"),
         taps,
         format!("{step}; {}", words::extent(view.given)),
-    ]
+    ];
+    lines.extend(words::other_than_default(&view.given.changes));
+    lines
 }
 
 fn dots(view: &View) -> Option<String> {

@@ -10,8 +10,7 @@ const WIDTH: f64 = 1260.0;
 const LEFT: f64 = 140.0;
 const RIGHT: f64 = 850.0;
 const LEGEND: f64 = 876.0;
-/// Above the first panel, between two, and below the last.
-const TOP: f64 = 178.0;
+/// Between two panels, and below the last.
 const GAP: f64 = 34.0;
 const BOTTOM: f64 = 84.0;
 const LINE: f64 = 23.0;
@@ -61,7 +60,8 @@ fn y_ticks(axis: &Axis) -> String {
 /// The script of a page, gnuplot's common settings first.
 pub fn script(page: &Page) -> String {
     let heights: f64 = page.panels.iter().map(|panel| panel.height + GAP).sum();
-    let height = (TOP + heights - GAP + BOTTOM).round();
+    let mut top = 90.0 + 22.0 * page.lines.len() as f64;
+    let height = (top + heights - GAP + BOTTOM).round();
     let sheet = Sheet { height };
     let mut text = blocks(page);
     text.push_str(include_str!("../page.gnuplot"));
@@ -77,7 +77,6 @@ pub fn script(page: &Page) -> String {
     text.push_str(&head(page, &sheet));
     let shades = page.shades.iter().map(|s| shade(s, &page.time));
     text.extend(shades);
-    let mut top = TOP;
     for (place, panel) in page.panels.iter().enumerate() {
         text.push_str(&drawn(page, place, panel, &sheet, top));
         top += panel.height + GAP;
