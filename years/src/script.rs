@@ -2,7 +2,7 @@
 //! picture to standard output.
 
 use crate::axis::Axis;
-use crate::curve::Curve;
+use crate::curve::{Curve, BLACK, DOTTED};
 use crate::page::{Page, Panel, Shade};
 use std::fmt::Write;
 
@@ -180,7 +180,8 @@ fn words(panel: &Panel, sheet: &Sheet, top: f64) -> String {
     text
 }
 
-/// The panel's curves, and in the first panel what shades and dots are.
+/// The panel's curves; in the first panel what shades are, and in the first
+/// that has dots what they are.
 fn plots(page: &Page, place: usize, panel: &Panel) -> String {
     let curve = |(n, curve): (usize, &Curve)| {
         let title = curve.title.as_ref();
@@ -191,14 +192,14 @@ fn plots(page: &Page, place: usize, panel: &Panel) -> String {
         let (colour, name) = (s.colour, quoted(s.name));
         format!("keyentry with boxes {FILL} lc rgb '{colour}' title {name}")
     };
-    let dots = |name: &String| {
+    let shades = page.shades.iter().filter(|_| place == 0).map(shade);
+    let dots = page.dots.iter().filter(|(first, _)| *first == place);
+    let dots = dots.map(|(_, name)| {
         let name = quoted(name);
-        format!("keyentry with points pt 7 ps 0.4 lc rgb '#000000' title {name}")
-    };
-    let marks = page.shades.iter().map(shade);
-    let marks = marks.chain(page.dots.iter().map(dots));
-    let marks = marks.filter(|_| place == 0);
-    let all: Vec<String> = curves(panel).map(curve).chain(marks).collect();
+        format!("keyentry {DOTTED} lc rgb '{BLACK}' title {name}")
+    });
+    let drawn = curves(panel).map(curve);
+    let all: Vec<String> = drawn.chain(shades).chain(dots).collect();
     if all.is_empty() {
         return "NaN notitle".to_string();
     }
