@@ -408,7 +408,7 @@ fn lengths(view: &View) -> Panel {
     let mut curves = line(&window, wide, Some("B"));
     curves.extend(line(&block, THICK, Some("b")));
     Panel {
-        height: 110.0,
+        height: 118.0,
         label: "b, B",
         name: format!("bits of samples, {}", view.span.after()),
         notes: vec![
