@@ -1,6 +1,7 @@
 //! The assumptions of a history, a field for each key of the text.
 
 use crate::agreement;
+use crate::changes::changes;
 use crate::reader::{line_of, Reader};
 
 pub const DAYS_A_YEAR: f64 = 365.25;
@@ -18,6 +19,8 @@ pub struct Assumptions {
     pub joint: Joint,
     pub power: Power,
     pub pressure: Pressure,
+    /// What is other than the default.
+    pub changes: Vec<String>,
 }
 
 /// The equaliser's sizes and its step M.
@@ -100,7 +103,10 @@ pub struct Pressure {
 /// The assumptions, or every problem of the text, a line each.
 pub fn parse(text: &str) -> Result<Assumptions, Vec<String>> {
     let mut reader = Reader::new(text);
-    let assumptions = Assumptions::take(&mut reader);
+    let assumptions = Assumptions {
+        changes: changes(text),
+        ..Assumptions::take(&mut reader)
+    };
     reader.finish()?;
     let problems = with_lines(text, agreement::problems(&assumptions));
     if problems.is_empty() {
@@ -140,6 +146,7 @@ impl Assumptions {
             joint: Joint::take(t),
             power: Power::take(t),
             pressure: Pressure::take(t),
+            changes: Vec::new(),
         }
     }
 

@@ -39,6 +39,8 @@ pub const BLACK: &str = "#000000";
 pub const BLUE: &str = "#5b9bd5";
 pub const RED: &str = "#b00000";
 pub const GREY: &str = "#777777";
+/// How dots in place of a line are drawn, but for their colour.
+pub const DOTTED: &str = "with points pt 7 ps 0.3";
 /// Dots across a page, about.
 const DOTS: f64 = 150.0;
 
@@ -72,6 +74,11 @@ impl Curve {
         let title = title.map(str::to_string);
         let rows = rows.text();
         Curve { rows, style, title }
+    }
+
+    /// Whether it has dots in place of a line.
+    pub fn is_dots(&self) -> bool {
+        self.style.starts_with(DOTTED) && !self.rows.is_empty()
     }
 
     /// Marks, each at a place and a height.
@@ -183,7 +190,7 @@ fn dots(points: &[Point], colour: &str, title: Option<&str>) -> Curve {
     let mut rows = Rows::default();
     let kept = places.flat_map(|run| spaced(&run, apart));
     kept.for_each(|(at, value)| rows.add(&[at, value]));
-    let style = format!("with points pt 7 ps 0.3 lc rgb '{colour}'");
+    let style = format!("{DOTTED} lc rgb '{colour}'");
     Curve::new(rows, style, title)
 }
 

@@ -49,6 +49,20 @@ impl Drop for Part {
     }
 }
 
+/// Whether two paths lead to one file.
+pub fn is_same(one: &Path, other: &Path) -> bool {
+    let (one, other) = (one.canonicalize(), other.canonicalize());
+    one.is_ok_and(|one| other.is_ok_and(|other| one == other))
+}
+
+/// Removes a file where it is there with another text.
+pub fn remove_unlike(path: &Path, text: &str) -> std::result::Result<(), String> {
+    match std::fs::read(path) {
+        Ok(bytes) if bytes == text.as_bytes() => Ok(()),
+        _ => remove(path),
+    }
+}
+
 /// Removes a file where it is there.
 pub fn remove(path: &Path) -> std::result::Result<(), String> {
     match remove_file(path) {

@@ -10,6 +10,7 @@ pub mod assumptions;
 pub mod axis;
 pub mod burst;
 pub mod cable;
+pub mod changes;
 pub mod converter;
 pub mod curve;
 pub mod files;

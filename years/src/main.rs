@@ -1,9 +1,10 @@
 //! `years ASSUMPTIONS OUTDIR`: see USAGE.
 
+use std::io::Write;
 use std::path::Path;
 use std::process::ExitCode;
 use years::assumptions::{notes, parse, Assumptions};
-use years::files::{remove, Part};
+use years::files::{is_same, remove, remove_unlike, Part};
 use years::history::{self, Reading};
 use years::page::page;
 use years::view::View;
@@ -14,9 +15,10 @@ usage: years ASSUMPTIONS OUTDIR
 Runs one station through the years that the file ASSUMPTIONS describes and writes to the folder OUTDIR:
   years.csv             a row for each reading
   summary.txt           what came of them
+  assumptions.txt       a copy of ASSUMPTIONS, where that isn't this file itself
   years.gnuplot, loud-spell.gnuplot, noisy-joint.gnuplot
                         a page each; gnuplot writes its picture to standard output
-An earlier run's pages and pictures there are removed. The script years/run draws the pictures too.
+Those of an earlier run are replaced, and its pictures removed. The script years/run draws the pictures too.
 ";
 
 /// The pages' names.
@@ -27,6 +29,11 @@ fn main() -> ExitCode {
     if arguments.iter().any(|a| a == "--help" || a == "-h") {
         print!("{USAGE}");
         return ExitCode::SUCCESS;
+    }
+    let is_option = |a: &&std::ffi::OsString| a.as_encoded_bytes().starts_with(b"-");
+    if let Some(option) = arguments.iter().find(is_option) {
+        eprint!("no such option: {}\n{USAGE}", option.to_string_lossy());
+        return ExitCode::from(2);
     }
     let [given, outdir] = &arguments[..] else {
         eprint!("{USAGE}");
@@ -45,18 +52,24 @@ fn main() -> ExitCode {
 }
 
 fn run(path: &Path, outdir: &Path) -> Result<String, (u8, String)> {
-    let given = read(path).map_err(|message| (2, message))?;
+    let (text, given) = read(path).map_err(|message| (2, message))?;
     std::fs::create_dir_all(outdir)
         .map_err(|e| (1, format!("{}: can't be made: {e}", outdir.display())))?;
     let mut progress = Progress::new(given.readings());
     let readings = history::run(&given, |done| progress.at(done));
     let summary = table::summary(&given, &readings);
-    write(&given, &readings, &summary, outdir).map_err(|message| (1, message))?;
+    let mut texts = vec![("summary.txt".to_string(), summary.clone())];
+    if !is_same(path, &outdir.join("assumptions.txt")) {
+        texts.push(("assumptions.txt".to_string(), text));
+    }
+    texts.extend(scripts(&given, &readings));
+    write(&given, &readings, &texts, outdir).map_err(|message| (1, message))?;
     Ok(summary)
 }
 
-/// The assumptions in a file; what is to be noted of them is told.
-fn read(path: &Path) -> Result<Assumptions, String> {
+/// The assumptions in a file, as a text and as taken; what is to be noted of
+/// them is told.
+fn read(path: &Path) -> Result<(String, Assumptions), String> {
     let text = std::fs::read_to_string(path)
         .map_err(|e| format!("{}: can't be read: {e}", path.display()))?;
     let with_path = |lines: Vec<String>| {
@@ -70,39 +83,44 @@ fn read(path: &Path) -> Result<Assumptions, String> {
     if !noted.is_empty() {
         eprintln!("{}", with_path(noted));
     }
-    Ok(given)
+    Ok((text, given))
 }
 
-/// Writes every file in full first. Then an earlier run's pictures go, and the
-/// new files take their names.
+/// Writes every file in full first. Then what an earlier run left goes, and
+/// the new files take their names.
 fn write(
     given: &Assumptions,
     readings: &[Reading],
-    summary: &str,
+    texts: &[(String, String)],
     outdir: &Path,
 ) -> Result<(), String> {
-    let text = |name: &str, text: &str| {
-        Part::write(outdir.join(name), |out| {
-            std::io::Write::write_all(out, text.as_bytes())
-        })
-    };
     let table = Part::write(outdir.join("years.csv"), |out| {
         table::csv(given, readings, out)
     })?;
-    let mut parts = vec![table, text("summary.txt", summary)?];
-    for (name, page) in pages(given, readings) {
-        parts.push(text(&format!("{name}.gnuplot"), &page)?);
+    let part = |(name, text): &(String, String)| {
+        Part::write(outdir.join(name), |out| out.write_all(text.as_bytes()))
+    };
+    let parts = texts.iter().map(part).collect::<Result<Vec<_>, _>>()?;
+    clear(texts, outdir)?;
+    let mut all = std::iter::once(table).chain(parts);
+    all.try_for_each(Part::put_in_place)
+}
+
+/// Removes what would not belong to the new table.
+fn clear(texts: &[(String, String)], outdir: &Path) -> Result<(), String> {
+    let drawn = PAGES
+        .iter()
+        .flat_map(|name| ["png", "gnuplot"].map(|end| format!("{name}.{end}")));
+    for (name, text) in texts {
+        remove_unlike(&outdir.join(name), text)?;
     }
-    for name in PAGES {
-        remove(&outdir.join(format!("{name}.png")))?;
-        remove(&outdir.join(format!("{name}.gnuplot")))?;
-    }
-    remove(&outdir.join("summary.txt"))?;
-    parts.into_iter().try_for_each(Part::put_in_place)
+    drawn
+        .map(|name| outdir.join(name))
+        .try_for_each(|path| remove(&path))
 }
 
 /// The script of each page that there is.
-fn pages(given: &Assumptions, readings: &[Reading]) -> Vec<(&'static str, String)> {
+fn scripts(given: &Assumptions, readings: &[Reading]) -> Vec<(String, String)> {
     let years = words::count(given.years.into(), "year");
     let around = |mark: &str| format!("One station, the days around its {mark}");
     let views = [
@@ -122,6 +140,6 @@ fn pages(given: &Assumptions, readings: &[Reading]) -> Vec<(&'static str, String
     let named = PAGES.into_iter().zip(views);
     let there = named.filter_map(|(name, (view, title))| Some((name, page(&view?, title))));
     there
-        .map(|(name, page)| (name, script::script(&page)))
+        .map(|(name, page)| (format!("{name}.gnuplot"), script::script(&page)))
         .collect()
 }

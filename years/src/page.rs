@@ -5,7 +5,7 @@ use crate::curve::{line, steps, Curve, Look, Point, Rows, BLACK, BLUE, GREY, RED
 use crate::history::Reading;
 use crate::station::Return;
 use crate::table::{largest_back, largest_forward};
-use crate::view::{received, Span, View};
+use crate::view::{Span, View};
 use crate::words;
 
 pub struct Page {
@@ -14,8 +14,8 @@ pub struct Page {
     pub time: Axis,
     pub time_name: &'static str,
     pub shades: Vec<Shade>,
-    /// What dots in place of a line are, where there are any.
-    pub dots: Option<String>,
+    /// The first panel that has dots in place of a line, and what they are.
+    pub dots: Option<(usize, &'static str)>,
     pub panels: Vec<Panel>,
 }
 
@@ -55,14 +55,15 @@ fn ends(points: &[Point], low: f64, high: f64) -> (f64, f64) {
 pub fn page(view: &View, title: String) -> Page {
     let years = view.unit > 1.0;
     let most = if years && view.to > 10.0 { 20 } else { 10 };
+    let panels = panels(view);
     Page {
         title,
         lines: head(view),
         time: Axis::between(view.from, view.to, most, 0.1),
         time_name: if years { "years" } else { "days" },
         shades: shades(view),
-        dots: dots(view),
-        panels: panels(view),
+        dots: dots(view, &panels),
+        panels,
     }
 }
 
@@ -73,22 +74,26 @@ fn head(view: &View) -> Vec<String> {
     let past = words::count(past, "wrong pressure");
     let [taps, step] = words::settings(&view.given.sizes);
     let proved = "Run by the proved library: every block, save and load.";
-    vec![
+    let mut lines = vec![
         format!("{lost}, {past} past the check"),
         format!("Assumed: cable, noise, gain control, converter. {proved}"),
         taps,
         format!("{step}; {}", words::extent(view.given)),
-    ]
+    ];
+    lines.extend(words::other_than_default(&view.given.changes));
+    lines
 }
 
-fn dots(view: &View) -> Option<String> {
-    let silent = view.parts.iter().any(|part| !received(part));
-    let name = view.span.name();
-    let dots = match view.span {
-        Span::Reading => "dots: the reading was lost".to_string(),
-        _ => format!("dots: {name} without a reading"),
+fn dots(view: &View, panels: &[Panel]) -> Option<(usize, &'static str)> {
+    let words = match view.span {
+        Span::Reading => "dots: the reading was lost",
+        Span::Day => "dots: a day without a reading",
+        Span::Week => "dots: a week without a reading",
     };
-    silent.then_some(dots)
+    let first = panels
+        .iter()
+        .position(|panel| panel.curves.iter().any(Curve::is_dots))?;
+    Some((first, words))
 }
 
 fn shades(view: &View) -> Vec<Shade> {
@@ -201,16 +206,21 @@ fn differences(view: &View) -> Curve {
     Curve::new(rows, style, Some(&title))
 }
 
+/// Broken lines across the panel at some heights.
+fn guide(view: &View, heights: &[f64], title: &str) -> Curve {
+    let mut rows = Rows::default();
+    for height in heights {
+        rows.break_off();
+        rows.add(&[view.from, *height]);
+        rows.add(&[view.to, *height]);
+    }
+    let style = format!("with lines dt 2 lw 1.5 lc rgb '{GREY}'");
+    Curve::new(rows, style, Some(title))
+}
+
 fn difference(view: &View) -> Panel {
     let unit = view.given.pressure.unit;
     let half = unit / 2.0;
-    let mut guide = Rows::default();
-    for height in [-half, half] {
-        guide.break_off();
-        guide.add(&[view.from, height]);
-        guide.add(&[view.to, height]);
-    }
-    let style = format!("with lines dt 2 lw 1.5 lc rgb '{GREY}'");
     let title = format!("half the sensor's unit of {unit} bar");
     Panel {
         height: 90.0,
@@ -220,7 +230,7 @@ fn difference(view: &View) -> Panel {
         axis: Axis::between(-unit, unit, 4, unit / 2.0),
         curves: vec![
             differences(view),
-            Curve::new(guide, style, Some(&title)),
+            guide(view, &[-half, half], &title),
             wrong_marks(view, "wrong, off the scale", |_| Some(0.85 * unit)),
         ],
     }
@@ -293,11 +303,29 @@ fn decibels(power: f64) -> f64 {
     10.0 * power.max(1e-10).log10()
 }
 
+/// The level at which a station only guesses: an error that is anything
+/// within ±1 of a decision has the mean square 1/3.
+fn guessing(view: &View, axis: &Axis) -> Option<Curve> {
+    let level = decibels(1.0 / 3.0);
+    let curve = guide(view, &[level], "about −5 dB: guessing");
+    axis.holds(level).then_some(curve)
+}
+
 /// The powers of single readings, beside which spans have their means.
 fn single_powers(view: &View) -> Vec<(f64, f64)> {
     let few = view.readings.iter().step_by(view.thinned());
     let powers = few.filter_map(|x| Some((x.day / view.unit, decibels(x.error_power?))));
     powers.filter(|_| view.span != Span::Reading).collect()
+}
+
+fn single_marks(view: &View, powers: Vec<(f64, f64)>) -> Curve {
+    let few = match view.thinned() {
+        1 => String::new(),
+        every => format!(", 1 in {every} drawn"),
+    };
+    let style = format!("points pt 7 ps 0.15 lc rgb '{BLUE}'");
+    let title = format!("mean of a reading{few}");
+    Curve::marks(powers.into_iter(), &style, &title)
 }
 
 fn error_power(view: &View) -> Panel {
@@ -310,37 +338,34 @@ fn error_power(view: &View) -> Panel {
     let (low, high) = single
         .iter()
         .fold(start, |(low, high), (_, v)| (low.min(*v), high.max(*v)));
-    let few = match view.thinned() {
-        1 => String::new(),
-        every => format!(", 1 in {every} drawn"),
-    };
-    let style = format!("points pt 7 ps 0.15 lc rgb '{BLUE}'");
-    let title = format!("mean of a reading{few}");
-    let mut curves = vec![Curve::marks(single.into_iter(), &style, &title)];
+    let axis = Axis::around(low, high, 6, 5.0);
+    let mut curves: Vec<Curve> = guessing(view, &axis).into_iter().collect();
+    curves.push(single_marks(view, single));
     let title = format!("mean of {}", view.span.name());
     curves.extend(line(&means, THICK, Some(&title)));
     Panel {
-        height: 160.0,
+        height: 190.0,
         label: "dB",
         name: "error power".to_string(),
         notes: vec![
-            "0 dB: an error (root mean square) of".to_string(),
-            "one symbol unit, half the distance".to_string(),
-            "between neighbouring symbols".to_string(),
+            "0 dB: one symbol unit (r.m.s.), half the".to_string(),
+            "distance between neighbours; the error".to_string(),
+            "is to the station's own decision, so one".to_string(),
+            "that only guesses shows about −5 dB".to_string(),
         ],
-        axis: Axis::around(low, high, 6, 5.0),
+        axis,
         curves,
     }
 }
 
 fn weight(view: &View, name: &str, of: fn(&Reading) -> f64, height: f64) -> Panel {
-    let means = view.means(|x| Some(of(x)));
+    let means = view.means(|x| Some(of(x).abs()));
     let (low, high) = ends(&means, 0.0, 0.0);
     Panel {
         height,
-        label: "weight",
+        label: "magnitude",
         name: name.to_string(),
-        notes: vec![format!("times its unit, {}", view.span.after())],
+        notes: vec![format!("magnitude, W·2^(ψ−15), {}", view.span.after())],
         axis: Axis::around(low, high, 5, 0.01),
         curves: line(&means, THICK, None),
     }
@@ -380,17 +405,17 @@ fn lengths(view: &View) -> Panel {
         width: 7.0,
         colour: BLUE,
     };
-    let mut curves = line(&window, wide, Some("B: and of the block's before it"));
-    curves.extend(line(
-        &block,
-        THICK,
-        Some("b: bits of a block's largest sample"),
-    ));
+    let mut curves = line(&window, wide, Some("B"));
+    curves.extend(line(&block, THICK, Some("b")));
     Panel {
-        height: 90.0,
+        height: 118.0,
         label: "b, B",
         name: format!("bits of samples, {}", view.span.after()),
-        notes: Vec::new(),
+        notes: vec![
+            "b: bits of a block's largest sample".to_string(),
+            "B: the larger of this b and that of".to_string(),
+            "the block before".to_string(),
+        ],
         axis: Axis::around(low, high, 4, 1.0),
         curves,
     }

@@ -27,6 +27,20 @@ pub fn line_of(text: &str, key: &str) -> usize {
     text.lines().position(gives).map_or(0, |place| place + 1)
 }
 
+/// The lines that are neither blank nor a comment, with their numbers.
+fn lines(text: &str) -> impl Iterator<Item = (usize, &str)> {
+    let numbered = text.lines().map(str::trim).enumerate();
+    let told = numbered.filter(|(_, line)| !line.is_empty() && !line.starts_with('#'));
+    told.map(|(place, line)| (place + 1, line))
+}
+
+/// Each key with its value.
+pub fn pairs(text: &str) -> Vec<(&str, &str)> {
+    lines(text)
+        .filter_map(|(_, line)| split_line(line))
+        .collect()
+}
+
 impl<'a> Reader<'a> {
     pub fn new(text: &'a str) -> Reader<'a> {
         let mut reader = Reader {
@@ -34,11 +48,7 @@ impl<'a> Reader<'a> {
             missing: Vec::new(),
             problems: Vec::new(),
         };
-        for (place, line) in text.lines().map(str::trim).enumerate() {
-            if !line.is_empty() && !line.starts_with('#') {
-                reader.add(place + 1, line);
-            }
-        }
+        lines(text).for_each(|(number, line)| reader.add(number, line));
         reader
     }
 

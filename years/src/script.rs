@@ -2,7 +2,7 @@
 //! picture to standard output.
 
 use crate::axis::Axis;
-use crate::curve::Curve;
+use crate::curve::{Curve, BLACK, DOTTED};
 use crate::page::{Page, Panel, Shade};
 use std::fmt::Write;
 
@@ -10,8 +10,7 @@ const WIDTH: f64 = 1260.0;
 const LEFT: f64 = 140.0;
 const RIGHT: f64 = 850.0;
 const LEGEND: f64 = 876.0;
-/// Above the first panel, between two, and below the last.
-const TOP: f64 = 178.0;
+/// Between two panels, and below the last.
 const GAP: f64 = 34.0;
 const BOTTOM: f64 = 84.0;
 const LINE: f64 = 23.0;
@@ -61,7 +60,8 @@ fn y_ticks(axis: &Axis) -> String {
 /// The script of a page, gnuplot's common settings first.
 pub fn script(page: &Page) -> String {
     let heights: f64 = page.panels.iter().map(|panel| panel.height + GAP).sum();
-    let height = (TOP + heights - GAP + BOTTOM).round();
+    let mut top = 90.0 + 22.0 * page.lines.len() as f64;
+    let height = (top + heights - GAP + BOTTOM).round();
     let sheet = Sheet { height };
     let mut text = blocks(page);
     text.push_str(include_str!("../page.gnuplot"));
@@ -77,7 +77,6 @@ pub fn script(page: &Page) -> String {
     text.push_str(&head(page, &sheet));
     let shades = page.shades.iter().map(|s| shade(s, &page.time));
     text.extend(shades);
-    let mut top = TOP;
     for (place, panel) in page.panels.iter().enumerate() {
         text.push_str(&drawn(page, place, panel, &sheet, top));
         top += panel.height + GAP;
@@ -181,7 +180,8 @@ fn words(panel: &Panel, sheet: &Sheet, top: f64) -> String {
     text
 }
 
-/// The panel's curves, and in the first panel what shades and dots are.
+/// The panel's curves; in the first panel what shades are, and in the first
+/// that has dots what they are.
 fn plots(page: &Page, place: usize, panel: &Panel) -> String {
     let curve = |(n, curve): (usize, &Curve)| {
         let title = curve.title.as_ref();
@@ -192,14 +192,14 @@ fn plots(page: &Page, place: usize, panel: &Panel) -> String {
         let (colour, name) = (s.colour, quoted(s.name));
         format!("keyentry with boxes {FILL} lc rgb '{colour}' title {name}")
     };
-    let dots = |name: &String| {
+    let shades = page.shades.iter().filter(|_| place == 0).map(shade);
+    let dots = page.dots.iter().filter(|(first, _)| *first == place);
+    let dots = dots.map(|(_, name)| {
         let name = quoted(name);
-        format!("keyentry with points pt 7 ps 0.4 lc rgb '#000000' title {name}")
-    };
-    let marks = page.shades.iter().map(shade);
-    let marks = marks.chain(page.dots.iter().map(dots));
-    let marks = marks.filter(|_| place == 0);
-    let all: Vec<String> = curves(panel).map(curve).chain(marks).collect();
+        format!("keyentry {DOTTED} lc rgb '{BLACK}' title {name}")
+    });
+    let drawn = curves(panel).map(curve);
+    let all: Vec<String> = drawn.chain(shades).chain(dots).collect();
     if all.is_empty() {
         return "NaN notitle".to_string();
     }

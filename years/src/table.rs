@@ -103,16 +103,42 @@ pub fn summary(given: &Assumptions, readings: &[Reading]) -> String {
         ("loud spell", |x| x.loud),
         ("noisy joint", |x| x.joint),
     ];
-    let part =
-        |(name, of): Kind| counts(name, &readings.iter().filter(|x| of(x)).collect::<Vec<_>>());
+    let part = |(name, of): &Kind| {
+        let part: Vec<_> = readings.iter().filter(|x| of(x)).collect();
+        (!part.is_empty()).then(|| counts(name, &part))
+    };
     let [taps, step] = words::settings(&given.sizes);
     let mut text = format!("{taps}\n{step}\n{}\n", words::extent(given));
-    text.extend(kinds.map(part));
+    text.extend(words::other_than_default(&given.changes).map(|line| line + "\n"));
+    text.extend(kinds.iter().filter_map(part));
+    text.push_str(&wrong_pressures(given, readings));
     text.push_str(&returns(readings));
     let refused = readings.last().map_or([0; 10], |x| x.refused);
     let by_number = (1..10).map(|n| format!(" {n}: {}", refused[n]));
     let by_number = by_number.collect::<Vec<_>>().join(",");
     text + &format!("calls turned down, by number:{by_number}\n")
+}
+
+/// Lines of wrong pressures at most.
+const MOST_LINES: usize = 20;
+
+/// A line for each wrong pressure that passed the check, up to so many.
+fn wrong_pressures(given: &Assumptions, readings: &[Reading]) -> String {
+    let wrong: Vec<&Reading> = readings.iter().filter(|x| x.is_wrong()).collect();
+    let line = |x: &&Reading| {
+        format!(
+            "wrong pressure past the check: day {:.4}, true {:.4} bar, received {} bar\n",
+            x.day,
+            x.pressure_true,
+            bar(given, x.pressure_received)
+        )
+    };
+    let mut text: String = wrong.iter().take(MOST_LINES).map(line).collect();
+    if wrong.len() > MOST_LINES {
+        let more = words::count((wrong.len() - MOST_LINES) as u64, "wrong pressure");
+        text.push_str(&format!("and {more} more past the check\n"));
+    }
+    text
 }
 
 /// How the station came back after its losses of power.

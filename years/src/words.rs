@@ -31,6 +31,25 @@ pub fn share(part: u64, whole: u64, what: &str, how: &str) -> String {
     format!("{part} of {}{space}{how} ({shown})", count(whole, what))
 }
 
+/// Characters of a line at most, so that it fits a page's head.
+const LINE: usize = 110;
+
+/// "other than the default: seed = 9, check_sum = 0", as many as fit a line;
+/// none where nothing differs.
+pub fn other_than_default(changes: &[String]) -> Option<String> {
+    let all = changes.len();
+    let line = |told: usize| {
+        let list = changes[..told].join(", ");
+        let more = match all - told {
+            0 => String::new(),
+            more => format!(" and {more} more"),
+        };
+        format!("other than the default: {list}{more}")
+    };
+    let mut lines = (1..=all).rev().map(line);
+    lines.find(|line| line.chars().count() <= LINE)
+}
+
 /// Every symbol, or the first two and the last.
 fn symbols(r: u8) -> &'static str {
     match r {

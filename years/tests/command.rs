@@ -13,7 +13,12 @@ fn years(assumptions: &Path, outdir: &Path) -> Output {
 }
 
 /// By a history without a loud spell or a noisy joint.
-const WRITTEN: [&str; 3] = ["summary.txt", "years.csv", "years.gnuplot"];
+const WRITTEN: [&str; 4] = [
+    "assumptions.txt",
+    "summary.txt",
+    "years.csv",
+    "years.gnuplot",
+];
 
 fn files(folder: &Path) -> Vec<String> {
     let entries = std::fs::read_dir(folder).expect("the folder");
@@ -98,6 +103,12 @@ fn help_is_told_and_wrong_arguments_end_with_2() {
     let output = program().arg("one").output().expect("the program runs");
     assert_eq!(output.status.code(), Some(2));
     assert!(output.stdout.is_empty() && output.stderr.starts_with(b"usage: years"));
+    let output = program().args(["--bogus", "one"]).output();
+    let output = output.expect("the program runs");
+    assert_eq!(output.status.code(), Some(2));
+    assert!(output
+        .stderr
+        .starts_with(b"no such option: --bogus\nusage: years"));
 }
 
 /// A run of one year with a seed into a folder that has a picture.
@@ -106,6 +117,54 @@ fn run_beside_a_picture(outdir: &Path, seed: &str) -> Output {
     std::fs::write(&assumptions, text_with(&[("years", "1"), ("seed", seed)])).expect("written");
     std::fs::write(outdir.join("years.png"), "an earlier picture").expect("written");
     years(&assumptions, outdir)
+}
+
+/// The copy of the assumptions.
+fn kept(outdir: &Path) -> String {
+    std::fs::read_to_string(outdir.join("assumptions.txt")).expect("read")
+}
+
+#[test]
+fn the_assumptions_are_kept_beside_the_table() {
+    let outdir = folder("kept");
+    for seed in ["34", "35"] {
+        assert!(run_beside_a_picture(&outdir, seed).status.success());
+        let wanted = text_with(&[("years", "1"), ("seed", seed)]);
+        assert_eq!(kept(&outdir), wanted);
+    }
+    let summary = std::fs::read_to_string(outdir.join("summary.txt")).expect("read");
+    assert!(summary.contains("\nother than the default: seed = 35, years = 1\n"));
+}
+
+#[test]
+fn assumptions_that_are_in_the_folder_already_stay_as_they_are() {
+    let outdir = folder("own");
+    let text = text_with(&[("years", "1")]) + "# a note\n";
+    let path = outdir.join("assumptions.txt");
+    std::fs::write(&path, &text).expect("written");
+    let written = || std::fs::metadata(&path).expect("there").modified().ok();
+    let before = written();
+    assert!(years(&path, &outdir).status.success());
+    assert_eq!(files(&outdir), WRITTEN);
+    assert_eq!((kept(&outdir), written()), (text, before));
+}
+
+#[test]
+fn a_folder_in_the_way_of_the_assumptions_leaves_the_earlier_table() {
+    let outdir = folder("in-the-way-of-a-copy");
+    std::fs::create_dir(outdir.join("assumptions.txt")).expect("a folder in the way");
+    std::fs::write(outdir.join("years.csv"), "an earlier table").expect("written");
+    let output = run_beside_a_picture(&outdir, "36");
+    assert_eq!(output.status.code(), Some(1));
+    let message = String::from_utf8_lossy(&output.stderr);
+    assert!(
+        message.contains("assumptions.txt: can't be removed"),
+        "{message}"
+    );
+    assert_eq!(
+        std::fs::read(outdir.join("years.csv")).expect("read"),
+        b"an earlier table"
+    );
 }
 
 #[test]
@@ -132,7 +191,9 @@ fn a_run_that_cannot_write_leaves_the_earlier_one_whole() {
         std::fs::read(outdir.join("years.csv")).expect("read"),
         table
     );
+    assert!(kept(&outdir).contains("seed = 32\n"));
     let there = [
+        "assumptions.txt",
         "summary.txt",
         "years.csv",
         "years.gnuplot",

@@ -77,6 +77,57 @@ fn without_training_the_first_readings_are_wrong() {
 }
 
 #[test]
+fn a_summary_has_no_line_for_what_was_not_there() {
+    let starts = |changes: &[(&str, &str)], wanted: &str| {
+        let given = given(changes);
+        let text = table::summary(&given, &history(&given));
+        text.lines().any(|line| line.starts_with(wanted))
+    };
+    let within = [
+        ("years", "1"),
+        ("loud_first_day", "100"),
+        ("joint_first_day", "200"),
+    ];
+    for name in ["all: ", "quiet: ", "loud spell: ", "noisy joint: "] {
+        assert!(starts(&within, name), "{name}");
+    }
+    for name in ["loud spell: ", "noisy joint: "] {
+        assert!(!starts(&within[..1], name), "{name}");
+    }
+    let always = [
+        ("years", "1"),
+        ("loud_first_day", "0"),
+        ("loud_days", "400"),
+    ];
+    assert!(starts(&always, "loud spell: ") && !starts(&always, "quiet: "));
+}
+
+#[test]
+fn a_summary_lists_the_first_wrong_pressures() {
+    let given = given(&[("years", "1")]);
+    let mut readings = history(&given);
+    let summary = |readings: &[Reading]| table::summary(&given, readings);
+    assert!(!summary(&readings).contains("wrong pressure past"));
+    for reading in &mut readings[..20] {
+        reading.pressure_received = Some(200);
+    }
+    let text = summary(&readings);
+    let true_one = readings[1].pressure_true;
+    let line = format!(
+        "wrong pressure past the check: day 0.7500, true {true_one:.4} bar, received 1.0000 bar\n"
+    );
+    assert!(text.contains(&line), "{text}");
+    assert_eq!(text.matches("wrong pressure past the check: ").count(), 20);
+    assert!(!text.contains(" more"));
+    for reading in &mut readings[20..23] {
+        reading.pressure_received = Some(200);
+    }
+    let text = summary(&readings);
+    assert_eq!(text.matches("wrong pressure past the check: ").count(), 20);
+    assert!(text.contains("\nand 3 wrong pressures more past the check\n"));
+}
+
+#[test]
 fn every_row_has_the_columns_of_the_header() {
     let given = given(&[
         ("years", "1"),

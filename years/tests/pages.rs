@@ -88,6 +88,82 @@ fn a_line_breaks_over_weeks_without_a_reading_in_every_panel() {
     assert!(whole.dots.is_none() && broken.dots.is_some());
 }
 
+/// The part of a script that draws a panel.
+fn drawn<'a>(text: &'a str, name: &str) -> &'a str {
+    let mut panels = text.split("set tmargin");
+    let found = panels.find(|panel| panel.contains(&format!("'{name}")));
+    found.unwrap_or_else(|| panic!("no panel {name}"))
+}
+
+#[test]
+fn dots_are_named_once_where_they_are_first_drawn() {
+    let (given, mut readings) = calm(&[("years", "2")]);
+    let words = "dots: a week without a reading";
+    assert!(!script(&all_years(&given, &readings)).contains(words));
+    lose(&mut readings, 700.0..707.0);
+    let text = script(&all_years(&given, &readings));
+    assert_eq!(text.matches(words).count(), 1);
+    assert!(drawn(&text, "error power").contains(words));
+    let few = View::near(&given, &readings, |x| x.number == 1410).expect("a view");
+    let text = script(&page(&few, "few".to_string()));
+    assert!(drawn(&text, "error power").contains("dots: the reading was lost"));
+}
+
+#[test]
+fn the_level_of_a_station_that_guesses_is_drawn() {
+    let lost = [
+        ("years", "1"),
+        ("L", "9"),
+        ("loud_days", "0"),
+        ("joint_days", "0"),
+    ];
+    let given = given(&lost);
+    let readings = run(&given, |_| {});
+    let page = all_years(&given, &readings);
+    let title = Some("about −5 dB: guessing".to_string());
+    let mut curves = panel(&page, "error power").curves.iter();
+    let guide = curves.find(|c| c.title == title).expect("the guide");
+    assert_eq!(guide.rows, "0.000000 -4.771213\n1.000000 -4.771213\n");
+    for reading in readings {
+        let power = reading.error_power.expect("a power");
+        assert!(
+            reading.wrong > 20 && (power - 1.0 / 3.0).abs() < 0.15,
+            "{power}"
+        );
+    }
+}
+
+#[test]
+fn a_weight_whose_sign_changes_does_not_cancel() {
+    let (given, mut readings) = calm(&[("years", "1")]);
+    let means = |readings: &[Reading]| {
+        let page = all_years(&given, readings);
+        let rows = |name| lines(panel(&page, name))[0].rows.clone();
+        ["largest feed forward", "largest feedback"].map(rows)
+    };
+    let before = means(&readings);
+    for reading in readings.iter_mut().step_by(2) {
+        reading.record.weights.iter_mut().for_each(|w| *w = -*w);
+    }
+    assert_eq!(means(&readings), before);
+    let weight = numbers(before[1].lines().last().expect("a row"))[1];
+    assert!(weight > 0.1, "{weight}");
+}
+
+#[test]
+fn a_page_says_what_is_other_than_the_default() {
+    let (given_calm, readings) = calm(&[("seed", "9"), ("years", "1")]);
+    let text = script(&all_years(&given_calm, &readings));
+    let changes = "seed = 9, years = 1, loud_days = 0, joint_days = 0, power_loss_days = 0";
+    assert!(text.contains(&format!("'other than the default: {changes}'")));
+    let default = Assumptions {
+        years: 1,
+        ..given(&[])
+    };
+    let text = script(&all_years(&default, &readings));
+    assert!(!text.contains("other than the default"));
+}
+
 #[test]
 fn one_lost_reading_breaks_the_line_of_received_ones_alone() {
     let (given, mut readings) = calm(&[]);

@@ -1,6 +1,10 @@
 //! The gain rule, the converter, the payload, the seasons, axes and words.
 
+mod common;
+
+use common::{text_with, DEFAULT};
 use years::axis::Axis;
+use years::changes::changes;
 use years::converter::{convert, full_scale, gain_for, power_of_two};
 use years::random::{Purpose, Random};
 use years::{payload, progress, season, words};
@@ -115,6 +119,56 @@ fn axes_of_ordinary_things_have_round_numbers() {
     assert_eq!(texts(Axis::shares(896)), "100 10 1 0.1");
     assert_eq!(texts(Axis::shares(1)), "100");
     assert_eq!(texts(Axis::shares(2_000_000)), "100 1 0.01 0.0001");
+}
+
+fn other_than_default(text: &str) -> Option<String> {
+    words::other_than_default(&changes(text))
+}
+
+#[test]
+fn what_is_other_than_the_default_is_told_in_its_order() {
+    assert_eq!(other_than_default(DEFAULT), None);
+    let text = text_with(&[("check_sum", "0"), ("seed", "9")]);
+    let line = "other than the default: seed = 9, check_sum = 0";
+    assert_eq!(other_than_default(&text).as_deref(), Some(line));
+    let reversed: Vec<&str> = text.lines().rev().collect();
+    assert_eq!(
+        other_than_default(&reversed.join("\n")).as_deref(),
+        Some(line)
+    );
+    let seed = u64::MAX.to_string();
+    let line = format!("other than the default: seed = {seed}");
+    assert_eq!(
+        other_than_default(&text_with(&[("seed", &seed)])),
+        Some(line)
+    );
+}
+
+#[test]
+fn a_value_written_otherwise_is_no_other_value() {
+    let text = text_with(&[
+        ("cable_new", "0.025   .28 0.0550 -3e-2 0.015"),
+        ("headroom", "1.10"),
+        ("pressure_first", "120.0"),
+        ("seed", "0013"),
+    ]);
+    assert_eq!(other_than_default(&text), None);
+}
+
+#[test]
+fn many_changes_are_cut_to_a_line() {
+    let cable = ["0.123456789"; 16].join(" ");
+    let mut given = vec![("cable_new", cable.as_str()), ("cable_old", &cable)];
+    let keys = ["p", "q", "N", "L", "delay", "hold", "headroom", "loud_days"];
+    given.extend(keys.map(|key| (key, "1")));
+    let line = other_than_default(&text_with(&given)).expect("a line");
+    assert!(line.starts_with("other than the default: p = 1, q = 1, N = 1, L = 1, delay = 1"));
+    assert!(line.ends_with(" and 5 more"), "{line}");
+    given.truncate(2);
+    let line = other_than_default(&text_with(&given)).expect("a line");
+    assert!(line.contains("default: cable_new = 0.123456789 0.123456789 "));
+    assert!(line.ends_with(" .. and 1 more"), "{line}");
+    assert!(line.chars().count() <= 110);
 }
 
 #[test]

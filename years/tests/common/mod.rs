@@ -1,7 +1,6 @@
 use std::path::{Path, PathBuf};
 use years::assumptions::{parse, Assumptions};
-
-pub const DEFAULT: &str = include_str!("../../assumptions.txt");
+pub use years::changes::DEFAULT;
 
 /// The default text with other values for some keys; the first of two counts.
 pub fn text_with(changes: &[(&str, &str)]) -> String {
