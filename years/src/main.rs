@@ -15,7 +15,7 @@ usage: years ASSUMPTIONS OUTDIR
 Runs one station through the years that the file ASSUMPTIONS describes and writes to the folder OUTDIR:
   years.csv             a row for each reading
   summary.txt           what came of them
-  assumptions.txt       a copy of ASSUMPTIONS, where that isn't this file itself
+  years-assumptions.txt a copy of ASSUMPTIONS, where that isn't this file itself
   years.gnuplot, loud-spell.gnuplot, noisy-joint.gnuplot
                         a page each; gnuplot writes its picture to standard output
 Those of an earlier run are replaced, and its pictures removed. The script years/run draws the pictures too.
@@ -59,8 +59,8 @@ fn run(path: &Path, outdir: &Path) -> Result<String, (u8, String)> {
     let readings = history::run(&given, |done| progress.at(done));
     let summary = table::summary(&given, &readings);
     let mut texts = vec![("summary.txt".to_string(), summary.clone())];
-    if !is_same(path, &outdir.join("assumptions.txt")) {
-        texts.push(("assumptions.txt".to_string(), text));
+    if !is_same(path, &outdir.join("years-assumptions.txt")) {
+        texts.push(("years-assumptions.txt".to_string(), text));
     }
     texts.extend(scripts(&given, &readings));
     write(&given, &readings, &texts, outdir).map_err(|message| (1, message))?;

@@ -14,8 +14,8 @@ fn years(assumptions: &Path, outdir: &Path) -> Output {
 
 /// By a history without a loud spell or a noisy joint.
 const WRITTEN: [&str; 4] = [
-    "assumptions.txt",
     "summary.txt",
+    "years-assumptions.txt",
     "years.csv",
     "years.gnuplot",
 ];
@@ -121,7 +121,7 @@ fn run_beside_a_picture(outdir: &Path, seed: &str) -> Output {
 
 /// The copy of the assumptions.
 fn kept(outdir: &Path) -> String {
-    std::fs::read_to_string(outdir.join("assumptions.txt")).expect("read")
+    std::fs::read_to_string(outdir.join("years-assumptions.txt")).expect("read")
 }
 
 #[test]
@@ -140,7 +140,7 @@ fn the_assumptions_are_kept_beside_the_table() {
 fn assumptions_that_are_in_the_folder_already_stay_as_they_are() {
     let outdir = folder("own");
     let text = text_with(&[("years", "1")]) + "# a note\n";
-    let path = outdir.join("assumptions.txt");
+    let path = outdir.join("years-assumptions.txt");
     std::fs::write(&path, &text).expect("written");
     let written = || std::fs::metadata(&path).expect("there").modified().ok();
     let before = written();
@@ -152,13 +152,13 @@ fn assumptions_that_are_in_the_folder_already_stay_as_they_are() {
 #[test]
 fn a_folder_in_the_way_of_the_assumptions_leaves_the_earlier_table() {
     let outdir = folder("in-the-way-of-a-copy");
-    std::fs::create_dir(outdir.join("assumptions.txt")).expect("a folder in the way");
+    std::fs::create_dir(outdir.join("years-assumptions.txt")).expect("a folder in the way");
     std::fs::write(outdir.join("years.csv"), "an earlier table").expect("written");
     let output = run_beside_a_picture(&outdir, "36");
     assert_eq!(output.status.code(), Some(1));
     let message = String::from_utf8_lossy(&output.stderr);
     assert!(
-        message.contains("assumptions.txt: can't be removed"),
+        message.contains("years-assumptions.txt: can't be removed"),
         "{message}"
     );
     assert_eq!(
@@ -193,8 +193,8 @@ fn a_run_that_cannot_write_leaves_the_earlier_one_whole() {
     );
     assert!(kept(&outdir).contains("seed = 32\n"));
     let there = [
-        "assumptions.txt",
         "summary.txt",
+        "years-assumptions.txt",
         "years.csv",
         "years.gnuplot",
         "years.gnuplot.part",
