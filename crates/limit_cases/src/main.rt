@@ -175,7 +175,7 @@ fn run() {
 
 fn main() {
     let usage = b"usage: limit_cases\nWrites a line for each case beside the limits.\n";
-    if streams::no_arguments(b"limit_cases", usage) {
+    if streams::no_arguments(os::arg_count(), b"limit_cases", usage) {
         run();
     }
 }

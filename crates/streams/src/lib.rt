@@ -1,15 +1,13 @@
 // Standard input and output of a program, whole or with a line on standard error that says what went wrong.
+ghost use mathlib.Core.Path.{_≡_};
+ghost use lib.Dec.{ltb};
+ghost use lib.IntN.{pos};
+ghost use lib.Signed.{ltZ};
 ghost use Rattle.io.specs.Counts.{Counts};
+ghost use Rattle.libc.specs.Io.{Moved};
 use libc::STDERR_FILENO;
 use libc::STDIN_FILENO;
 use libc::STDOUT_FILENO;
-
-// Reads standard input to its end, or until buf is full, and answers how many bytes came.
-pub fn read(buf: &mut [u8]) -> usize
-    ensures { λ r. ⌜ Counts r (now (buf .exit)) ⌝ }
-{
-    io::read_full(STDIN_FILENO, buf)
-}
 
 // A line on standard error: the program's name, what failed, and the system's reason.
 fn tell(program: &[u8], what: &[u8]) {
@@ -18,40 +16,64 @@ fn tell(program: &[u8], what: &[u8]) {
     os::fail(what);
 }
 
-// Whether standard input ended where a read of it stopped, which the next read shows. Where it did not, a line says why.
-// What is typed at a terminal has ended.
-pub fn ended(program: &[u8]) -> bool {
+// Reads standard input to its end, or until buf is full, and answers how many bytes came.
+pub fn read(buf: &mut [u8]) -> usize
+    ensures { λ r. ⌜ Counts r (now (buf .exit)) ⌝ }
+{
+    io::read_full(STDIN_FILENO, buf)
+}
+
+// What one read more answers where a read has stopped: -1 if reading failed. A terminal is not asked again: what is typed
+// there has ended.
+pub fn next() -> isize
+    ensures { λ r. ⌜ Moved 1 r ⌝ }
+{
     if libc::isatty(STDIN_FILENO) == 1 {
-        return true;
+        return 0;
     }
     let mut next = [0u8; 1];
-    if libc::read(STDIN_FILENO, &mut next) >= 0 {
-        return true;
-    }
-    tell(program, b"standard input can't be read");
-    false
+    libc::read(STDIN_FILENO, &mut next)
 }
 
-// Writes all of text to standard output, or a line says why it could not.
-pub fn write(program: &[u8], text: &[u8]) {
-    if !io::write_all(STDOUT_FILENO, text) {
+// Whether reading has failed, by what one read more answered. Where it has, a line says why.
+pub fn failed(next: isize, program: &[u8]) -> bool
+    ensures { λ r. ⌜ r ≡ ltZ next (pos 0) ⌝ }
+{
+    let negative = next < 0;
+    if negative {
+        tell(program, b"standard input can't be read");
+    }
+    negative
+}
+
+// Whether standard output took the whole text, as its writing answered. Where it did not, a line says why.
+pub fn written(whole: bool, program: &[u8]) -> bool
+    ensures { λ r. ⌜ r ≡ whole ⌝ }
+{
+    if !whole {
         tell(program, b"standard output can't be written whole");
     }
+    whole
 }
 
-// Whether the program was started with no argument. Where it was not, its usage is told: on standard output if --help is the
-// only one, else on standard error.
-pub fn no_arguments(program: &[u8], usage: &[u8]) -> bool {
-    let count = os::arg_count();
-    if count < 2 {
-        return true;
+// Whether a program has no argument, by the count that its own name is part of. Where it has, its usage is told: on standard
+// output if --help is the only one, else on standard error.
+pub fn no_arguments(count: usize, program: &[u8], usage: &[u8]) -> bool
+    ensures { λ r. ⌜ r ≡ ltb count 2 ⌝ }
+{
+    let none = count < 2;
+    if !none {
+        tell_usage(count, program, usage);
     }
+    none
+}
+
+fn tell_usage(count: usize, program: &[u8], usage: &[u8]) {
     if count == 2 && is_help() {
-        write(program, usage);
+        written(io::write_all(STDOUT_FILENO, usage), program);
     } else {
         io::write_all(STDERR_FILENO, usage);
     }
-    false
 }
 
 fn is_help() -> bool {

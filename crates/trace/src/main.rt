@@ -1,10 +1,11 @@
 // Reads a trace from standard input and writes its text to standard output.
+use libc::STDOUT_FILENO;
 use trace_text::limits::TEXT;
 use trace_text::limits::TRACE;
 
 fn write_front(out: &[u8], length: usize) {
     if length <= out.len() {
-        streams::write(b"trace", &out[0..length]);
+        streams::written(io::write_all(STDOUT_FILENO, &out[0..length]), b"trace");
     }
 }
 
@@ -13,7 +14,7 @@ fn run() {
     let mut input = [0u8; TRACE + 1];
     let mut out = [0u8; TEXT];
     let n = streams::read(&mut input);
-    if n <= TRACE && !streams::ended(b"trace") {
+    if n <= TRACE && streams::failed(streams::next(), b"trace") {
         return;
     }
     let t = trace_text::text(&input[..n], &mut out);
@@ -25,7 +26,7 @@ fn run() {
 fn main() {
     let usage =
         b"usage: trace < TRACE > TEXT\nOne line a sample: its place, Y, xi and the decision; a line of stop, a number and a block where it is turned down.\ndocs/EQUALISER.md has the layout, traces/make makes a trace from a text.\n";
-    if streams::no_arguments(b"trace", usage) {
+    if streams::no_arguments(os::arg_count(), b"trace", usage) {
         run();
     }
 }

@@ -1,8 +1,10 @@
 // A file of vectors: each is read a piece at a time and run, and a line says how they went.
+ghost use Prim.Native.Nat.{_≤_};
 ghost use mathlib.Core.Path.{_≡_};
 ghost use lib.ListN.{length};
 ghost use Rattle.trace_text.specs.Text.{textLimit};
 ghost use Rattle.vector_files.specs.Changed.{changed};
+ghost use Rattle.vector_files.specs.Limit.{vectorLimit};
 ghost use Rattle.vector_files.specs.Piece.{Kept, Piece};
 use libc::STDOUT_FILENO;
 use vectors::kind::Kind;
@@ -139,22 +141,28 @@ fn turn(fd: i32, kind: Kind, buf: &mut [u8], out: &mut [u8], place: u64) -> bool
 }
 
 // A proved loop has to end, so it stops at more vectors than a file has.
-fn run(fd: i32, kind: Kind, buf: &mut [u8], out: &mut [u8]) {
+fn run(fd: i32, kind: Kind, buf: &mut [u8], out: &mut [u8]) -> u64
+    ensures { λ r. ⌜ r ≤ vectorLimit ⌝ }
+{
     let mut place: u64 = 0;
     while place < MOST && turn(fd, kind, buf, out, place) {
         place += 1;
     }
+    place
 }
 
-// Runs the vectors of a file, and prints a line.
-pub fn run_file(path: &[u8], kind: Kind) {
+// Runs the vectors of a file, prints a line, and answers how many went well; none where it can't be opened.
+pub fn run_file(path: &[u8], kind: Kind) -> u64
+    ensures { λ r. ⌜ r ≤ vectorLimit ⌝ }
+{
     let fd = os::open_read(path);
     if fd < 0 {
         os::fail(path);
-        return;
+        return 0;
     }
     let mut buf = room();
     let mut out = room();
-    run(fd, kind, &mut buf, &mut out);
+    let count = run(fd, kind, &mut buf, &mut out);
     libc::close(fd);
+    count
 }

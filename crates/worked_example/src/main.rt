@@ -49,7 +49,7 @@ fn run() {
 fn main() {
     let usage =
         b"usage: worked_example\nWrites the image that the specification's two samples leave.\n";
-    if streams::no_arguments(b"worked_example", usage) {
+    if streams::no_arguments(os::arg_count(), b"worked_example", usage) {
         run();
     }
 }
