@@ -40,6 +40,8 @@ pub const MOST_EXPONENT: u8 = 15;
 pub const MOST_WEIGHT: i16 = 16383;
 /// The places for weights, and as many for data: the taps of both filters.
 pub const PLACES: usize = 32;
+/// The length of an image's sizes and M.
+pub const HEADER_BYTES: usize = 12;
 /// The length of the longest image.
 pub const IMAGE_BYTES: usize = 140;
 
@@ -164,7 +166,7 @@ pub fn load(bytes: &[u8]) -> Answer {
 
 /// The length of an image with these tap counts.
 pub const fn image_length(p: u8, q: u8) -> usize {
-    12 + 4 * (p as usize + q as usize)
+    HEADER_BYTES + 4 * (p as usize + q as usize)
 }
 
 /// The greatest M that set-up admits with these sizes; none where one of them
