@@ -97,7 +97,7 @@ image-length e w d =
     ∙ omega (arith, words-long weightWord (taps e) (e .weights) w, words-long datumWord (taps e) (e .past) d)
 
 -- a list after its part from a to e is replaced, where all before it was replaced
-next-part : {A : Type 0} (p ys xs : List A) (a e : ℕ) → length p ≡ a → a + length ys ≡ e → putMid a (e - a) (p ++ drop a xs) ys ≡ (p ++ ys) ++ drop e xs
+pub next-part : {A : Type 0} (p ys xs : List A) (a e : ℕ) → length p ≡ a → a + length ys ≡ e → putMid a (e - a) (p ++ drop a xs) ys ≡ (p ++ ys) ++ drop e xs
 next-part p ys xs a e h k =
     ap₂ (λ l r. l ++ (ys ++ r)) (take-at p (drop a xs) a h)
     (ap (λ r. drop (e - a) r) (drop-at p (drop a xs) a h) ∙ post-is a e xs (omega arith))

@@ -15,7 +15,7 @@ pub struct Saved {
 }
 
 // The sixteen bits of a signed number.
-fn word(z: i16) -> u16
+pub fn word(z: i16) -> u16
     ensures { λ r. ⌜ r ≡ ofZ w16 z ⌝ }
 {
     if z < 0 {

@@ -11,7 +11,7 @@ use Rattle.block.specs.Block.{goes, left}
 use Rattle.block.proofs.BlockSound.{left-sound}
 use Rattle.state.specs.State.{settings, memory, stateOf}
 use Rattle.state.specs.declared.equaliser.Equaliser.{Equaliser}
-use Rattle.state.proofs.SoundLaws.{examined-tests}
+use Rattle.state.proofs.SoundLaws.{Accepted, examined-tests}
 use Rattle.state.proofs.KeptLaws.{settings-is, kept-accepted}
 use Rattle.checks.specs.Checks.{Lent, block, checkNumber}
 use Rattle.checks.specs.Calls.{Sampled}
@@ -38,14 +38,17 @@ module _ (e : Equaliser) (l : Lent) where
       go true = settings-is (settings e) (left (settings e) (memory e) (block l))
       go false = refl
 
-  -- both arrays of the state that an accepted block leaves have their places
+  -- an accepted block leaves an accepted state
   module _ (ok : runNumber e l ≡ 0) (w : length (e .weights) ≡ places) (d : length (e .past) ≡ places) (m : Sampled (l .m)) where
-    pub run-long : (length (runState e l .weights) ≡ places) × (length (runState e l .past) ≡ places)
+    pub run-accepted : Accepted (runState e l)
     unfolding runState
-    run-long =
+    run-accepted =
         let t = run-tests e l ok in
         let c = checked-is e l (t .0) w d m in
         let x = examined-tests e (check-tests e l (t .0) .0) in
         let next = left-sound (settings e) (memory e) (block l) (c .sound) (c .acceptable) (t .1) in
-        let a = kept-accepted (settings e) (left (settings e) (memory e) (block l)) next (x .0) (x .1) in
-        rw (eq-eqb (runNumber e l) 0 ok) (a .weights-long, a .past-long)
+        rw (eq-eqb (runNumber e l) 0 ok) (kept-accepted (settings e) (left (settings e) (memory e) (block l)) next (x .0) (x .1))
+
+    -- both of its arrays have their places
+    pub run-long : (length (runState e l .weights) ≡ places) × (length (runState e l .past) ≡ places)
+    run-long = (run-accepted .weights-long, run-accepted .past-long)

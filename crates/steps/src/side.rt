@@ -12,7 +12,7 @@ ghost use Rattle.steps.specs.Sound.{Summable, Adaptable, Storable};
 const FEW: usize = 4;
 
 // One product more.
-fn mac(sum: i32, w: i16, a: i16) -> i32
+pub fn mac(sum: i32, w: i16, a: i16) -> i32
     requires { ⌜ natAbs (sum +ℤ w *ℤ a) < 2 ^ 31 ⌝ }
     ensures { λ r. ⌜ r ≡ sum +ℤ w *ℤ a ⌝ }
 {

@@ -1,0 +1,43 @@
+-- The lists that a block of a trace is lent: they are N long, and each number stands in the trace.
+use mathlib.Core.Path.{_≡_, refl, ap, ap₂, _∙_}
+use mathlib.Core.Bool.{Bool, true, _&&_}
+use mathlib.Core.List.{List}
+use Prim.Native.Nat.{ℕ, _+_, _<_}
+use native.Mathlib.Omega.{arith}
+use lib.ListN.{length, getD, length-replicate}
+use lib.IntN.{ℤ, pos}
+use borrow.Author.Tests.{eq-eqb}
+use Rattle.laws.specs.Lists.{all}
+use Rattle.laws.specs.Sums.{each-of}
+use Rattle.laws.specs.Tests.{tested-each}
+use Rattle.block.specs.Block.{values}
+use Rattle.block.proofs.ValuesLaws.{values-length, values-at}
+use Rattle.checks.specs.Checks.{lengthsFit}
+use Rattle.trace_text.specs.Trace.{settingsIn, sampleAt, gainAt, entryAt, lentWith, lentAt}
+
+-- a test that every value of f passes
+values-tested : {A : Type 0} (d : A) (p : A → Bool) (f : ℕ → A) (n : ℕ) → ((i : ℕ) → i < n → p (f i) ≡ true) → all p (values f n) ≡ true
+values-tested d p f n h =
+    tested-each p (λ x. p x ≡ true) (λ x e. e) (values f n)
+    (each-of (λ x. p x ≡ true) d (values f n) (λ i k. let l : i < n = omega (arith, values-length f n) in rw (values-at f d n i l) (h i l)))
+
+module _ (t : List ℕ) (first : ℕ) where
+  pub lent-long : lengthsFit (settingsIn t .N) (lentAt t first) ≡ true
+  unfolding lentWith
+  lent-long =
+      let N = settingsIn t .N in
+      simp (
+        eq-eqb _ N (values-length (λ j. sampleAt t (first + j)) N),
+        eq-eqb _ N (values-length (λ j. gainAt t (first + j)) N),
+        eq-eqb _ N (values-length (λ j. entryAt t (first + j)) N),
+        eq-eqb _ N (length-replicate {A = ℤ} N (pos 0)),
+        eq-eqb _ N (length-replicate {A = ℕ} N 0),
+      )
+
+  pub lent-gains : (p : ℕ → Bool) → ((j : ℕ) → j < settingsIn t .N → p (gainAt t (first + j)) ≡ true) → all p (lentAt t first .gains) ≡ true
+  unfolding lentWith
+  lent-gains p h = values-tested 0 p (λ j. gainAt t (first + j)) (settingsIn t .N) h
+
+  pub lent-entries : (p : ℤ → Bool) → ((j : ℕ) → j < settingsIn t .N → p (entryAt t (first + j)) ≡ true) → all p (lentAt t first .entries) ≡ true
+  unfolding lentWith
+  lent-entries p h = values-tested (pos 0) p (λ j. entryAt t (first + j)) (settingsIn t .N) h
