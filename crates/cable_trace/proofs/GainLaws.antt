@@ -1,0 +1,132 @@
+-- The gain: the largest of those that s takes, from the bit length of |s|.
+use mathlib.Core.Path.{_≡_, refl, sym, ap, _∙_, subst}
+use mathlib.Core.Bool.{Bool, true, false, cond, _&&_}
+use mathlib.Core.List.{List}
+use mathlib.Core.Logic.{_⊎_, inl, inr}
+use Prim.Native.Nat.{ℕ, zero, suc, _+_, _*_, _-_, _^_, _≤_, _<_}
+use native.Mathlib.Omega.{arith}
+use native.Mathlib.Nat.{eq-or-lt-of-le, mul-le-mul-left, lt-of-le-of-lt}
+use lib.Dec.{T, leb, ltb}
+use lib.IntN.{ℤ, natAbs}
+use borrow.Author.Tests.{lt-ltb, le-ltb, le-leb, ltb-true, ltb-false, leb-true}
+use Rattle.laws.specs.Lists.{all, and-left, and-right}
+use Rattle.laws.specs.Powers.{split, rises, scale-lt, lower, raise}
+use Rattle.laws.specs.Sums.{Each}
+use Rattle.laws.specs.Tests.{both, each-tested}
+use Rattle.numbers.specs.BitLength.{bitLength}
+use Rattle.numbers.specs.Cut.{rescale}
+use Rattle.numbers.proofs.BitLengthLaws.{bit-length-above, bit-length-le}
+use Rattle.numbers.proofs.CutLaws.{rescale-most}
+use Rattle.steps.specs.Limits.{symbolLimit, gainLimit}
+use Rattle.steps.specs.Settings.{Settings}
+use Rattle.steps.specs.Side.{longest, magnitudes, together}
+use Rattle.steps.proofs.LargestLaws.{together-longest}
+use Rattle.steps.proofs.LongestTests.{by-longest}
+use Rattle.cable_trace.specs.Cable.{takesGain, greatest, gain, hasGain, sample, gainFits}
+use Rattle.cable_trace.specs.Calls.{Gainable}
+
+-- ---- the greatest number that passes
+
+both-ways : true ≡ false → ⊥
+both-ways e = subst T e tt
+
+module _ (test : ℕ → Bool) where
+  pub greatest-most : (g : ℕ) → greatest test g ≤ g
+  unfolding greatest
+  greatest-most zero = omega arith
+  greatest-most (suc g) = go (test (suc g)) (greatest-most g)
+    where
+      go : (b : Bool) → greatest test g ≤ g → cond b (suc g) (greatest test g) ≤ suc g
+      go true rest = omega arith
+      go false rest = omega (arith, rest)
+
+  -- what passes is not above it, and then it passes itself
+  pub greatest-from : (g k : ℕ) → k ≤ g → test k ≡ true → (test (greatest test g) ≡ true) × (k ≤ greatest test g)
+  unfolding greatest
+  greatest-from zero zero h e = (e, omega arith)
+  greatest-from zero (suc k) h e = absurd (omega arith)
+  greatest-from (suc g) k h e = go (test (suc g)) refl (eq-or-lt-of-le h) (λ l. greatest-from g k l e)
+    where
+      go : (b : Bool) → test (suc g) ≡ b → (k ≡ suc g) ⊎ (k < suc g) → (k ≤ g → (test (greatest test g) ≡ true) × (k ≤ greatest test g)) →
+          (test (cond b (suc g) (greatest test g)) ≡ true) × (k ≤ cond b (suc g) (greatest test g))
+      go true f q rest = (f, h)
+      go false f (inl q) rest = absurd (both-ways (sym e ∙ ap test q ∙ f))
+      go false f (inr q) rest = rest (omega arith)
+
+  pub greatest-is : (g k : ℕ) → k ≤ g → test k ≡ true → ((j : ℕ) → k < j → j ≤ g → test j ≡ false) → greatest test g ≡ k
+  greatest-is g k h e none = go (eq-or-lt-of-le (greatest-from g k h e .1))
+    where
+      go : (k ≡ greatest test g) ⊎ (k < greatest test g) → greatest test g ≡ k
+      go (inl q) = sym q
+      go (inr q) = absurd (both-ways (sym (greatest-from g k h e .0) ∙ none (greatest test g) q (greatest-most g)))
+
+-- ---- the largest gain that s takes
+
+module _ (r : ℕ) (s : ℤ) where
+  pub gain-most : gain r s ≤ gainLimit
+  unfolding gain
+  gain-most = greatest-most (takesGain r s) gainLimit
+
+  -- where there is a gain, none that s takes is larger; where there is none, s takes no gain
+  pub gain-largest : (g : ℕ) → g ≤ gainLimit → takesGain r s g ≡ true → (hasGain r s ≡ true) × (g ≤ gain r s)
+  unfolding gain
+  gain-largest g h e = greatest-from (takesGain r s) gainLimit g h e
+
+  gain-is : (g : ℕ) → g ≤ gainLimit → natAbs s * 2 ^ g < 2 ^ (15 + r) → ((j : ℕ) → g < j → j ≤ gainLimit → 2 ^ (15 + r) ≤ natAbs s * 2 ^ j) → gain r s ≡ g
+  unfolding gain
+  gain-is g h e none = greatest-is (takesGain r s) gainLimit g h (lt-ltb _ _ e) (λ j l m. le-ltb _ _ (none j l m))
+
+  -- no more digits than r: the largest there is
+  pub gain-few : bitLength (natAbs s) ≤ r → 15 ≡ gain r s
+  gain-few h = sym (gain-is 15 (omega arith) (raise (natAbs s) (15 + r) r 15 (omega arith) below) (λ j l m. absurd (omega arith)))
+    where
+      below : natAbs s < 2 ^ r
+      below = omega (arith, bit-length-above (natAbs s), rises h)
+
+  -- a bit length is the least power that s is below
+  pub gain-many : r < bitLength (natAbs s) → bitLength (natAbs s) ≤ 15 + r → 15 + r - bitLength (natAbs s) ≡ gain r s
+  gain-many h k = sym (gain-is (15 + r - n) (omega arith) (raise (natAbs s) (15 + r) n (15 + r - n) (omega arith) (bit-length-above (natAbs s))) larger)
+    where
+      n : ℕ
+      n = bitLength (natAbs s)
+
+      larger : (j : ℕ) → 15 + r - n < j → j ≤ gainLimit → 2 ^ (15 + r) ≤ natAbs s * 2 ^ j
+      larger j l m = go (ltb (natAbs s * 2 ^ j) (2 ^ (15 + r))) refl
+        where
+          go : (b : Bool) → ltb (natAbs s * 2 ^ j) (2 ^ (15 + r)) ≡ b → 2 ^ (15 + r) ≤ natAbs s * 2 ^ j
+          go true e = absurd (omega (arith, l, k, bit-length-le (natAbs s) (15 + r - j) (lower (natAbs s) (15 + r) (15 + r - j) j (omega arith) (ltb-true _ _ e))))
+          go false e = ltb-false _ _ e
+
+  -- with a gain, |s| < 2^(15+r)
+  pub gain-bits : hasGain r s ≡ true → bitLength (natAbs s) ≤ 15 + r
+  gain-bits e =
+      bit-length-le (natAbs s) (15 + r)
+      (omega (arith, ltb-true (natAbs s * 2 ^ gain r s) (2 ^ (15 + r)) e, mul-le-mul-left (natAbs s) (rises {a = 0} {b = gain r s} (omega arith))))
+
+  -- |m| < 2^15
+  pub sample-small : hasGain r s ≡ true → natAbs (sample r s) < 2 ^ 15
+  unfolding sample
+  sample-small e =
+      lower (natAbs (rescale s (gain r s) r)) (15 + r) 15 r (omega arith) (lt-of-le-of-lt (rescale-most s (gain r s) r) (ltb-true _ _ e))
+
+-- ---- the gains of a list
+
+module _ (k : Settings) (L-most : k .L ≤ gainLimit) where
+  fits-below : (s : ℤ) → gainFits k s ≡ true → natAbs s < 2 ^ (15 + k .r - k .L)
+  fits-below s e =
+      lower (natAbs s) (15 + k .r) (15 + k .r - k .L) (k .L) (omega arith)
+      (lt-of-le-of-lt (mul-le-mul-left (natAbs s) (rises (leb-true (k .L) (gain (k .r) s) (and-right (hasGain (k .r) s) (leb (k .L) (gain (k .r) s)) e))))
+      (ltb-true _ _ (and-left (hasGain (k .r) s) (leb (k .L) (gain (k .r) s)) e)))
+
+  below-fits : (s : ℤ) → natAbs s < 2 ^ (15 + k .r - k .L) → gainFits k s ≡ true
+  below-fits s h =
+      let t = gain-largest (k .r) s (k .L) L-most (lt-ltb _ _ (raise (natAbs s) (15 + k .r) (15 + k .r - k .L) (k .L) (omega arith) h)) in
+      both (hasGain (k .r) s) (leb (k .L) (gain (k .r) s)) (t .0) (le-leb (k .L) (gain (k .r) s) (t .1))
+
+  -- by the bits of every |s| together
+  pub gains-fit : (l : List ℤ) → leb (bitLength (together (magnitudes l))) (15 + k .r - k .L) ≡ all (gainFits k) l
+  gains-fit l = ap (λ (n : ℕ). leb n (15 + k .r - k .L)) (together-longest l) ∙ by-longest (gainFits k) (15 + k .r - k .L) fits-below below-fits l
+
+pub gains-each : (k : Settings) (l : List ℤ) → k .r ≤ symbolLimit → all (gainFits k) l ≡ true → Each (Gainable (k .r)) l
+gains-each k l h e =
+    each-tested (gainFits k) (Gainable (k .r)) (λ s f. record { r-most = h; has = and-left (hasGain (k .r) s) (leb (k .L) (gain (k .r) s)) f }) l e

@@ -1,0 +1,5 @@
+pub mod GainLaws
+pub mod LineLaws
+pub mod PutLaws
+pub mod CauseLaws
+pub mod SumLaws

@@ -1,0 +1,186 @@
+-- The symbols in a line, the windows of it, and sums over them.
+use mathlib.Core.Path.{_≡_, refl, sym, ap, ap₂, _∙_}
+use mathlib.Core.Bool.{Bool, true, false, cond}
+use mathlib.Core.List.{List, []}
+use Prim.Native.Nat.{ℕ, suc, _+_, _*_, _-_, _^_, _≤_, _<_}
+use native.Mathlib.Omega.{arith}
+use native.Mathlib.Nat.{mul-le-mul-right}
+use native.Mathlib.Numerals.{add-one}
+use lib.Dec.{leb, ltb}
+use lib.ListN.{length, getD, take, drop, set, length-set, length-take, length-drop, length-replicate, getD-replicate, List·getD-eq-default}
+use lib.Seq.{take-all, length-take-le, getD-take, getD-drop, getD-set-same, getD-set-other, ext-getD}
+use lib.IntN.{ℤ, pos, natAbs, _+ℤ_, _*ℤ_}
+use borrow.Author.Tests.{lt-ltb, le-ltb, le-leb, lt-leb, ltb-true, ltb-false, leb-true, leb-false}
+use Rattle.laws.specs.Sums.{Each, each-at, each-of, each-take, each-drop, dot, dot-next, dot-bound}
+use Rattle.block.specs.Block.{values}
+use Rattle.block.proofs.ValuesLaws.{values-length, values-at}
+use Rattle.cable_trace.specs.Limits.{responseLimit, sentLimit, lineLength}
+use Rattle.cable_trace.specs.Cable.{sentBefore}
+use Rattle.cable_trace.specs.Calls.{place, placed, lineOf, emptyLine, emptySums, window, Summable, Sumsable}
+
+-- ---- lists of values
+
+pub values-same : {A : Type 0} (d : A) (f g : ℕ → A) (n : ℕ) → ((i : ℕ) → i < n → f i ≡ g i) → values f n ≡ values g n
+values-same d f g n h =
+    ext-getD d (values f n) (values g n) (values-length f n ∙ sym (values-length g n))
+    (λ i k. let l : i < n = omega (arith, values-length f n) in values-at f d n i l ∙ h i l ∙ sym (values-at g d n i l))
+
+-- one value that is another
+set-values : {A : Type 0} (d : A) (f g : ℕ → A) (n j : ℕ) (x : A) → j < n → x ≡ g j → ((i : ℕ) → (i ≡ j → ⊥) → f i ≡ g i) → set (values f n) j x ≡ values g n
+set-values d f g n j x h e same =
+    ext-getD d (set (values f n) j x) (values g n) (length-set (values f n) j x ∙ values-length f n ∙ sym (values-length g n))
+    (λ i k. let l : i < n = omega (arith, length-set (values f n) j x, values-length f n) in at i l ∙ sym (values-at g d n i l))
+  where
+    at : (i : ℕ) → i < n → getD (set (values f n) j x) i d ≡ g i
+    at i l = go (ltb i j) (ltb j i) refl refl
+      where
+        other : (i ≡ j → ⊥) → getD (set (values f n) j x) i d ≡ g i
+        other q = getD-set-other (values f n) j i x d q ∙ values-at f d n i l ∙ same i q
+
+        go : (a b : Bool) → ltb i j ≡ a → ltb j i ≡ b → getD (set (values f n) j x) i d ≡ g i
+        go true b p q = other (λ z. absurd (omega (arith, ltb-true i j p, z)))
+        go false true p q = other (λ z. absurd (omega (arith, ltb-true j i q, z)))
+        go false false p q =
+            let z : i ≡ j = omega (arith, ltb-false i j p, ltb-false j i q) in
+            rw z (getD-set-same (values f n) j x d (omega (arith, values-length f n)) ∙ e)
+
+-- an element, or the default
+pub each-default : (P : ℤ → Type 0) (l : List ℤ) (i : ℕ) → Each P l → P (pos 0) → P (getD l i (pos 0))
+each-default P l i h z = go (ltb i (length l)) refl
+  where
+    go : (b : Bool) → ltb i (length l) ≡ b → P (getD l i (pos 0))
+    go true e = each-at P l i (pos 0) h (ltb-true i (length l) e)
+    go false e = rw (List·getD-eq-default l (pos 0) {n = i} (ltb-false i (length l) e)) z
+
+-- ---- the line
+
+take-none : (k n : ℕ) (l : List ℤ) → k ≤ n → getD (take k l) n (pos 0) ≡ pos 0
+take-none k n l h = List·getD-eq-default (take k l) (pos 0) {n = n} (omega (arith, length-take k l))
+
+pub empty-line : length emptyLine ≡ lineLength
+unfolding emptyLine
+empty-line = length-replicate lineLength (pos 0)
+
+pub empty-sums : length emptySums ≡ sentLimit
+unfolding emptySums
+empty-sums = length-replicate sentLimit (pos 0)
+
+line-none : emptyLine ≡ lineOf []
+unfolding emptyLine
+line-none =
+    ext-getD (pos 0) emptyLine (lineOf []) (empty-line ∙ sym (values-length (placed []) lineLength))
+    (λ i k. let l : i < lineLength = omega (arith, empty-line) in
+    getD-replicate lineLength i (pos 0) (pos 0) l ∙ sym (values-at (placed []) (pos 0) lineLength i l ∙ nothing i (ltb i sentLimit)))
+  where
+    nothing : (i : ℕ) (b : Bool) → cond b (getD [] (place i) (pos 0)) (pos 0) ≡ pos 0
+    nothing i true = refl
+    nothing i false = refl
+
+-- one symbol more
+pub line-next : (l : List ℤ) (i : ℕ) → i < length l → length l ≤ sentLimit → set (lineOf (take i l)) (place i) (getD l i (pos 0)) ≡ lineOf (take (suc i) l)
+line-next l i h k = set-values (pos 0) (placed (take i l)) (placed (take (suc i) l)) lineLength (place i) (getD l i (pos 0)) (omega arith) new old
+  where
+    back : place (place i) ≡ i
+    back = omega arith
+
+    new : getD l i (pos 0) ≡ placed (take (suc i) l) (place i)
+    new =
+        sym (ap (λ (b : Bool). cond b (getD (take (suc i) l) (place (place i)) (pos 0)) (pos 0)) (lt-ltb (place i) sentLimit (omega arith))
+        ∙ ap (λ (n : ℕ). getD (take (suc i) l) n (pos 0)) back ∙ getD-take (suc i) l i (pos 0) (omega arith))
+
+    old : (j : ℕ) → (j ≡ place i → ⊥) → placed (take i l) j ≡ placed (take (suc i) l) j
+    old j q = go (ltb j sentLimit) refl
+      where
+        inside : (b : Bool) → ltb (place j) i ≡ b → j < sentLimit → getD (take i l) (place j) (pos 0) ≡ getD (take (suc i) l) (place j) (pos 0)
+        inside true f s = getD-take i l (place j) (pos 0) (ltb-true (place j) i f) ∙ sym (getD-take (suc i) l (place j) (pos 0) (omega (arith, ltb-true (place j) i f)))
+        inside false f s = take-none i (place j) l (ltb-false (place j) i f) ∙ sym (take-none (suc i) (place j) l after)
+          where
+            after : suc i ≤ place j
+            after = go (ltb i (place j)) refl
+              where
+                go : (b : Bool) → ltb i (place j) ≡ b → suc i ≤ place j
+                go true t = ltb-true i (place j) t
+                go false t = absurd (q (omega (arith, s, ltb-false i (place j) t, ltb-false (place j) i f)))
+
+        go : (b : Bool) → ltb j sentLimit ≡ b → cond b (getD (take i l) (place j) (pos 0)) (pos 0) ≡ cond b (getD (take (suc i) l) (place j) (pos 0)) (pos 0)
+        go true e = inside (ltb (place j) i) refl (ltb-true j sentLimit e)
+        go false e = refl
+
+-- a line that holds the first i symbols
+pub record Lined (symbols : List ℤ) (i : ℕ) (line : List ℤ) : Type 0 where
+  pub long : length line ≡ lineLength
+  pub few : length symbols ≤ sentLimit
+  pub is : line ≡ lineOf (take i symbols)
+
+pub lined-none : (symbols line : List ℤ) → length symbols ≤ sentLimit → line ≡ emptyLine → Lined symbols 0 line
+lined-none symbols line h e = record { long = ap length e ∙ empty-line; few = h; is = e ∙ line-none }
+
+module _ {symbols : List ℤ} {i : ℕ} {line : List ℤ} (w : Lined symbols i line) where
+  pub lined-next : (j : ℕ) (x : ℤ) → i < length symbols → j ≡ place i → x ≡ getD symbols i (pos 0) → Lined symbols (i + 1) (set line j x)
+  lined-next j x h e f = record {
+    long = length-set line j x ∙ w .long;
+    few = w .few;
+    is =
+        ap₂ (λ (a : List ℤ) (y : ℤ). set a j y) (w .is) f ∙ ap (λ (n : ℕ). set (lineOf (take i symbols)) n (getD symbols i (pos 0))) e ∙ line-next symbols i h (w .few)
+        ∙ ap (λ (n : ℕ). lineOf (take n symbols)) (sym (add-one i));
+  }
+
+  pub lined-all : length symbols ≤ i → line ≡ lineOf symbols
+  lined-all h = w .is ∙ ap lineOf (take-all i symbols h)
+
+pub line-small : (P : ℤ → Type 0) (l : List ℤ) → Each P l → P (pos 0) → Each P (lineOf l)
+line-small P l h z = each-of P (pos 0) (lineOf l) (λ i k. rw (values-at (placed l) (pos 0) lineLength i (omega (arith, values-length (placed l) lineLength))) (go i (ltb i sentLimit)))
+  where
+    go : (i : ℕ) (b : Bool) → P (cond b (getD l (place i) (pos 0)) (pos 0))
+    go i true = each-default P l (place i) h z
+    go i false = z
+
+-- ---- a window: the symbols that are newest at n
+
+window-long : (line : List ℤ) (k n : ℕ) → length line ≡ lineLength → k ≤ responseLimit → length (window line k n) ≡ k
+window-long line k n l h = length-take-le k (drop (place n) line) (omega (arith, length-drop (place n) line))
+
+pub window-is : (l : List ℤ) (k n : ℕ) → k ≤ responseLimit → n < sentLimit → window (lineOf l) k n ≡ values (sentBefore l n) k
+window-is l k n h m =
+    ext-getD (pos 0) (window (lineOf l) k n) (values (sentBefore l n) k) (long ∙ sym (values-length (sentBefore l n) k))
+    (λ j b. let s : j < k = omega (arith, long) in at j s ∙ sym (values-at (sentBefore l n) (pos 0) k j s))
+  where
+    long : length (window (lineOf l) k n) ≡ k
+    long = window-long (lineOf l) k n (values-length (placed l) lineLength) h
+
+    at : (j : ℕ) → j < k → getD (window (lineOf l) k n) j (pos 0) ≡ sentBefore l n j
+    at j s =
+        getD-take k (drop (place n) (lineOf l)) j (pos 0) s ∙ getD-drop (place n) (lineOf l) j (pos 0)
+        ∙ values-at (placed l) (pos 0) lineLength (place n + j) (omega arith) ∙ go (leb j n) refl
+      where
+        go : (b : Bool) → leb j n ≡ b → placed l (place n + j) ≡ cond b (getD l (n - j) (pos 0)) (pos 0)
+        go true e =
+            let back : place (place n + j) ≡ n - j = omega (arith, leb-true j n e) in
+            ap (λ (b : Bool). cond b (getD l (place (place n + j)) (pos 0)) (pos 0)) (lt-ltb (place n + j) sentLimit (omega (arith, leb-true j n e)))
+            ∙ ap (λ (i : ℕ). getD l i (pos 0)) back
+        go false e = ap (λ (b : Bool). cond b (getD l (place (place n + j)) (pos 0)) (pos 0)) (le-ltb (place n + j) sentLimit (omega (arith, leb-false j n e)))
+
+-- ---- sums
+
+pub sum-next : (h v : List ℤ) (i : ℕ) (t : ℤ) → Summable h v → i < length h → t ≡ dot (take i h) (take i v) →
+    t +ℤ getD h i (pos 0) *ℤ getD v i (pos 0) ≡ dot (take (i + 1) h) (take (i + 1) v)
+sum-next h v i t s l e =
+    ap (λ (x : ℤ). x +ℤ getD h i (pos 0) *ℤ getD v i (pos 0)) e ∙ sym (dot-next i h v l (omega (arith, s .same-length)))
+    ∙ ap (λ (j : ℕ). dot (take j h) (take j v)) (sym (add-one i))
+
+-- each partial sum is below 2^25
+pub sum-bound : (h v : List ℤ) (j : ℕ) → Summable h v → natAbs (dot (take j h) (take j v)) < 2 ^ 25
+sum-bound h v j s =
+    omega (arith, dot-bound (2 ^ 15) (2 ^ 4) (take j h) (take j v) (each-take _ j h (s .h-small)) (each-take _ j v (s .v-small)), length-take j h, s .few)
+
+pub sum-all : (h v : List ℤ) (i : ℕ) → Summable h v → length h ≤ i → dot (take i h) (take i v) ≡ dot h v
+sum-all h v i s l = ap₂ dot (take-all i h l) (take-all i v (omega (arith, s .same-length)))
+
+-- the response and a window
+pub window-summable : (h line : List ℤ) (m n : ℕ) → Sumsable h line m → Summable h (window line (length h) n)
+window-summable h line m n s = record {
+  same-length = sym (window-long line (length h) n (s .line-long) (s .few));
+  few = s .few;
+  h-small = s .h-small;
+  v-small = each-take _ (length h) (drop (place n) line) (each-drop _ (place n) line (s .line-small));
+}

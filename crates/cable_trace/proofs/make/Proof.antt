@@ -1,0 +1,144 @@
+-- The symbols in a line, s of each, and the trace where every gain fits.
+use mathlib.Core.Path.{_≡_, refl, sym, ap, ap₂, _∙_}
+use mathlib.Core.Bool.{true, false}
+use mathlib.Core.List.{List, _++_}
+use Prim.Native.Nat.{ℕ, _+_, _-_, _≤_}
+use native.Mathlib.Omega.{arith}
+use lib.Dec.{leb}
+use lib.ListN.{length, take, length-append}
+use lib.Seq.{take-at}
+use lib.IntN.{ℤ}
+use borrow.Author.Needs.{needs}
+use borrow.Author.Tests.{le-leb, lt-leb}
+use borrow.Rule.Slice.PartMut.{midOf, postOf, mid-len}
+use Rattle.laws.specs.Lists.{all}
+use Rattle.numbers.specs.BitLength.{bitLength}
+use Rattle.steps.specs.Settings.{Within}
+use Rattle.steps.specs.Side.{magnitudes, together}
+use Rattle.block.specs.Block.{values}
+use Rattle.block.proofs.ValuesLaws.{values-length}
+use Rattle.state.proofs.SizesLaws.{settings-tests, fit-within}
+use Rattle.cable_trace.specs.Cable.{Cable, s, sampleCount, gainFits}
+use Rattle.cable_trace.specs.Answers.{cableOf}
+use Rattle.cable_trace.specs.Calls.{sums}
+use Rattle.cable_trace.proofs.CauseLaws.{Listed, listed}
+use Rattle.cable_trace.proofs.GainLaws.{gains-fit, gains-each}
+use Rattle.cable_trace.proofs.LineLaws.{empty-sums}
+use Rattle.cable_trace.proofs.SumLaws.{sums-are, line-summable, trace-is}
+use Rattle.cable_trace.proofs.make.Statement.{statement}
+use Rattle.cable_trace.proofs.make.Tie as tie
+
+abbrev cable : tie.Start → Cable
+cable c = let a = c .args in cableOf (a .p) (a .q) (a .n) (a .r) (a .l) (a .m) (a .response .now) (a .symbols .now) (a .training)
+
+fitting : (c : tie.Start) → Listed (cable c) (length (c .args .out .now))
+fitting c = listed (cable c) (length (c .args .out .now)) (c .pre .lists)
+
+within : (c : tie.Start) → Within (cable c .settings)
+within c = fit-within (cable c .settings) (settings-tests (cable c .settings) (c .pre .settings) .0)
+
+-- ---- the places from the last call back to the start
+
+abbrev areas : tie.After-line2 → tie.After-empty-sums
+areas c = c .before .before .before
+
+abbrev start : tie.After-empty-sums → tie.Start
+start c = c .before .before .before
+
+abbrev placed : tie.After-sums → tie.After-line2
+placed c = c .before .before .before
+
+abbrev begin : tie.After-sums → tie.Start
+begin c = start (areas (placed c))
+
+line-requires : tie.Need-line-requires
+line-requires c κs = let a = c .before .before in (fitting (start a) .few, a .before .empty-line .ensures)
+
+-- ---- the sums
+
+-- the work area has a place for each symbol
+area-long : (c : tie.After-empty-sums) → sampleCount (cable (start c)) ≤ length (c .empty-sums .result)
+area-long c = omega (arith, ap length (c .empty-sums .ensures) ∙ empty-sums, fitting (start c) .few)
+
+part-long : (c : tie.After-empty-sums) → let k = sampleCount (cable (start c)) in length (midOf 0 (k - 0) (c .empty-sums .result)) ≡ k
+part-long c = let k = sampleCount (cable (start c)) in mid-len 0 k (c .empty-sums .result) (area-long c) ∙ omega arith
+
+part-sums-end : tie.Need-part-sums-end
+part-sums-end c = area-long (areas (c .before .before))
+
+sums-requires : tie.Need-sums-requires
+sums-requires c κs =
+    let b = begin c in
+    rw (placed c .line2 .ensures, part-long (areas (placed c)))
+    (line-summable (cable b) (fitting b .few) (fitting b .response-most) (within b .r-most) (fitting b .symbols) (placed c .before .before .sixteen-bits .ensures))
+
+summed : (c : tie.After-sums2) → let k = cable (begin (c .before)) in c .sums2 .last .1 .1 .0 ≡ values (s k) (sampleCount k)
+summed c =
+    let b = begin (c .before) in
+    c .sums2 .ensures .0
+    ∙ ap₂ (λ (l : List ℤ) (n : ℕ). sums (b .args .response .now) l n) (placed (c .before) .line2 .ensures) (part-long (areas (placed (c .before))))
+    ∙ sums-are (cable b) (fitting b .few) (fitting b .response-most)
+
+sub-if1 : tie.Need-sub-if1
+sub-if1 c = omega (arith, within (begin (c .before .before)) .L-most)
+
+-- every gain, by the bits of the sums
+fit : (c : tie.After-bit-length) → let k = cable (begin (c .before .before .before)) in
+    leb (c .bit-length .result) (15 + k .settings .r - k .settings .L) ≡ all (gainFits (k .settings)) (values (s k) (sampleCount k))
+fit c =
+    let m = c .before .before in
+    let b = begin (m .before) in
+    let k = cable b in
+    ap (λ (n : ℕ). leb n (15 + k .settings .r - k .settings .L)) (c .bit-length .ensures ∙ ap bitLength (m .sums2 .ensures .1 ∙ ap (λ (l : List ℤ). together (magnitudes l)) (summed m)))
+    ∙ gains-fit (k .settings) (within b .L-most) (values (s k) (sampleCount k))
+
+returns : tie.Need-returns
+returns c = record { fit-is = sym (lt-leb _ _ (c .if1 .taken)) ∙ fit (c .before); contents = refl }
+
+-- ---- the trace
+
+abbrev measured : tie.After-trace-arg2 → tie.After-bit-length
+measured c = c .before .before .before .before
+
+-- the sums that were written stand in front of the work area
+written : (c : tie.After-bit-length) → let k = cable (begin (c .before .before .before)) in
+    take (sampleCount k - 0) (c .before .before .sums2 .last .1 .1 .0 ++ postOf 0 (sampleCount k - 0) (areas (placed (c .before .before .before)) .empty-sums .result)) ≡ values (s k) (sampleCount k)
+written c =
+    let m = c .before .before in
+    let k = cable (begin (m .before)) in
+    take-at (m .sums2 .last .1 .1 .0) _ (sampleCount k - 0) (ap length (summed m) ∙ values-length (s k) (sampleCount k) ∙ omega arith) ∙ summed m
+
+part-trace-end : tie.Need-part-trace-end
+part-trace-end c =
+    let m = c .before .before .before .before in
+    let k = cable (begin (m .before)) in
+    omega (arith, length-append (m .sums2 .last .1 .1 .0) (postOf 0 (sampleCount k - 0) (areas (placed (m .before)) .empty-sums .result)), ap length (summed m) ∙ values-length (s k) (sampleCount k))
+
+gains : (c : tie.Else1) → let k = cable (begin (c .before .before .before .before)) in all (gainFits (k .settings)) (values (s k) (sampleCount k)) ≡ true
+gains c = sym (fit (c .before)) ∙ le-leb _ _ (c .if1 .left)
+
+trace-requires : tie.Need-trace-requires
+trace-requires c κs =
+    let b = begin (measured c .before .before .before) in
+    let k = cable b in
+    rw (written (measured c))
+    (record {
+      N-least = within b .N-least;
+      few = fitting b .few;
+      same-length = values-length (s k) (sampleCount k);
+      gains = gains-each (k .settings) (values (s k) (sampleCount k)) (within b .r-most) (gains (c .before .before .before));
+      room = fitting b .room-is;
+    })
+
+returns-2 : tie.Need-returns-2
+returns-2 c =
+    let a = c .before .before .before in
+    record { fit-is = sym (gains (a .before .before .before)); contents = c .before .before .trace .ensures ∙ trace-is (cable (begin (measured a .before .before .before))) _ (written (measured a)) }
+
+pub make-spec : {M : Type 1} → statement M
+make-spec =
+    tie.close
+    (tie.spec
+    (λ c κs. search needs) (λ c κs. search needs) (λ c κs. search needs) (λ c. search needs) line-requires (λ c. search needs) (λ c. search needs) (λ c. search needs)
+    part-sums-end sums-requires (λ c. search needs) sub-if1 (λ c. search needs) (λ c κs. search needs) returns
+    (λ c. search needs) (λ c. search needs) part-trace-end trace-requires (λ c. search needs) returns-2)

@@ -1,0 +1,95 @@
+-- What the functions of the cable ask of each other.
+use mathlib.Core.Path.{_≡_}
+use mathlib.Core.Bool.{Bool, true, cond}
+use mathlib.Core.List.{List, _++_}
+use Prim.Native.Nat.{ℕ, _+_, _*_, _-_, _/_, _^_, _≤_}
+use lib.Dec.{ltb}
+use lib.ListN.{length, getD, take, drop, replicate}
+use lib.IntN.{ℤ, pos, natAbs}
+use Rattle.laws.specs.Lists.{all}
+use Rattle.laws.specs.Sums.{Each, dot}
+use mir.Syntax.{w8}
+use mir.Val.{ofZ}
+use Rattle.steps.specs.Limits.{symbolLimit}
+use Rattle.steps.specs.Settings.{Settings}
+use Rattle.block.specs.Block.{values}
+use Rattle.cable_trace.specs.Limits.{responseLimit, sentLimit, lineLength}
+use Rattle.state.specs.Sizes.{settingsNumber}
+use Rattle.trace_text.specs.Trace.{headerLength}
+use Rattle.cable_trace.specs.Cable.{Cable, s, hasGain, sampleCount, traceHeader, sampleBytes, joined, cableTrace, gainFits, listCause}
+
+-- ---- the symbols in a line, newest first, and 0 from place sentLimit on
+
+abbrev pub place : ℕ → ℕ
+place n = sentLimit - 1 - n
+
+abbrev pub placed : List ℤ → ℕ → ℤ
+placed symbols i = cond (ltb i sentLimit) (getD symbols (place i) (pos 0)) (pos 0)
+
+abbrev pub lineOf : List ℤ → List ℤ
+lineOf symbols = values (placed symbols) lineLength
+
+-- work areas before they are written: a line, and s of each symbol
+unfoldable pub emptyLine : List ℤ
+emptyLine = replicate lineLength (pos 0)
+
+unfoldable pub emptySums : List ℤ
+emptySums = replicate sentLimit (pos 0)
+
+-- the k symbols that are newest at place n
+abbrev pub window : List ℤ → ℕ → ℕ → List ℤ
+window line k n = take k (drop (place n) line)
+
+-- ---- sums
+
+-- a response and as many symbols
+pub record Summable (h v : List ℤ) : Type 0 where
+  pub same-length : length h ≡ length v
+  pub few : length h ≤ responseLimit
+  pub h-small : Each (λ (x : ℤ). natAbs x ≤ 2 ^ 15) h
+  pub v-small : Each (λ (x : ℤ). natAbs x ≤ 2 ^ 4) v
+
+-- s of each of n symbols, from their line
+abbrev pub sums : List ℤ → List ℤ → ℕ → List ℤ
+sums h line n = values (λ i. dot h (window line (length h) i)) n
+
+pub record Sumsable (h line : List ℤ) (n : ℕ) : Type 0 where
+  pub few : length h ≤ responseLimit
+  pub h-small : Each (λ (x : ℤ). natAbs x ≤ 2 ^ 15) h
+  pub line-long : length line ≡ lineLength
+  pub line-small : Each (λ (x : ℤ). natAbs x ≤ 2 ^ 4) line
+  pub n-most : n ≤ sentLimit
+
+-- ---- a sample
+
+-- an s that has a gain
+pub record Gainable (r : ℕ) (s : ℤ) : Type 0 where
+  pub r-most : r ≤ symbolLimit
+  pub has : hasGain r s ≡ true
+
+-- ---- the trace
+
+-- with s of each symbol
+abbrev pub traceBytes : Settings → List ℤ → ℕ → List ℤ → List ℕ
+traceBytes k symbols training sums =
+    traceHeader k (length symbols / k .N)
+    ++ (joined (λ n. sampleBytes (k .r) (getD sums n (pos 0))) (length sums)
+    ++ values (λ n. ofZ w8 (cond (ltb n training) (getD symbols n (pos 0)) (pos 0))) (length symbols))
+
+pub record Puttable (N r : ℕ) (symbols sums : List ℤ) (out : List ℕ) : Type 0 where
+  pub N-least : 1 ≤ N
+  pub few : length symbols ≤ sentLimit
+  pub same-length : length sums ≡ length symbols
+  pub gains : Each (Gainable r) sums
+  pub room : length out ≡ headerLength + 4 * length symbols
+
+-- ---- a cable whose settings and lists fit
+
+pub record Makeable (c : Cable) (room : ℕ) : Type 0 where
+  pub settings : settingsNumber (c .settings) ≡ 0
+  pub lists : listCause c room ≡ 0
+
+-- whether the gains fit, and the output at the end
+pub record Made (c : Cable) (before : List ℕ) (fit : Bool) (after : List ℕ) : Type 0 where
+  pub fit-is : fit ≡ all (gainFits (c .settings)) (values (s c) (sampleCount c))
+  pub contents : after ≡ cond fit (cableTrace c) before

@@ -1,0 +1,14 @@
+// The limits of a cable, and the lengths that follow from those of a trace.
+use trace_text::limits;
+
+// Values of a response.
+pub const RESPONSE: usize = 32;
+
+// Blocks of a trace.
+pub const COUNT: usize = 65535;
+
+// Symbols: a sample and its training entry take 4 bytes of the trace.
+pub const SENT: usize = (limits::TRACE - limits::HEADER) / 4;
+
+// Places of a line: those of the symbols, and what was there before the first.
+pub const LINE: usize = SENT + RESPONSE;
