@@ -28,7 +28,7 @@ pub fn line(place: u32, y: i32, xi: u8, decision: i8, at: usize, out: &mut [u8])
 }
 
 // A word.
-fn word(text: &[u8], at: usize, out: &mut [u8]) -> usize
+pub fn word(text: &[u8], at: usize, out: &mut [u8]) -> usize
     requires { ⌜ at + length (now text) ≤ length (now out) ⌝ }
     ensures { λ r. ⌜ TextAt at (now (text .entry)) (now (out .entry)) r (now (out .exit)) ⌝ }
 {

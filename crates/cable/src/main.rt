@@ -1,0 +1,32 @@
+// Reads a description of a cable from standard input and writes its trace to standard output.
+use description::limits::DESCRIPTION;
+use libc::STDOUT_FILENO;
+use trace_text::limits::TRACE;
+
+fn write_front(out: &[u8], length: usize) {
+    if length <= out.len() {
+        streams::written(io::write_all(STDOUT_FILENO, &out[0..length]), b"cable");
+    }
+}
+
+// One byte more than a description may have, so that an oversize one is seen.
+fn run() {
+    let mut input = [0u8; DESCRIPTION + 1];
+    let mut out = [0u8; TRACE];
+    let n = streams::read(&mut input);
+    if n <= DESCRIPTION && streams::failed(streams::next(), b"cable") {
+        return;
+    }
+    let w = description::described(&input[..n], &mut out);
+    if w.fits {
+        write_front(&out, w.length);
+    }
+}
+
+fn main() {
+    let usage =
+        b"usage: cable < DESCRIPTION > TRACE\nThe trace that a station receives over the cable; or one line that begins with cable: and a number, where it is turned down.\ndocs/EQUALISER.md has the layout; lab/run tries step sizes on a cable that a text describes.\n";
+    if streams::no_arguments(os::arg_count(), b"cable", usage) {
+        run();
+    }
+}

@@ -1,0 +1,4 @@
+pub mod Texts
+pub mod Description
+pub mod Calls
+pub mod Piped
