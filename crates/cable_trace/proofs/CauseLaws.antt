@@ -185,3 +185,23 @@ module _ (c : Cable) (before : List ℕ) where
       made false after d =
           let g = sym (d .fit-is) in
           record { output = record { number-is = simp (a, b, g); contents = simp (a, b, g) (d .contents) }; cause-is = simp (a, b, g) }
+
+-- ---- where a length is a cause, the output's length does not count
+
+pub too-long : (c : Cable) → traceLimit < traceLength c → lengthCause c ≡ 0 → ⊥
+too-long c h z = absurd (omega (arith, h, lengths-few c z))
+
+module _ (c : Cable) (a b : ℕ) (h : lengthCause c ≡ 0 → ⊥) where
+  pub cause-same : cause c a ≡ cause c b
+  unfolding cause listCause
+  cause-same = simp (ne-eqb (lengthCause c) 0 h)
+
+  pub number-same : cableNumber c a ≡ cableNumber c b
+  unfolding cableNumber
+  number-same = ap (λ (k : ℕ). cond (eqb (settingsNumber (c .settings)) 0) (cond (eqb k 0) 0 10) (settingsNumber (c .settings))) cause-same
+
+-- ---- settings that are turned down
+
+pub number-settings : (c : Cable) (room : ℕ) → (settingsNumber (c .settings) ≡ 0 → ⊥) → cableNumber c room ≡ settingsNumber (c .settings)
+unfolding cableNumber
+number-settings c room h = simp (ne-eqb (settingsNumber (c .settings)) 0 h)

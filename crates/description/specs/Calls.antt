@@ -6,8 +6,18 @@ use Prim.Native.Nat.{ℕ, _+_, _*_, _≤_}
 use lib.Dec.{leb}
 use lib.ListN.{length, drop}
 use Rattle.trace_text.specs.Trace.{traceLimit}
+use Rattle.trace_text.specs.Trace as Trace
 use Rattle.trace_text.specs.declared.Written.{Written}
 use Rattle.description.specs.Description.{wellDescribed, described}
+
+-- a description and one of its counts
+pub record Counted (t : List ℕ) (count n : ℕ) : Type 0 where
+  pub well-described : wellDescribed t ≡ true
+  pub count-is : n ≡ count
+
+-- where the trace of n symbols ends; 0 where it would be too long
+abbrev pub traceEnd : ℕ → ℕ
+traceEnd n = cond (leb (Trace.headerLength + 4 * n) traceLimit) (Trace.headerLength + 4 * n) 0
 
 -- a description with room for any trace
 pub record Describable (t out : List ℕ) : Type 0 where

@@ -5,7 +5,7 @@ ghost use lib.ListN.{length};
 ghost use mir.Syntax.{w8, w16};
 ghost use mir.Val.{toZ};
 ghost use Rattle.block.specs.Block.{values};
-ghost use Rattle.trace_text.specs.Trace.{byteAt, number16};
+ghost use Rattle.trace_text.specs.Trace.{byteAt, number16, number32};
 ghost use Rattle.description.specs.Description.{headerLength, responseIn, symbolsIn, trainingIn, wellDescribed};
 use super::limits::DESCRIPTION;
 use super::limits::HEADER;
@@ -30,6 +30,14 @@ pub fn training_count(t: &[u8]) -> usize
     ensures { λ r. ⌜ r ≡ trainingIn (now (t .entry)) ⌝ }
 {
     image::bytes::number32(t[16], t[17], t[18], t[19]) as usize
+}
+
+// M.
+pub fn step(t: &[u8]) -> u32
+    requires { ⌜ headerLength ≤ length (now t) ⌝ }
+    ensures { λ r. ⌜ r ≡ number32 (now (t .entry)) 8 ⌝ }
+{
+    image::bytes::number32(t[8], t[9], t[10], t[11])
 }
 
 // Whether the length is right and byte 5 is 0.
