@@ -77,11 +77,7 @@ fn trace_end(n: usize) -> usize
     ensures { λ r. ⌜ r ≡ traceEnd n ⌝ }
 {
     let end = trace_text::limits::HEADER + 4 * n;
-    if end <= TRACE {
-        end
-    } else {
-        0
-    }
+    if end <= TRACE { end } else { 0 }
 }
 
 pub fn write(t: &[u8], out: &mut [u8]) -> usize
