@@ -157,6 +157,7 @@ pub fn cable_vectors() -> Vec<CableVector> {
         random: Random::new(0x6361_626C),
         list: Vec::new(),
     };
+    all.accept("worked example", &spoiled::worked_example());
     beside_every_gain(&mut all);
     gain_exactly_least(&mut all);
     gain_below_least(&mut all);
@@ -564,19 +565,35 @@ fn lent(description: &Description, causes: &[&Spoiler]) -> usize {
     description.cable().trace_length() - usize::from(short)
 }
 
-/// Each cause of 10 behind a size, behind M, and behind both.
+/// Each cause of 10 alone, behind M, and behind a size.
 fn set_up_goes_first(all: &mut Collection) {
-    let behind = spoiled::ALL.iter().filter(|s| s.cause.number() == 10);
+    let list = spoiled::ALL.iter().chain(&spoiled::OTHERS);
+    let behind = list.filter(|spoiler| spoiler.cause.number() == 10);
     for (at, spoiler) in behind.enumerate() {
-        let mut description = spoiled::with(&[spoiler]);
+        let mut description = spoiled::good();
+        (spoiler.spoil)(&mut description);
         let output = lent(&description, &[spoiler]);
         assert_eq!(all.lend("each cause alone", &description, output), 10);
-        description.settings.m = u32::MAX;
-        assert_eq!(all.lend("2 before 10", &description, output), 2);
-        spoiled::SIZES[at % spoiled::SIZES.len()](&mut description);
-        assert_eq!(all.lend("1 before 2 and 10", &description, output), 1);
-        description.settings.m = 0;
-        assert_eq!(all.lend("1 before 10", &description, output), 1);
+        behind_set_up(all, &description, output, at);
+    }
+    let description = spoiled::good();
+    let length = description.cable().trace_length();
+    for (at, output) in [length + 1, length + 4, 0, 12].into_iter().enumerate() {
+        behind_set_up(all, &description, output, at);
+    }
+}
+
+/// The same cable behind M, behind a size, and behind both.
+fn behind_set_up(all: &mut Collection, description: &Description, output: usize, at: usize) {
+    let mut step = description.clone();
+    step.settings.m = u32::MAX;
+    assert_eq!(all.lend("2 before 10", &step, output), 2);
+    let mut size = description.clone();
+    size.settings.q = [0, 17][at % 2];
+    assert_eq!(all.lend("1 before 10", &size, output), 1);
+    if output < 1000 {
+        spoiled::SIZES[at % spoiled::SIZES.len()](&mut step);
+        assert_eq!(all.lend("1 before 2 and 10", &step, output), 1);
     }
 }
 

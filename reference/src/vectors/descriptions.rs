@@ -66,6 +66,7 @@ pub fn description_vectors() -> Vec<DescriptionVector> {
 }
 
 fn well_formed(all: &mut Collection) {
+    all.put("worked example", spoiled::worked_example().bytes());
     all.put("good", spoiled::good().bytes());
     let mut random = Random::new(0x6465_7363);
     for symbols in [1, 2, 5, 12, 40, 128] {
@@ -158,41 +159,8 @@ fn each_line(all: &mut Collection) {
 }
 
 /// Further causes of the same lines.
-const OTHERS: [Spoiler; 6] = [
-    Spoiler {
-        about: "an empty response",
-        cause: Cause::Response,
-        spoil: |d| d.response.clear(),
-    },
-    Spoiler {
-        about: "257 values",
-        cause: Cause::Response,
-        spoil: |d| d.response.resize(257, 0),
-    },
-    Spoiler {
-        about: "no symbols",
-        cause: Cause::Blocks,
-        spoil: |d| (d.symbols, d.training) = (Vec::new(), 0),
-    },
-    Spoiler {
-        about: "more training entries by far",
-        cause: Cause::Training,
-        spoil: |d| d.training = u32::MAX,
-    },
-    Spoiler {
-        about: "an entry of -128",
-        cause: Cause::Entry,
-        spoil: |d| d.symbols[11] = -128,
-    },
-    Spoiler {
-        about: "M one too large",
-        cause: Cause::Step,
-        spoil: |d| d.settings.m += 1,
-    },
-];
-
 fn other_causes(all: &mut Collection) {
-    for spoiler in OTHERS {
+    for spoiler in spoiled::OTHERS {
         let mut described = spoiled::good();
         (spoiler.spoil)(&mut described);
         all.refuse(spoiler.about, described.bytes(), spoiler.cause.number());

@@ -1,4 +1,4 @@
-//! A good description and ways to spoil it, each for one cause.
+//! Two good descriptions, and ways to spoil one, each for one cause.
 
 use crate::cable::Cause;
 use crate::description::Description;
@@ -9,6 +9,24 @@ pub struct Spoiler {
     pub about: &'static str,
     pub cause: Cause,
     pub spoil: fn(&mut Description),
+}
+
+/// The specification's example.
+pub fn worked_example() -> Description {
+    let settings = Settings {
+        p: 1,
+        q: 1,
+        n: 2,
+        r: 1,
+        l: 0,
+        m: 16_777_216,
+    };
+    Description {
+        settings,
+        response: vec![16_390, -32_768, 16_384, -5],
+        symbols: vec![1, 1, 1, -1, -3, -1],
+        training: 3,
+    }
 }
 
 /// A description that nothing is wrong with.
@@ -105,6 +123,40 @@ pub const ALL: [Spoiler; 12] = [
         about: "a step",
         cause: Cause::Step,
         spoil: |d| d.settings.m = u32::MAX,
+    },
+];
+
+/// Further ways, each for use alone.
+pub const OTHERS: [Spoiler; 6] = [
+    Spoiler {
+        about: "an empty response",
+        cause: Cause::Response,
+        spoil: |d| d.response.clear(),
+    },
+    Spoiler {
+        about: "257 values",
+        cause: Cause::Response,
+        spoil: |d| d.response.resize(257, 0),
+    },
+    Spoiler {
+        about: "no symbols",
+        cause: Cause::Blocks,
+        spoil: |d| (d.symbols, d.training) = (Vec::new(), 0),
+    },
+    Spoiler {
+        about: "more training entries by far",
+        cause: Cause::Training,
+        spoil: |d| d.training = u32::MAX,
+    },
+    Spoiler {
+        about: "an entry of -128",
+        cause: Cause::Entry,
+        spoil: |d| d.symbols[11] = -128,
+    },
+    Spoiler {
+        about: "M one too large",
+        cause: Cause::Step,
+        spoil: |d| d.settings.m += 1,
     },
 ];
 
