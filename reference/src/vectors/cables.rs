@@ -597,12 +597,12 @@ fn behind_set_up(all: &mut Collection, description: &Description, output: usize,
     }
 }
 
-/// Two causes of 10 at once, of those that make no long list.
+/// Two different causes of 10 at once, of those that make no long list.
 fn two_causes(all: &mut Collection) {
     let short = |s: &&Spoiler| s.cause.number() == 10 && s.cause != Cause::Trace;
     let list: Vec<&Spoiler> = spoiled::ALL.iter().filter(short).collect();
-    for (at, one) in list.iter().enumerate() {
-        for other in &list[at + 1..] {
+    for one in &list {
+        for other in list.iter().filter(|other| one.cause < other.cause) {
             let pair = [*one, *other];
             let description = spoiled::with(&pair);
             let output = lent(&description, &pair);

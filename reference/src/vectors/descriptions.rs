@@ -190,6 +190,9 @@ fn bytes_first(all: &mut Collection) {
     let short = |spoiler: &&Spoiler| spoiler.cause != Cause::Trace;
     for spoiler in shown().into_iter().filter(short) {
         let mut input = spoiled::with(&[spoiler]).bytes();
+        input[5] = 1;
+        all.refuse("8 before another", input.clone(), 8);
+        input[5] = 0;
         input.push(1);
         all.refuse("8 before another", input, 8);
     }

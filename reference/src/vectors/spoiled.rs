@@ -41,7 +41,7 @@ pub fn good() -> Description {
     };
     Description {
         settings: settings.with_m(settings.largest_m()),
-        response: vec![3000, -1200, 500],
+        response: vec![2000, -1200, 500],
         symbols: vec![1, 3, -1, -3, 3, 3, -1, 1, -3, 1, -1, 3],
         training: 7,
     }
@@ -102,7 +102,10 @@ pub const ALL: [Spoiler; 12] = [
     Spoiler {
         about: "no gain",
         cause: Cause::Gain,
-        spoil: |d| d.response[1] = -32768,
+        spoil: |d| {
+            (d.settings.l, d.settings.m) = (0, 0);
+            d.response[1] = -32768;
+        },
     },
     Spoiler {
         about: "33 values",
@@ -151,7 +154,7 @@ pub const OTHERS: [Spoiler; 6] = [
     Spoiler {
         about: "an entry of -128",
         cause: Cause::Entry,
-        spoil: |d| d.symbols[11] = -128,
+        spoil: |d| (d.symbols[11], d.response) = (-128, vec![1]),
     },
     Spoiler {
         about: "M one too large",
