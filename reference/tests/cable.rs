@@ -2,6 +2,7 @@
 //! defines them, by other ways than those of the implementation.
 
 use reference::cable::{cable, Cable};
+use reference::description::{description, Description};
 use reference::random::Random;
 use reference::{trace, Settings};
 
@@ -396,4 +397,47 @@ fn the_worked_example() {
     assert_eq!(cable(&c, &mut output), 0);
     assert_eq!(output[..], expected);
     assert!(is_run(&output));
+}
+
+/// The example's bytes and what the program writes where one is changed.
+#[test]
+fn the_worked_example_in_bytes() {
+    let good = [
+        0x01, 0x01, 0x02, 0x01, 0x00, 0x00, 0x04, 0x00, 0x00, 0x00, 0x00, 0x01, 0x06, 0x00, 0x00,
+        0x00, 0x03, 0x00, 0x00, 0x00, 0x06, 0x40, 0x00, 0x80, 0x00, 0x40, 0xFB, 0xFF, 0x01, 0x01,
+        0x01, 0xFF, 0xFD, 0xFF,
+    ];
+    let described = Description::read(&good).expect("a description");
+    assert_eq!(described.bytes(), good);
+    assert_eq!(description(&good), described.cable().trace());
+    let lines = [
+        (
+            5,
+            1,
+            "8, the description has a wrong length or its byte 5 is not 0",
+        ),
+        (
+            6,
+            5,
+            "8, the description has a wrong length or its byte 5 is not 0",
+        ),
+        (2, 0, "1, a size is outside its limits"),
+        (8, 1, "2, M is not admitted with these sizes"),
+        (2, 4, "10, the symbols are not 1 to 65535 whole blocks of N"),
+        (16, 7, "10, there are more training entries than symbols"),
+        (3, 0, "10, an entry is not a symbol"),
+        (4, 1, "10, some gain would be below L or does not exist"),
+        (33, 3, "10, some gain would be below L or does not exist"),
+    ];
+    for (place, byte, line) in lines {
+        let mut other = good;
+        other[place] = byte;
+        let written = String::from_utf8(description(&other)).expect("a line");
+        assert_eq!(written, format!("cable: {line}\n"));
+    }
+    let mut other = good.to_vec();
+    other.drain(20..28);
+    other[6] = 0;
+    let empty = b"cable: 10, the response is empty or longer than 32\n";
+    assert_eq!(description(&other), empty);
 }

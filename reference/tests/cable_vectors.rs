@@ -8,9 +8,11 @@ use reader::Reader;
 use reference::cable::{cable, Cable};
 use reference::description::{description, Description};
 use reference::vectors::{cable_vectors, description_vectors, CableVector, DescriptionVector};
-use reference::Settings;
+use reference::{trace, Settings};
 use std::collections::{BTreeMap, BTreeSet};
 use wrong_cable::{causes, gain, sums, wrong_cable, CAUSES, FAULTS};
+
+const README: &str = include_str!("../README.md");
 
 fn bytes_of<V>(list: &[V], bytes: fn(&V) -> Vec<u8>) -> Vec<u8> {
     list.iter().flat_map(bytes).collect()
@@ -100,7 +102,11 @@ fn every_fault_of_a_cable_is_found() {
     }
     // More than 65,535 blocks have too long a trace as well.
     for cause in CAUSES {
-        assert_eq!(with(cause).is_ok(), cause == "too many blocks", "{cause}");
+        assert_eq!(
+            with(cause).is_ok(),
+            cause == "there are more than 65,535 blocks",
+            "{cause}"
+        );
     }
 }
 
@@ -140,20 +146,25 @@ fn alone(number: u8) -> BTreeMap<&'static str, usize> {
 #[test]
 fn cables_have_every_cause_alone() {
     assert!(alone(0).is_empty());
-    for number in [10, 1, 2] {
-        let counts = alone(number);
-        println!("{number}: {counts:?}");
-        let most = if number == 10 { 3 } else { 1 };
-        for cause in CAUSES {
-            let seen = counts.get(cause).copied().unwrap_or(0);
-            assert_eq!(
-                seen >= most,
-                cause != "too many blocks",
-                "{number}: {cause}"
-            );
+    let [ten, one, two] = [10, 1, 2].map(alone);
+    for cause in CAUSES {
+        let count = |counts: &BTreeMap<&str, usize>| counts.get(cause).copied().unwrap_or(0);
+        let counts = [count(&ten), count(&one), count(&two)];
+        if cause == "there are more than 65,535 blocks" {
+            assert_eq!(counts, [0, 0, 0]);
+            continue;
         }
+        assert!(
+            counts[0] >= 3 && counts[1] >= 1 && counts[2] >= 1,
+            "{cause}"
+        );
+        let row = format!(
+            "| {cause} | {} | {} | {} |",
+            counts[0], counts[1], counts[2]
+        );
+        assert!(README.contains(&row), "no row in README.md: {row}");
     }
-    let blocks = |v: &&CableVector| causes_of(v).contains(&"too many blocks");
+    let blocks = |v: &&CableVector| causes_of(v).contains(&CAUSES[4]);
     assert_eq!(cable_vectors().iter().filter(blocks).count(), 1);
 }
 
@@ -163,10 +174,30 @@ fn cables_have_every_number() {
     for vector in cable_vectors() {
         *numbers.entry(vector.number).or_insert(0) += 1;
     }
-    println!("{numbers:?}");
-    assert_eq!(numbers.keys().copied().collect::<Vec<_>>(), [0, 1, 2, 10]);
-    assert!(numbers[&0] >= 400 && numbers[&10] >= 200);
-    assert!(numbers[&1] >= 30 && numbers[&2] >= 30);
+    let [none, one, two, ten] = [0, 1, 2, 10].map(|number| numbers[&number]);
+    assert_eq!(numbers.len(), 4, "{numbers:?}");
+    assert!(none >= 400 && ten >= 200 && one >= 30 && two >= 30);
+    let words = format!("{none} are accepted; {one} answer 1, {two} answer 2 and {ten} answer 10");
+    assert!(README.contains(&words), "not in README.md: {words}");
+}
+
+/// How many lines the trace program writes before it stops, if it stops.
+fn lines_run(bytes: &[u8]) -> usize {
+    let text = trace(bytes);
+    text.lines()
+        .take_while(|line| !line.starts_with("stop"))
+        .count()
+}
+
+#[test]
+fn the_trace_program_runs_every_cable_to_its_end() {
+    for vector in accepted() {
+        let count = vector.description.symbols.len();
+        assert_eq!(lines_run(&vector.trace), count, "{}", vector.about);
+        let mut other = vector.trace.clone();
+        other[12 + 3 * count - 1] = 16;
+        assert!(count > 1000 || lines_run(&other) < count);
+    }
 }
 
 /// The vectors that are accepted.
@@ -208,7 +239,7 @@ fn cables_have_every_gain_and_least_gain() {
     for vector in cable_vectors() {
         let cable = vector.description.cable();
         let (r, l) = (cable.settings.r, cable.settings.l);
-        if vector.number != 0 && causes_of(&vector) != ["a gain below L"] {
+        if vector.number != 0 && causes_of(&vector) != ["some gain is below L"] {
             continue;
         }
         let all: Vec<i64> = sums(&cable, "")
@@ -368,8 +399,10 @@ fn descriptions_tell_the_first_line() {
     for vector in description_vectors() {
         let lines: Vec<usize> = lines_of(&vector.input).into_iter().collect();
         let Some(&first) = lines.first() else {
-            let symbols = u32::from_le_bytes(vector.input[12..16].try_into().unwrap());
-            assert_eq!(vector.written.len(), 12 + 4 * symbols as usize);
+            let described = read_cable(&mut Reader(&vector.input));
+            let mut trace = vec![0; 12 + 4 * described.symbols.len()];
+            assert_eq!(wrong_cable(&described.cable(), &mut trace, ""), 0);
+            assert!(vector.written == trace, "{vector:?}");
             *seen.entry(9).or_insert(0) += 1;
             continue;
         };
@@ -378,8 +411,13 @@ fn descriptions_tell_the_first_line() {
         *seen.entry(first).or_insert(0) += 1;
         pairs.extend(lines.iter().skip(1).map(|&other| (first, other)));
     }
-    println!("{seen:?}");
     assert!((0..=9).all(|line| seen[&line] >= 2), "{seen:?}");
+    let ten: usize = (3..9).map(|line| seen[&line]).sum();
+    let words = format!(
+        "{} are traces, {} answer 8, {} answer 1, {} answer 2 and {ten} answer 10",
+        seen[&9], seen[&0], seen[&1], seen[&2]
+    );
+    assert!(README.contains(&words), "not in README.md: {words}");
     for first in 0..9 {
         for other in first + 1..9 {
             assert!(pairs.contains(&(first, other)), "{first} and {other}");

@@ -5,21 +5,21 @@ use reference::cable::Cable;
 
 /// The causes of 10, one by one.
 pub const CAUSES: [&str; 15] = [
-    "an empty response",
-    "a long response",
-    "no symbols",
-    "no whole blocks",
-    "too many blocks",
-    "training",
-    "a long trace",
-    "an entry of 0",
-    "an even entry",
-    "a large entry",
-    "an empty output",
-    "a short output",
-    "a long output",
-    "a gain below L",
-    "no gain",
+    "the response is empty",
+    "the response has more than 32 values",
+    "there are no symbols",
+    "the symbols are no whole blocks",
+    "there are more than 65,535 blocks",
+    "there are more training entries than symbols",
+    "the trace would pass 65,536 bytes",
+    "an entry is 0",
+    "an entry is even",
+    "an entry is odd and too large",
+    "the output is empty",
+    "the output is too short",
+    "the output is too long",
+    "some gain is below L",
+    "some gain does not exist",
 ];
 
 /// What can be wrong beside a cause that goes unseen.
