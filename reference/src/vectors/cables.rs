@@ -236,11 +236,9 @@ fn aimed_by_several(random: &mut Random, r: u8, target: i64) -> Option<(Vec<i16>
         rest -= h * v;
     }
     response[values - 1 - free] = i16::try_from(rest * i64::from(symbols[free])).ok()?;
-    let earlier = (0..values - 1).map(|place| sum_at(&response, &symbols, place));
+    let mut earlier = (0..values - 1).map(|place| sum_at(&response, &symbols, place));
+    let below = earlier.all(|s| s.abs() < i128::from(target.abs()));
     let last = sum_at(&response, &symbols, values - 1);
-    let below = earlier
-        .into_iter()
-        .all(|s| s.abs() < i128::from(target.abs()));
     (below && last == i128::from(target)).then_some((response, symbols))
 }
 
