@@ -1,5 +1,6 @@
 //! Built-in faults: a library with one thing wrong, to see that it is found.
 
+use crate::cables::bench::Side;
 use reference::Settings;
 use tigbulode::sides::Operations;
 use tigbulode::{Answer, Block, Equaliser, Outputs, Saved};
@@ -110,7 +111,7 @@ impl Fault {
 
 /// A side with a fault.
 pub struct Faulty<'a> {
-    pub side: &'a dyn Operations,
+    pub side: &'a dyn Side,
     pub fault: Fault,
 }
 

@@ -2,8 +2,7 @@
 //! fails; a failing list or cable is made short and saved.
 
 use crate::bench::{Bench, Failing, Failure};
-use crate::cables::bench::{CableBench, Simulation};
-use crate::cables::faults::FaultyCable;
+use crate::cables::bench::{CableBench, Side};
 use crate::cables::format::{self as cable_format, SavedCable};
 use crate::cables::shrink::shrink as shrink_cable;
 use crate::cables::{CableMaker, Lent, PER_LIST};
@@ -16,7 +15,7 @@ use crate::shrink::shrink;
 use crate::stop;
 use std::path::{Path, PathBuf};
 use tigbulode::calls::Call;
-use tigbulode::sides::{Library, Operations, Second};
+use tigbulode::sides::{Library, Second};
 
 /// When a run ends.
 #[derive(Clone, Copy, Debug, PartialEq, Eq)]
@@ -83,10 +82,7 @@ impl Verdict {
 }
 
 /// Both sides, with a fault or without, for `work`.
-pub fn with_sides<T>(
-    fault: Option<Fault>,
-    work: impl FnOnce(&dyn Operations, &dyn Operations) -> T,
-) -> T {
+pub fn with_sides<T>(fault: Option<Fault>, work: impl FnOnce(&dyn Side, &dyn Side) -> T) -> T {
     let Some(fault) = fault else {
         return work(&Library, &Second);
     };
@@ -95,29 +91,6 @@ pub fn with_sides<T>(
         fault,
     };
     let second = Faulty {
-        side: &Second,
-        fault,
-    };
-    if fault.in_both() {
-        work(&library, &second)
-    } else {
-        work(&library, &Second)
-    }
-}
-
-/// Both sides for a cable.
-pub fn with_simulations<T>(
-    fault: Option<Fault>,
-    work: impl FnOnce(&dyn Simulation, &dyn Simulation) -> T,
-) -> T {
-    let Some(fault) = fault else {
-        return work(&Library, &Second);
-    };
-    let library = FaultyCable {
-        side: &Library,
-        fault,
-    };
-    let second = FaultyCable {
         side: &Second,
         fault,
     };
@@ -245,7 +218,7 @@ pub fn shrunk(fault: Option<Fault>, calls: Vec<Call>, failure: &Failure) -> Vec<
 
 /// What fails with a cable.
 pub fn failing_of(fault: Option<Fault>, lent: &Lent) -> Option<Failing> {
-    with_simulations(fault, |library, second| {
+    with_sides(fault, |library, second| {
         CableBench::new(library, second).cable(lent).err()
     })
 }
@@ -266,22 +239,20 @@ pub fn shrunk_cable(fault: Option<Fault>, lent: Lent, failing: &Failing) -> Lent
 pub fn run(run: &Run) -> Result<Verdict, String> {
     std::fs::create_dir_all(&run.out).map_err(|error| format!("{}: {error}", run.out.display()))?;
     let verdict = with_sides(run.fault, |library, second| {
-        with_simulations(run.fault, |own, other| {
-            let mut running = Running {
-                run,
-                bench: Bench::new(library, second),
-                cables: CableBench::new(own, other),
-                calls: 0,
-                lists: 0,
-                progress: Progress::new(),
-            };
-            let found = running.lists();
-            running.progress.clear();
-            match found {
-                Some(found) => failed(run, found),
-                None => Verdict::seen(counts(&running)),
-            }
-        })
+        let mut running = Running {
+            run,
+            bench: Bench::new(library, second),
+            cables: CableBench::new(library, second),
+            calls: 0,
+            lists: 0,
+            progress: Progress::new(),
+        };
+        let found = running.lists();
+        running.progress.clear();
+        match found {
+            Some(found) => failed(run, found),
+            None => Verdict::seen(counts(&running)),
+        }
     });
     Ok(verdict)
 }

@@ -7,7 +7,7 @@ use soak::cables::format::{is_cable, parse, text, SavedCable};
 use soak::cables::shrink::shrink;
 use soak::cables::{CableMaker, Lent, PER_LIST};
 use soak::faults::Fault;
-use soak::soak::{failing_of, shrunk_cable, with_simulations};
+use soak::soak::{failing_of, shrunk_cable, with_sides};
 use tigbulode::sides::{Library, Second};
 
 /// The cables after some lists.
@@ -147,7 +147,7 @@ fn faults_of_lists_leave_a_cable_as_it_is() {
         .into_iter()
         .filter(|(_, fault)| !fault.of_cable())
     {
-        let checked = with_simulations(Some(fault), |library, second| {
+        let checked = with_sides(Some(fault), |library, second| {
             CableBench::new(library, second).cable(&lent)
         });
         assert_eq!(checked, Ok(()), "{name}");

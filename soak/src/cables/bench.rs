@@ -5,7 +5,7 @@ use super::Lent;
 use crate::bench::{stopping, Failing};
 use reference::cable::Cause;
 use std::fmt;
-use tigbulode::sides::{Library, Second};
+use tigbulode::sides::{Library, Operations, Second};
 use tigbulode::{Block, Equaliser, Outputs};
 use tigbulode_laboratory::HEADER_BYTES;
 
@@ -25,6 +25,11 @@ impl Simulation for Second {
         reference::cable::cable(&lent.second(), trace)
     }
 }
+
+/// The four operations and the cable.
+pub trait Side: Operations + Simulation {}
+
+impl<T: Operations + Simulation> Side for T {}
 
 /// How many bytes lie on each side of what is lent.
 const AROUND: usize = 64;

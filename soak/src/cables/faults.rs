@@ -2,17 +2,11 @@
 
 use super::bench::Simulation;
 use super::Lent;
-use crate::faults::Fault;
+use crate::faults::{Fault, Faulty};
 use tigbulode_laboratory::{trace_length, HEADER_BYTES};
 
-/// A side with a fault.
-pub struct FaultyCable<'a> {
-    pub side: &'a dyn Simulation,
-    pub fault: Fault,
-}
-
-impl FaultyCable<'_> {
-    fn accepted(&self, lent: &Lent, trace: &mut [u8]) {
+impl Faulty<'_> {
+    fn accepted_cable(&self, lent: &Lent, trace: &mut [u8]) {
         let samples = 3 * lent.symbols.len();
         let (body, entries) = trace[HEADER_BYTES..].split_at_mut(samples);
         match self.fault {
@@ -43,12 +37,12 @@ impl FaultyCable<'_> {
     }
 }
 
-impl Simulation for FaultyCable<'_> {
+impl Simulation for Faulty<'_> {
     fn cable(&self, lent: &Lent, trace: &mut [u8]) -> u8 {
         let number = self.side.cable(lent, trace);
         let right_room = trace.len() == trace_length(lent.symbols.len());
         match (self.fault, number) {
-            (_, 0) => self.accepted(lent, trace),
+            (_, 0) => self.accepted_cable(lent, trace),
             (Fault::CableRefused, 10) if right_room => trace[0] ^= 1,
             (Fault::CableNumber, 2) => return 10,
             (Fault::CableLeastInBoth, 10) => return self.below_least(lent, trace),
