@@ -49,10 +49,10 @@ static void spoil_settings(cable *c) {
 static void spoil(cable *c) {
     switch (any_below(32)) {
     case 0: c->response_length = any_below(2) ? 0 : 33; break;
-    case 1: c->symbols_length += any_below(4) - 1; break;
+    case 1: c->symbols_length += (size_t)any_below(4) - 1; break;
     case 2: c->symbols_length = any_below(3); break;
     case 3: c->training = c->symbols_length + any_below(3); break;
-    case 4: c->trace_length += any_below(3) - 1; break;
+    case 4: c->trace_length += (size_t)any_below(3) - 1; break;
     case 5: c->symbols[any_below((uint32_t)c->symbols_length)] = (int8_t)any_number(); break;
     case 6: c->symbols[c->symbols_length - 1] = 0; break;
     case 7:
