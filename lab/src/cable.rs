@@ -2,7 +2,7 @@
 
 use crate::refusal::refusal;
 use crate::text::{Given, Step};
-use crate::words::At;
+use crate::words::{cut, At};
 use tigbulode_laboratory::{cable, trace_length, Cable};
 use traces::Problem;
 
@@ -20,7 +20,7 @@ fn step_size(given: &Given, step: &At<Step>) -> StepSize {
     let greatest = given.greatest_step().unwrap_or(0);
     let (m, name) = match &step.value {
         Step::M(m) => (*m, format!("M = {m}")),
-        Step::Share(share, word) => (share.of(greatest), word.clone()),
+        Step::Share(share, word) => (share.of(greatest), format!("share {}", cut(word, 8))),
     };
     let share = f64::from(m) / f64::from(greatest.max(1));
     let line = step.line;

@@ -2,7 +2,7 @@
 //! every step size.
 
 use crate::run::{decibels, mean_power, Ran, Run};
-use crate::summary::{asked, cable, in_decibels, stop, wrong};
+use crate::summary::{cable, in_decibels, last_blocks, named, stop, wrong};
 use crate::text::{Given, MOST_STEPS};
 use crate::words::shown;
 use years::axis::Axis;
@@ -16,8 +16,8 @@ pub struct Page {
 }
 
 pub struct Panel {
-    /// In the picture's points.
-    pub height: f64,
+    /// In the picture's points, where its legend doesn't need more.
+    pub least_height: f64,
     /// At the left.
     pub label: &'static str,
     /// At the right, above the legend: the panel's name, then more of it.
@@ -25,12 +25,26 @@ pub struct Panel {
     pub notes: Vec<String>,
     pub across: Axis,
     pub up: Axis,
-    /// Below, each in the middle of what it names; none where the next panel
-    /// has the same axis.
-    pub below: Vec<(f64, String)>,
+    /// What is across; none where the next panel has the same axis.
+    pub below: Option<&'static str>,
     /// Where training ends.
     pub mark: Option<f64>,
     pub curves: Vec<Curve>,
+}
+
+/// From the top of a panel to its notes, and the lines of notes and legend.
+pub const NOTES: f64 = 28.0;
+pub const NOTE: f64 = 20.0;
+const KEY: f64 = 24.5;
+
+impl Panel {
+    /// In the picture's points.
+    pub fn height(&self) -> f64 {
+        let titles = self.curves.iter().filter(|curve| curve.title.is_some());
+        let keys = titles.count() + usize::from(self.mark.is_some());
+        let legend = NOTES + NOTE * self.notes.len() as f64 + KEY * keys as f64;
+        self.least_height.max(legend)
+    }
 }
 
 /// A look for each step size: wide and light to thin and black, so that each
@@ -39,9 +53,9 @@ const LOOKS: [&str; MOST_STEPS] = [
     "lw 6 lc rgb '#b8b8b8'",
     "lw 3 lc rgb '#4a86c5'",
     "lw 1.5 lc rgb '#000000'",
-    "lw 6 dt (3,2) lc rgb '#b8b8b8'",
-    "lw 3 dt (4,2) lc rgb '#4a86c5'",
-    "lw 1.5 dt (6,4) lc rgb '#000000'",
+    "lw 6 dt 2 lc rgb '#b8b8b8'",
+    "lw 3 dt 2 lc rgb '#4a86c5'",
+    "lw 1.5 dt 2 lc rgb '#000000'",
 ];
 /// The marks of weights.
 const MARKS: [&str; MOST_STEPS] = ["pt 7", "pt 5", "pt 9", "pt 6", "pt 4", "pt 8"];
@@ -51,30 +65,34 @@ const MOST_POINTS: usize = 160;
 pub fn page(given: &Given, runs: &[Run], file: &str) -> Page {
     let mut lines = vec![outcome(runs)];
     lines.extend(cable(given));
-    let libraries = "trace by the laboratory's library, blocks by the station's, both proved";
-    lines.push(format!(
-        "{} in the order of the text; {libraries}",
-        steps(runs)
-    ));
+    lines.push(
+        "Trace by the laboratory's library, blocks run by the station's: both are proved."
+            .to_string(),
+    );
     lines.extend(runs.iter().filter_map(stopped));
     Page {
         title: format!("Step sizes on a cable: {}", shown(file)),
         lines,
-        panels: vec![
-            error_power(given, runs),
-            wrong_decisions(given, runs),
-            exponent(given, runs),
-            weights(given, runs),
-        ],
+        panels: panels(given, runs),
     }
 }
 
-fn steps(runs: &[Run]) -> String {
-    years::words::count(runs.len() as u64, "step size")
+fn panels(given: &Given, runs: &[Run]) -> Vec<Panel> {
+    let mut panels = vec![error_power(given, runs)];
+    if runs.iter().any(|run| run.decided() > 0) {
+        panels.push(wrong_decisions(given, runs));
+    }
+    panels.push(exponent(given, runs));
+    panels.extend(filters(given).iter().map(|filter| weights(filter, runs)));
+    panels
 }
 
 fn stopped(run: &Run) -> Option<String> {
-    Some(format!("{}: {}, and ends there", asked(run), stop(run)?))
+    Some(format!(
+        "{}: {}, and ends there",
+        named(&run.step),
+        stop(run)?
+    ))
 }
 
 /// The wrong decisions of each step size, with their names where they fit a
@@ -153,11 +171,11 @@ fn in_rows(points: &[(f64, f64)]) -> Rows {
 fn guessing(given: &Given) -> Curve {
     let level = decibels(1.0 / 3.0);
     let rows = in_rows(&[(0.0, level), (samples(given), level)]);
-    let style = format!("with lines dt (2,4) lw 1.5 lc rgb '{GREY}'");
+    let style = format!("with lines dt 3 lw 2 lc rgb '{GREY}'");
     Curve::new(rows, style, Some("about −5 dB: guessing"))
 }
 
-fn error_notes(given: &Given) -> Vec<String> {
+fn error_notes(given: &Given, runs: &[Run]) -> Vec<String> {
     let mean = match together(given) {
         1 => "each point the mean of a block".to_string(),
         few => format!("each point the mean of {few} blocks in a row"),
@@ -169,30 +187,36 @@ fn error_notes(given: &Given) -> Vec<String> {
         "own decision, right or wrong: one that only",
         "guesses shows about −5 dB",
     ];
+    let last = runs.iter().map(|run| run.last_blocks().len()).max();
     let fixed = fixed.map(str::to_string).into_iter();
-    fixed.chain([mean]).collect()
+    fixed
+        .chain([
+            mean,
+            format!("dB below: the mean of {}", last_blocks(last.unwrap_or(0))),
+        ])
+        .collect()
 }
 
 fn error_power(given: &Given, runs: &[Run]) -> Panel {
     let points = runs.iter().flat_map(|run| powers(given, run));
-    let start = (-10.0f64, 0.0f64);
+    let start = (-5.0f64, 0.0f64);
     let (low, high) = points.fold(start, |(low, high), (_, v)| (low.min(v), high.max(v)));
     let title = |run: &Run| {
-        let end = run.last_error_power().map_or(String::new(), |power| {
-            format!("; {} at the end", in_decibels(power))
-        });
-        format!("{}{end}", asked(run))
+        let end = run
+            .last_error_power()
+            .map_or(String::new(), |power| format!(", {}", in_decibels(power)));
+        format!("{}{end}", named(&run.step))
     };
     let mut drawn = vec![guessing(given)];
     drawn.extend(curves(runs, |run| in_rows(&powers(given, run)), title));
     Panel {
-        height: 330.0,
+        least_height: 330.0,
         label: "error power, dB",
         name: "error power",
-        notes: error_notes(given),
+        notes: error_notes(given, runs),
         across: over_samples(given),
         up: Axis::around(low, high, 7, 1.0),
-        below: Vec::new(),
+        below: None,
         mark: end_of_training(given),
         curves: drawn,
     }
@@ -244,13 +268,13 @@ fn wrong_decisions(given: &Given, runs: &[Run]) -> Panel {
     let title = |run: &Run| format!("{}: {}", run.step.name, wrong(run));
     let most = runs.iter().map(Run::wrong).max();
     Panel {
-        height: 190.0,
+        least_height: 190.0,
         label: "wrong so far",
         name: "wrong decisions after training, so far",
         notes: vec!["a curve begins at its first wrong decision".to_string()],
         across: over_samples(given),
         up: counts(most.unwrap_or(0)),
-        below: Vec::new(),
+        below: None,
         mark: end_of_training(given),
         curves: curves(runs, |run| in_rows(&wrong_so_far(given, run)), title),
     }
@@ -261,78 +285,95 @@ fn exponent(given: &Given, runs: &[Run]) -> Panel {
     let last = |run: &Run| run.blocks.last().map_or(0, |block| block.psi);
     let title = |run: &Run| format!("{}: {} at the end", run.step.name, last(run));
     let most = runs.iter().map(last).max().unwrap_or(0);
-    let middle = samples(given) / 2.0;
     Panel {
-        height: 130.0,
+        least_height: 130.0,
         label: "ψ",
         name: "ψ, the weights' exponent",
         notes: Vec::new(),
         across: over_samples(given),
         up: Axis::counts(most.into(), 5),
-        below: vec![(middle, "samples received, one for each symbol".to_string())],
+        below: Some("samples received, one for each symbol"),
         mark: end_of_training(given),
         curves: curves(runs, psi, title),
     }
 }
 
-/// The place of each weight: the feed forward ones from 0, then a gap.
-fn tap_places(given: &Given) -> Vec<(f64, String)> {
-    let (p, q) = (given.p.value, given.q.value);
-    let forward = (0..p).map(|tap| (f64::from(tap), tap.to_string()));
-    let back = (1..=q).map(|tap| (f64::from(p) + f64::from(tap), tap.to_string()));
-    forward.chain(back).collect()
+/// The weights of one filter.
+struct Filter {
+    name: &'static str,
+    note: &'static str,
+    /// The first weight's place among all, its number, and how many there are.
+    start: usize,
+    first: usize,
+    count: usize,
 }
 
-/// Stems of the weights after the last block, side by side.
-fn stems(given: &Given, runs: &[Run], place: usize) -> Rows {
+fn filters(given: &Given) -> [Filter; 2] {
+    let (p, q) = (given.p.value.into(), given.q.value.into());
+    let forward = Filter {
+        name: "feed forward weights at the end",
+        note: "W·2^(ψ−15); 0 is the newest sample's",
+        start: 0,
+        first: 0,
+        count: p,
+    };
+    let back = Filter {
+        name: "feedback weights at the end",
+        note: "W·2^(ψ−15); 1 is the newest symbol's",
+        start: p,
+        first: 1,
+        count: q,
+    };
+    [forward, back]
+}
+
+/// A filter's weights after the last block.
+fn last_weights<'a>(filter: &Filter, run: &'a Run) -> &'a [f64] {
+    let last = run.blocks.last();
+    last.map_or(&[], |block| &block.weights[filter.start..][..filter.count])
+}
+
+/// Stems of the weights, those of each step size side by side.
+fn stems(filter: &Filter, runs: &[Run], place: usize) -> Rows {
     let width = 0.7 / runs.len() as f64;
     let aside = (place as f64 - (runs.len() - 1) as f64 / 2.0) * width;
-    let last = runs[place].blocks.last();
-    let weights = last.map_or(&[][..], |block| &block.weights);
-    let taps = tap_places(given).into_iter().zip(weights);
-    let points = taps.map(|((at, _), weight)| (at + aside, *weight));
+    let weights = last_weights(filter, &runs[place]).iter().enumerate();
+    let points = weights.map(|(tap, weight)| ((filter.first + tap) as f64 + aside, *weight));
     in_rows(&points.collect::<Vec<_>>())
 }
 
-fn weights(given: &Given, runs: &[Run]) -> Panel {
-    let ends = runs.iter().filter_map(|run| run.blocks.last());
-    let all = ends.flat_map(|block| block.weights.iter());
+fn weights(filter: &Filter, runs: &[Run]) -> Panel {
+    let all = runs.iter().flat_map(|run| last_weights(filter, run));
     let (low, high) = all.fold((0.0f64, 0.0f64), |(low, high), w| {
         (low.min(*w), high.max(*w))
     });
-    let (p, q) = (f64::from(given.p.value), f64::from(given.q.value));
+    let (first, last) = (
+        filter.first as f64,
+        (filter.first + filter.count - 1) as f64,
+    );
+    let taps = (0..filter.count).map(|tap| filter.first + tap);
     let drawn = (0..runs.len()).map(|place| {
         let style = format!("with impulses {}", LOOKS[place]);
-        Curve::new(stems(given, runs, place), style, None)
+        Curve::new(stems(filter, runs, place), style, None)
     });
     let marks = (0..runs.len()).map(|place| {
-        let look = format!("{} ps 1.4 {}", MARKS[place], LOOKS[place]);
-        let style = format!("with points {look}");
-        Curve::new(
-            stems(given, runs, place),
-            style,
-            Some(&runs[place].step.name),
-        )
+        let style = format!("with points {} ps 1.4 {}", MARKS[place], LOOKS[place]);
+        let title = Some(runs[place].step.name.as_str());
+        Curve::new(stems(filter, runs, place), style, title)
     });
     Panel {
-        height: 250.0,
+        least_height: 160.0,
         label: "weight",
-        name: "weights at the end, W·2^(ψ−15)",
-        notes: vec![
-            "feed forward 0 is the newest sample's,".to_string(),
-            "feedback 1 the newest symbol's".to_string(),
-        ],
+        name: filter.name,
+        notes: vec![filter.note.to_string()],
         across: Axis {
-            low: -0.7,
-            high: p + q + 0.7,
-            labels: tap_places(given),
+            low: first - 0.6,
+            high: last + 0.6,
+            labels: taps.map(|tap| (tap as f64, tap.to_string())).collect(),
             logarithmic: false,
         },
-        up: Axis::around(low, high, 6, 0.01),
-        below: vec![
-            ((p - 1.0) / 2.0, "feed forward weights".to_string()),
-            (p + (q + 1.0) / 2.0, "feedback weights".to_string()),
-        ],
+        up: Axis::around(low, high, 5, 0.0001),
+        below: Some("tap"),
         mark: None,
         curves: drawn.chain(marks).collect(),
     }

@@ -1,7 +1,7 @@
 //! The page as a gnuplot script that holds all it draws. gnuplot writes the
 //! picture to standard output.
 
-use crate::page::{Page, Panel};
+use crate::page::{Page, Panel, NOTE, NOTES};
 use years::axis::Axis;
 use years::curve::{Curve, GREY};
 
@@ -30,7 +30,7 @@ fn label(text: &str, place: &str, look: &str) -> String {
 }
 
 fn gap(panel: &Panel) -> f64 {
-    if panel.below.is_empty() {
+    if panel.below.is_none() {
         GAP
     } else {
         WORDS
@@ -41,12 +41,12 @@ fn gap(panel: &Panel) -> f64 {
 pub fn script(page: &Page) -> String {
     let first = 92.0 + 22.0 * page.lines.len() as f64;
     let panels = page.panels.iter();
-    let height = first + panels.map(|panel| panel.height + gap(panel)).sum::<f64>();
+    let height = first + panels.map(|panel| panel.height() + gap(panel)).sum::<f64>();
     let mut text = rows(page);
     text.push_str(include_str!("../../years/page.gnuplot"));
     text.push_str(&format!(
         "set terminal pngcairo size {WIDTH},{height} font 'DejaVu Sans,15' background '#ffffff' rounded noenhanced\n\
-         set lmargin at screen {:.5}\nset rmargin at screen {:.5}\nset multiplot\n",
+         set lmargin at screen {:.5}\nset rmargin at screen {:.5}\nset xzeroaxis lt 1 lw 1 lc rgb '#888888'\nset multiplot\n",
         LEFT / WIDTH,
         RIGHT / WIDTH
     ));
@@ -57,7 +57,7 @@ pub fn script(page: &Page) -> String {
         text.push_str(&words(panel, top, height));
         text.push_str(&format!("plot {}\n", plots(place, panel)));
         text.push_str("unset label\nunset arrow\n");
-        top += panel.height + gap(panel);
+        top += panel.height() + gap(panel);
     }
     text + "unset multiplot\n"
 }
@@ -107,40 +107,37 @@ fn axes(panel: &Panel, top: f64, height: f64) -> String {
     let share = |down: f64| 1.0 - down / height;
     let (across, up) = (&panel.across, &panel.up);
     let mark = panel.mark.map_or(String::new(), |mark| {
-        format!("set arrow from first {mark}, graph 0 to first {mark}, graph 1 nohead back dt (8,4) lw 1.5 lc rgb '{GREY}'\n")
+        format!("set arrow from first {mark}, graph 0 to first {mark}, graph 1 nohead back dt 2 lw 2 lc rgb '{GREY}'\n")
     });
     format!(
-        "set tmargin at screen {:.5}\nset bmargin at screen {:.5}\n{} logscale y\n\
-         set xrange [{:e}:{:e}]\nset yrange [{:e}:{:e}]\nset xtics nomirror {}\nset ytics nomirror {}\n{mark}",
+        "set tmargin at screen {:.5}\nset bmargin at screen {:.5}\nunset logscale y\n\
+         set xrange [{:e}:{:e}]\nset yrange [{:e}:{:e}]\n{}set xtics nomirror {}\nset ytics nomirror textcolor rgb '#000000' {}\n{mark}",
         share(top),
-        share(top + panel.height),
-        if up.logarithmic { "set" } else { "unset" },
+        share(top + panel.height()),
         across.low,
         across.high,
         up.low,
         up.high,
-        ticks(across, !panel.below.is_empty()),
+        if up.logarithmic { "set logscale y\n" } else { "" },
+        ticks(across, panel.below.is_some()),
         ticks(up, true),
     )
 }
 
 /// What stands beside and below a panel.
 fn words(panel: &Panel, top: f64, height: f64) -> String {
-    let bottom = top + panel.height;
+    let bottom = top + panel.height();
     let middle = at(18.0, (top + bottom) / 2.0, height);
     let mut text = label(panel.label, &middle, "center rotate by 90");
-    for (from, words) in &panel.below {
-        let place = format!(
-            "first {from:e}, screen {:.5}",
-            1.0 - (bottom + 50.0) / height
-        );
+    if let Some(words) = panel.below {
+        let place = at((LEFT + RIGHT) / 2.0, bottom + 50.0, height);
         text.push_str(&label(words, &place, "center"));
     }
     text.push_str(&label(panel.name, &at(LEGEND, top + 6.0, height), ""));
-    let mut down = top + 28.0;
+    let mut down = top + NOTES;
     for note in &panel.notes {
         text.push_str(&label(note, &at(LEGEND, down, height), SMALL));
-        down += 20.0;
+        down += NOTE;
     }
     text + &format!("set key at {}\n", at(LEGEND - 10.0, down - 4.0, height))
 }
@@ -162,7 +159,7 @@ fn plots(place: usize, panel: &Panel) -> String {
     if let Some(mark) = panel.mark.filter(|_| place == 0) {
         let title = quoted(&format!("training ends, sample {mark}"));
         plots.push(format!(
-            "keyentry with lines dt (8,4) lw 1.5 lc rgb '{GREY}' title {title}"
+            "keyentry with lines dt 2 lw 2 lc rgb '{GREY}' title {title}"
         ));
     }
     if panel.curves.iter().all(|curve| curve.rows.is_empty()) {

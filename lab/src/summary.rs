@@ -1,16 +1,17 @@
 //! What is given and what came of it, in sentences for the summary and the
 //! page.
 
+use crate::cable::StepSize;
 use crate::run::{decibels, Run};
 use crate::text::Given;
-use years::words::{count, settings, share};
+use years::words::{count, percent, settings};
 
-/// "1/8 of the greatest M", "M = 65536".
-pub fn asked(run: &Run) -> String {
-    if run.step.name.starts_with('M') {
-        return run.step.name.clone();
+/// "share 1/8: M = 65536", or the name alone where that is "M = 65536".
+pub fn named(step: &StepSize) -> String {
+    if step.name.starts_with('M') {
+        return step.name.clone();
     }
-    format!("{} of the greatest, M = {}", run.step.name, run.step.m)
+    format!("{}: M = {}", step.name, step.m)
 }
 
 /// A number with no more decimals than it needs, up to some.
@@ -29,11 +30,17 @@ pub fn in_decibels(power: f64) -> String {
     with_minus(format!("{:.1} dB", decibels(power)))
 }
 
-/// "107 of 6400 decisions wrong (1.7 %)".
+/// "107 of 6400 (1.7 %)".
 pub fn wrong(run: &Run) -> String {
-    match run.decided() {
-        0 => "no decision after training".to_string(),
-        all => share(run.wrong() as u64, all as u64, "decision", "wrong"),
+    let (wrong, all) = (run.wrong() as u64, run.decided() as u64);
+    format!("{wrong} of {all} ({})", percent(wrong, all))
+}
+
+/// "the last 30 blocks".
+pub fn last_blocks(count: usize) -> String {
+    match count {
+        1 => "the last block".to_string(),
+        _ => format!("the last {count} blocks"),
     }
 }
 
@@ -61,9 +68,8 @@ pub fn cable(given: &Given) -> Vec<String> {
     vec![
         taps,
         response(given),
-        format!(
-            "{symbols}{source}; {training}; least gain {least} (L), greatest M admitted {greatest}"
-        ),
+        format!("{symbols}{source}; {training}; least gain {least} (L)"),
+        format!("shares are of the greatest M that is admitted with these sizes, {greatest}"),
     ]
 }
 
@@ -80,29 +86,36 @@ fn response(given: &Given) -> String {
     format!("response {}{more}, no noise", shown.join(" "))
 }
 
-/// A line for a step size, and one for each filter's weights at its end.
-fn outcome(given: &Given, run: &Run) -> String {
-    let (blocks, wrong) = (run.last_blocks().len() as u64, wrong(run));
-    let power = run.last_error_power().map_or("none".to_string(), |power| {
-        format!("{} ({power:.4e})", in_decibels(power))
-    });
-    let stop = stop(run).map_or(String::new(), |stop| format!("; {stop}"));
-    let last = run.blocks.last();
-    let (psi, weights) = last.map_or((0, &[][..]), |ran| (ran.psi, &ran.weights[..]));
-    let (forward, back) = weights.split_at(weights.len().min(given.p.value.into()));
-    let list = |weights: &[f64]| {
-        let weights = weights.iter().map(|weight| short(*weight, 6));
-        weights.collect::<Vec<_>>().join(" ")
-    };
-    format!(
-        "{} ({:.6} of the greatest): after training {wrong}; error power over the last {} {power}; ψ {psi}{stop}\n  \
-         feed forward weights {}\n  feedback weights {}\n",
-        asked(run),
-        run.step.share,
-        count(blocks, "block"),
+fn list(weights: &[f64]) -> String {
+    let weights = weights.iter().map(|weight| short(*weight, 6));
+    weights.collect::<Vec<_>>().join(" ")
+}
+
+/// What the last accepted block left.
+fn end(given: &Given, run: &Run) -> Option<String> {
+    let last = run.blocks.last()?;
+    let power = run.last_error_power()?;
+    let (forward, back) = last.weights.split_at(given.p.value.into());
+    Some(format!(
+        "; error power over {} {} ({power:.4e}); ψ {}; feed forward weights {}; feedback weights {}",
+        last_blocks(run.last_blocks().len()),
+        in_decibels(power),
+        last.psi,
         list(forward),
         list(back),
-    )
+    ))
+}
+
+/// The line of a step size.
+fn outcome(given: &Given, run: &Run) -> String {
+    let (step, share) = (named(&run.step), run.step.share);
+    let wrong = match run.decided() {
+        0 => "no decision after training".to_string(),
+        _ => format!("wrong decisions after training {}", wrong(run)),
+    };
+    let stop = stop(run).map_or(String::new(), |stop| format!("; {stop}"));
+    let end = end(given, run).unwrap_or_default();
+    format!("{step}, {share:.6} of the greatest: {wrong}{stop}{end}\n")
 }
 
 /// The whole summary.

@@ -38,11 +38,15 @@ pub const LISTS: [&str; 5] = ["response", "response_fractions", "symbols", "M", 
 
 /// A word for a message, cut where it is long.
 pub fn shown(word: &str) -> String {
-    const MOST: usize = 40;
-    let escaped: String = word.escape_debug().take(MOST + 1).collect();
-    match escaped.char_indices().nth(MOST) {
-        Some((end, _)) => format!("{}...", &escaped[..end]),
-        None => escaped,
+    cut(word, 40)
+}
+
+/// The first so many characters of a word.
+pub fn cut(word: &str, most: usize) -> String {
+    let escaped: Vec<char> = word.escape_debug().take(most + 1).collect();
+    match escaped.get(..most) {
+        Some(first) if escaped.len() > most => first.iter().collect::<String>() + "...",
+        _ => escaped.iter().collect(),
     }
 }
 
