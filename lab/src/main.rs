@@ -4,6 +4,7 @@ use lab::cable::traces;
 use lab::run::{run, Run};
 use lab::text::{read, Given};
 use lab::{page, script, summary, table};
+use std::ffi::OsString;
 use std::io::Write;
 use std::path::Path;
 use std::process::ExitCode;
@@ -30,13 +31,18 @@ const BESIDE: [&str; 3] = ["lab.png", "lab.gnuplot", "summary.txt"];
 type Failure = (u8, String);
 
 fn main() -> ExitCode {
-    let words: Vec<_> = std::env::args_os().skip(1).collect();
+    let words: Vec<OsString> = std::env::args_os().skip(1).collect();
     if words.iter().any(|word| word == "--help" || word == "-h") {
         print!("{USAGE}");
         return ExitCode::SUCCESS;
     }
-    let done = match &words[..] {
-        [file, outdir] => lab(Path::new(file), Path::new(outdir)),
+    let is_option = |word: &&OsString| word.as_encoded_bytes().starts_with(b"-");
+    let done = match (words.iter().find(is_option), &words[..]) {
+        (Some(option), _) => {
+            let option = option.to_string_lossy();
+            Err((2, format!("no such option: {option}\n{}", USAGE.trim_end())))
+        }
+        (None, [file, outdir]) => lab(Path::new(file), Path::new(outdir)),
         _ => Err((2, USAGE.trim_end().to_string())),
     };
     match done {

@@ -48,14 +48,14 @@ impl Panel {
 }
 
 /// A look for each step size: wide and light to thin and black, so that each
-/// is seen over the one before, in grey too; then the same in dashes.
+/// is seen over the one before, in grey too; then dots and dashes.
 const LOOKS: [&str; MOST_STEPS] = [
     "lw 6 lc rgb '#b8b8b8'",
     "lw 3 lc rgb '#4a86c5'",
     "lw 1.5 lc rgb '#000000'",
-    "lw 6 dt 2 lc rgb '#b8b8b8'",
-    "lw 3 dt 2 lc rgb '#4a86c5'",
-    "lw 1.5 dt 2 lc rgb '#000000'",
+    "lw 4 dt 3 lc rgb '#999999'",
+    "lw 2.5 dt 2 lc rgb '#4a86c5'",
+    "lw 1.5 dt 4 lc rgb '#000000'",
 ];
 /// The marks of weights.
 const MARKS: [&str; MOST_STEPS] = ["pt 7", "pt 5", "pt 9", "pt 6", "pt 4", "pt 8"];
@@ -112,7 +112,8 @@ fn outcome(runs: &[Run]) -> String {
         return line;
     }
     let shares: Vec<String> = runs.iter().map(share).collect();
-    format!("wrong decisions after training: {}", shares.join(", "))
+    let shares = shares.join(", ");
+    format!("wrong decisions after training: {shares}, in the order of the legend")
 }
 
 fn samples(given: &Given) -> f64 {
@@ -147,15 +148,23 @@ fn together(given: &Given) -> usize {
     blocks.div_ceil(MOST_POINTS)
 }
 
-/// Means of blocks in a row, each in the middle of its samples.
+/// Means of blocks in a row, each in the middle of its samples; the first and
+/// the last reach to the ends.
 fn powers(given: &Given, run: &Run) -> Vec<(f64, f64)> {
     let (n, few) = (f64::from(given.n.value), together(given));
     let groups = run.blocks.chunks(few).enumerate();
-    groups
-        .filter_map(|(place, blocks)| {
-            let middle = (place * few) as f64 + blocks.len() as f64 / 2.0;
-            Some((middle * n, decibels(mean_power(blocks)?)))
-        })
+    let middles = groups.filter_map(|(place, blocks)| {
+        let middle = (place * few) as f64 + blocks.len() as f64 / 2.0;
+        Some((middle * n, decibels(mean_power(blocks)?)))
+    });
+    let middles: Vec<(f64, f64)> = middles.collect();
+    let first = middles.first().map(|(_, value)| (0.0, *value));
+    let end = run.blocks.len() as f64 * n;
+    let last = middles.last().map(|(_, value)| (end, *value));
+    let ends = |end: Option<(f64, f64)>| end.into_iter();
+    ends(first)
+        .chain(middles.clone())
+        .chain(ends(last))
         .collect()
 }
 
@@ -199,7 +208,7 @@ fn error_notes(given: &Given, runs: &[Run]) -> Vec<String> {
 
 fn error_power(given: &Given, runs: &[Run]) -> Panel {
     let points = runs.iter().flat_map(|run| powers(given, run));
-    let start = (-5.0f64, 0.0f64);
+    let start = (-5.0f64, 1.0f64);
     let (low, high) = points.fold(start, |(low, high), (_, v)| (low.min(v), high.max(v)));
     let title = |run: &Run| {
         let end = run

@@ -6,7 +6,7 @@ use years::axis::Axis;
 use years::curve::{Curve, GREY};
 
 /// Across the picture: its width, and where panels and legends begin and end.
-const WIDTH: f64 = 1300.0;
+const WIDTH: f64 = 1340.0;
 const LEFT: f64 = 110.0;
 const RIGHT: f64 = 830.0;
 const LEGEND: f64 = 856.0;
@@ -46,7 +46,7 @@ pub fn script(page: &Page) -> String {
     text.push_str(include_str!("../../years/page.gnuplot"));
     text.push_str(&format!(
         "set terminal pngcairo size {WIDTH},{height} font 'DejaVu Sans,15' background '#ffffff' rounded noenhanced\n\
-         set lmargin at screen {:.5}\nset rmargin at screen {:.5}\nset xzeroaxis lt 1 lw 1 lc rgb '#888888'\nset multiplot\n",
+         set lmargin at screen {:.5}\nset rmargin at screen {:.5}\nset key samplen 2.6\nset xzeroaxis lt 1 lw 1 lc rgb '#888888'\nset multiplot\n",
         LEFT / WIDTH,
         RIGHT / WIDTH
     ));

@@ -3,7 +3,7 @@
 
 use crate::cable::StepSize;
 use crate::run::{decibels, Run};
-use crate::text::Given;
+use crate::text::{fraction, Given};
 use years::words::{count, percent, settings};
 
 /// "share 1/8: M = 65536", or the name alone where that is "M = 65536".
@@ -17,17 +17,17 @@ pub fn named(step: &StepSize) -> String {
 /// A number with no more decimals than it needs, up to some.
 pub fn short(number: f64, decimals: usize) -> String {
     let text = format!("{number:.decimals$}");
-    let text = text.trim_end_matches('0').trim_end_matches('.');
-    text.replace('-', "−")
+    with_minus(text.trim_end_matches('0').trim_end_matches('.'))
 }
 
-fn with_minus(text: String) -> String {
-    text.replace('-', "−")
+/// A hyphen before a number is no minus sign.
+fn with_minus(number: &str) -> String {
+    number.replace('-', "−")
 }
 
 /// "−21.3 dB".
 pub fn in_decibels(power: f64) -> String {
-    with_minus(format!("{:.1} dB", decibels(power)))
+    with_minus(&format!("{:.1} dB", decibels(power)))
 }
 
 /// "107 of 6400 (1.7 %)".
@@ -73,12 +73,20 @@ pub fn cable(given: &Given) -> Vec<String> {
     ]
 }
 
+/// A value of the response with as few decimals as give it back.
+fn fraction_text(h: i16) -> String {
+    let exact = f64::from(h) / 32768.0;
+    let texts = (0..=5).map(|decimals| format!("{exact:.decimals$}"));
+    let mut same = texts.filter(|text| fraction(text) == Some(h));
+    with_minus(&same.next().unwrap_or_default())
+}
+
 /// The response as fractions, as many as fit a line.
 fn response(given: &Given) -> String {
-    const MOST: usize = 14;
+    const MOST: usize = 12;
     let values = given.response.plain();
     let shown = values.iter().take(MOST);
-    let shown: Vec<String> = shown.map(|h| short(f64::from(*h) / 32768.0, 4)).collect();
+    let shown: Vec<String> = shown.map(|h| fraction_text(*h)).collect();
     let more = match values.len() {
         ..=MOST => String::new(),
         all => format!(" .. and {} more", all - MOST),

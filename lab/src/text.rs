@@ -114,7 +114,7 @@ fn either<T>(
 }
 
 /// A decimal fraction to the nearest unit of 1/32768.
-fn fraction(word: &str) -> Option<i16> {
+pub fn fraction(word: &str) -> Option<i16> {
     let units = (word.parse::<f64>().ok()? * 32768.0).round();
     (-32768.0..=32767.0)
         .contains(&units)
@@ -172,12 +172,13 @@ fn steps(words: &mut Words) -> Vec<At<Step>> {
         words.miss("M or shares");
         return Vec::new();
     };
+    if words.count("M") + words.count("shares") == 0 {
+        words.problem(line, "no step size, but at least one is wanted".to_string());
+    }
     let steps: Vec<At<Step>> = lists.into_iter().flat_map(|list| list.values).collect();
     if let Some(beyond) = steps.get(MOST_STEPS) {
         let sentence = format!("more than {MOST_STEPS} step sizes, the most of a page");
         words.problem(beyond.line, sentence);
-    } else if steps.is_empty() {
-        words.problem(line, "no step size, but at least one is wanted".to_string());
     }
     steps
 }

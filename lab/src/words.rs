@@ -137,6 +137,11 @@ impl<'a> Words<'a> {
         Some((entry.line, entry.words.clone()))
     }
 
+    /// How many words a key has.
+    pub fn count(&self, key: &str) -> usize {
+        self.entry(key).map_or(0, |(_, words)| words.len())
+    }
+
     /// Notes that something is not given.
     pub fn miss(&mut self, what: &str) {
         self.missing.push(what.to_string());

@@ -1,0 +1,236 @@
+//! Runs through the station, held to figures computed without it.
+
+mod common;
+
+use common::{given, runs, with_line, EXAMPLE, WORKED};
+use lab::cable::traces;
+use lab::run::{decibels, error_power, mean_power, Ran, Run};
+use lab::text::Given;
+use lab::{summary, table};
+use reference::{Inputs, Outputs, Settings};
+use traces::trace::Trace;
+
+#[test]
+fn error_power_is_the_mean_of_squares() {
+    assert_eq!(error_power(&[1 << 28], &[2]), 1.0);
+    assert_eq!(error_power(&[-(1 << 28), 0], &[2, 24]), 0.5);
+    assert_eq!(
+        error_power(&[3 << 20, -(1 << 20)], &[10, 11]),
+        (9.0 + 4.0) / 2.0
+    );
+    assert_eq!(error_power(&[0, 0], &[5, 5]), 0.0);
+}
+
+#[test]
+fn decibels_have_a_floor() {
+    assert_eq!(decibels(1.0), 0.0);
+    assert_eq!(decibels(100.0), 20.0);
+    assert!((decibels(0.5) + 3.0103).abs() < 1e-4);
+    assert_eq!(decibels(0.0), -100.0);
+    assert_eq!(decibels(1e-30), -100.0);
+}
+
+/// The figures of the worked example in docs/EQUALISER.md.
+#[test]
+fn the_worked_example_comes_out() {
+    let given = given(WORKED);
+    let runs = runs(&given);
+    let unit = 1.0 / 32768.0;
+    let second = 264_241_152.0 / f64::from(1 << 28);
+    let ran = |error_power, decided, weights: [f64; 2]| Ran {
+        error_power,
+        decided,
+        wrong: 0,
+        psi: 0,
+        weights: weights.map(|weight| weight * unit).to_vec(),
+    };
+    let first = ran(1.0, 0, [1024.0, 0.0]);
+    let blocks = vec![first, ran(second * second, 1, [2032.0, 2016.0])];
+    assert_eq!(runs[0].blocks, blocks);
+    assert_eq!(runs[0].stopped, None);
+    let rows = "\
+1,67108864,1.000000,0,0,0,1.000000e0,0.000,0,0,0,0.031250,0.000000,0.031250,0.000000
+1,67108864,1.000000,1,1,0,9.689941e-1,-0.137,1,0,0,0.062012,0.061523,0.062012,0.061523
+";
+    assert!(table::csv(&given, &runs).ends_with(rows));
+}
+
+/// A wrong decision is counted: without a weight every output is 0, so every
+/// decision is 1.
+#[test]
+fn wrong_decisions_are_counted_after_training_alone() {
+    let text = with_line(WORKED, 3, "N = 2");
+    let text = with_line(&text, 7, "symbols = -1 1 -1 -1 1 -1");
+    let text = with_line(&text, 9, "M = 0");
+    let counts = |training: usize| {
+        let text = with_line(&text, 8, &format!("training = {training}"));
+        let run = runs(&given(&text)).remove(0);
+        let counts: Vec<_> = run.blocks.iter().map(|b| (b.decided, b.wrong)).collect();
+        assert_eq!(run.decided(), 6 - training);
+        counts
+    };
+    assert_eq!(counts(0), [(2, 1), (2, 2), (2, 1)]);
+    assert_eq!(counts(3), [(0, 0), (1, 1), (2, 1)]);
+    assert_eq!(counts(6), [(0, 0), (0, 0), (0, 0)]);
+}
+
+/// Every block of a run by the second implementation.
+fn by_reference(given: &Given, trace: &Trace) -> Vec<Ran> {
+    let s = &trace.settings;
+    let settings = Settings {
+        p: s.p,
+        q: s.q,
+        n: s.n,
+        r: s.r,
+        l: s.l,
+        m: s.m,
+    };
+    let (number, mut state) = reference::set_up(settings);
+    assert_eq!(number, 0);
+    let n = usize::from(s.n);
+    let sent = given.symbols.plain();
+    let mut blocks = Vec::new();
+    for (place, part) in trace.samples.chunks(n).enumerate() {
+        let samples: Vec<i16> = part.iter().map(|x| x.m).collect();
+        let gains: Vec<u8> = part.iter().map(|x| x.g).collect();
+        let training: Vec<i8> = part.iter().map(|x| x.entry).collect();
+        let inputs = Inputs {
+            samples: &samples,
+            gains: &gains,
+            training: &training,
+        };
+        let mut out = Outputs::zeros(n);
+        assert_eq!(reference::run(&mut state, inputs, &mut out), 0);
+        let errors = (0..n).map(|i| f64::from(out.z[i]) * 2f64.powi(i32::from(out.theta[i]) - 30));
+        let decided: Vec<usize> = (0..n).filter(|i| training[*i] == 0).collect();
+        let wrong = decided
+            .iter()
+            .filter(|i| out.decision[**i] != sent[place * n + **i]);
+        let unit = 2f64.powi(i32::from(state.psi) - 15);
+        blocks.push(Ran {
+            error_power: errors.map(|e| e * e).sum::<f64>() / n as f64,
+            decided: decided.len(),
+            wrong: wrong.count(),
+            psi: state.psi,
+            weights: state.weights.iter().map(|w| f64::from(*w) * unit).collect(),
+        });
+    }
+    blocks
+}
+
+#[test]
+fn the_example_is_run_as_the_second_implementation_runs_it() {
+    let given = given(EXAMPLE);
+    let made = traces(&given).expect("it is accepted");
+    for ((_, bytes), run) in made.iter().zip(runs(&given)) {
+        let trace = Trace::of_bytes(bytes).expect("a trace");
+        assert_eq!(run.blocks, by_reference(&given, &trace));
+        assert_eq!(run.stopped, None);
+    }
+}
+
+/// What the example is there to show.
+#[test]
+fn one_step_is_too_slow_one_is_right_and_one_is_at_the_limit() {
+    let given = given(EXAMPLE);
+    let runs = runs(&given);
+    let wrong: Vec<usize> = runs.iter().map(Run::wrong).collect();
+    assert_eq!(wrong, [3763, 0, 94]);
+    assert!(runs.iter().all(|run| run.decided() == 6400));
+    assert_eq!(Some(runs[2].step.m), given.greatest_step());
+    let before_end = |run: &Run| mean_power(&run.blocks[90..100]).map(decibels);
+    let trained: Vec<f64> = runs.iter().filter_map(before_end).collect();
+    assert!(
+        trained[0] > 0.0 && trained[1] < -6.0 && trained[2] < -6.0,
+        "{trained:?}"
+    );
+    let end = |run: &Run| run.last_error_power().map(decibels);
+    assert!(end(&runs[1]) < end(&runs[2]));
+}
+
+#[test]
+fn the_table_has_a_row_for_each_block_and_its_columns() {
+    let given = given(EXAMPLE);
+    let csv = table::csv(&given, &runs(&given));
+    let lines: Vec<&str> = csv.lines().collect();
+    assert_eq!(lines.len(), 1 + 3 * 300);
+    let columns: Vec<&str> = lines[0].split(',').collect();
+    assert_eq!(
+        columns[..6],
+        [
+            "step",
+            "M",
+            "share of the greatest M",
+            "block",
+            "first sample",
+            "turned down with"
+        ]
+    );
+    assert_eq!(
+        columns[13..],
+        [
+            "feed forward 0",
+            "feed forward 1",
+            "feedback 1",
+            "feedback 2",
+            "feedback 3",
+            "feedback 4"
+        ]
+    );
+    assert!(lines
+        .iter()
+        .all(|line| line.split(',').count() == columns.len()));
+    assert!(lines[301].starts_with("2,524288,0.250000,0,0,0,"));
+    assert!(lines[900].starts_with("3,2097152,1.000000,299,9568,0,"));
+}
+
+/// A run that was turned down in its third block.
+fn stopped() -> (Given, Vec<Run>) {
+    let text = with_line(WORKED, 7, "symbols = 1 1 1 1");
+    let given = given(&text);
+    let mut runs = runs(&given);
+    runs[0].blocks.truncate(2);
+    runs[0].stopped = Some(6);
+    (given, runs)
+}
+
+#[test]
+fn a_block_that_is_turned_down_is_told_in_the_table_and_the_summary() {
+    let (given, runs) = stopped();
+    let csv = table::csv(&given, &runs);
+    let columns = csv.lines().next().expect("a header").split(',').count();
+    let last = csv.lines().last().expect("a row");
+    assert_eq!(
+        last,
+        format!("1,67108864,1.000000,2,2,6{}", ",".repeat(columns - 6))
+    );
+    let summary = summary::summary(&given, &runs);
+    assert!(
+        summary.contains("; block 2 turned down with 6; "),
+        "{summary}"
+    );
+    let page = lab::page::page(&given, &runs, "a");
+    let line = "M = 67108864: block 2 turned down with 6, and ends there";
+    assert!(
+        page.lines.iter().any(|told| told == line),
+        "{:?}",
+        page.lines
+    );
+}
+
+#[test]
+fn the_summary_has_a_line_for_each_step_size() {
+    let given = given(EXAMPLE);
+    let summary = summary::summary(&given, &runs(&given));
+    assert_eq!(summary.lines().count(), 4 + 3);
+    let shown = [
+        "response 0.4 −0.07 −0.02 0.02 −0.01 0 0 0 0.04, no noise",
+        "9600 symbols, random from seed 1; training on the first 3200; least gain 0 (L)",
+        "share 1/4: M = 524288, 0.250000 of the greatest: wrong decisions after training 0 of 6400 (0 %); \
+         error power over the last 30 blocks −6.8 dB (2.0828e-1); ψ 3; feed forward weights 2.476562 0.046875; \
+         feedback weights 0.150879 0.050781 −0.05835 0.016846",
+    ];
+    for line in shown {
+        assert!(summary.lines().any(|found| found == line), "{line}");
+    }
+}
