@@ -58,6 +58,16 @@ fn two_runs_write_the_same_bytes_and_tell_their_progress() {
         WRITTEN.map(|name| std::fs::read(outdir.join(name)).expect("read"))
     });
     assert_eq!(written[0], written[1]);
+    let other = folder("other-seed");
+    assert!(
+        run(&other, EXAMPLE.replace("seed = 1", "seed = 2").as_bytes())
+            .status
+            .success()
+    );
+    assert_ne!(
+        std::fs::read(other.join("lab.csv")).expect("read"),
+        written[0][0]
+    );
 }
 
 #[test]

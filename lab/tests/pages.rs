@@ -146,23 +146,27 @@ fn weights_and_exponents_are_those_of_the_last_block() {
     assert_eq!(psi.last(), Some(&(9600.0, f64::from(last.psi))));
 }
 
+/// The first row of a panel that is not within its axes.
+fn outside(panel: &Panel) -> Option<&str> {
+    let rows = panel.curves.iter().flat_map(|curve| curve.rows.lines());
+    let mut rows = rows.filter(|line| !line.is_empty());
+    rows.find(|line| {
+        let numbers: Vec<f64> = line
+            .split(' ')
+            .map(|n| n.parse().expect("a number"))
+            .collect();
+        !panel.across.holds(numbers[0]) || !panel.up.holds(numbers[1])
+    })
+}
+
 #[test]
 fn every_point_is_within_its_panel() {
     for text in [EXAMPLE, WORKED] {
-        for panel in &page_of(text).panels {
-            for curve in &panel.curves {
-                for line in curve.rows.lines() {
-                    let numbers: Vec<f64> = line
-                        .split(' ')
-                        .map(|n| n.parse().expect("a number"))
-                        .collect();
-                    assert!(
-                        panel.across.holds(numbers[0]) && panel.up.holds(numbers[1]),
-                        "{}: {line}",
-                        panel.name
-                    );
-                }
-            }
+        for mut panel in page_of(text).panels {
+            assert_eq!(outside(&panel), None, "{}", panel.name);
+            let beyond = panel.up.high + 0.1;
+            panel.curves[0].rows.push_str(&format!("0.5 {beyond:.3}\n"));
+            assert!(outside(&panel).is_some(), "{}", panel.name);
         }
     }
 }

@@ -123,9 +123,12 @@ fn the_example_is_run_as_the_second_implementation_runs_it() {
     let given = given(EXAMPLE);
     let made = traces(&given).expect("it is accepted");
     for ((_, bytes), run) in made.iter().zip(runs(&given)) {
-        let trace = Trace::of_bytes(bytes).expect("a trace");
+        let mut trace = Trace::of_bytes(bytes).expect("a trace");
         assert_eq!(run.blocks, by_reference(&given, &trace));
         assert_eq!(run.stopped, None);
+        // one sample heard otherwise is seen
+        trace.samples[5000].m ^= 1 << 12;
+        assert_ne!(run.blocks, by_reference(&given, &trace));
     }
 }
 
