@@ -69,7 +69,7 @@ pub fn cable(given: &Given) -> Vec<String> {
         taps,
         response(given),
         format!("{symbols}{source}; {training}; least gain {least} (L)"),
-        format!("shares are of the greatest M that is admitted with these sizes, {greatest}"),
+        format!("the greatest M admitted with these sizes is {greatest}; shares are of it"),
     ]
 }
 
@@ -83,15 +83,19 @@ fn fraction_text(h: i16) -> String {
 
 /// The response as fractions, as many as fit a line.
 fn response(given: &Given) -> String {
-    const MOST: usize = 12;
+    const LINE: usize = 115;
     let values = given.response.plain();
-    let shown = values.iter().take(MOST);
-    let shown: Vec<String> = shown.map(|h| fraction_text(*h)).collect();
-    let more = match values.len() {
-        ..=MOST => String::new(),
-        all => format!(" .. and {} more", all - MOST),
+    let texts: Vec<String> = values.iter().map(|h| fraction_text(*h)).collect();
+    let line = |shown: usize| {
+        let more = match texts.len() - shown {
+            0 => String::new(),
+            more => format!(" .. and {more} more"),
+        };
+        format!("response {}{more}, no noise", texts[..shown].join(" "))
     };
-    format!("response {}{more}, no noise", shown.join(" "))
+    let mut lines = (0..=texts.len()).rev().map(line);
+    let fitting = lines.find(|line| line.chars().count() <= LINE);
+    fitting.unwrap_or_default()
 }
 
 fn list(weights: &[f64]) -> String {

@@ -10,7 +10,7 @@ use years::random::{Purpose, Random};
 /// The most step sizes of a page.
 pub const MOST_STEPS: usize = 6;
 /// The most random symbols, far beyond those of a trace.
-const MOST_SYMBOLS: u64 = 9_999_999;
+const MOST_SYMBOLS: u64 = 999_999;
 
 /// A step size as it is asked for.
 #[derive(Clone, Debug, PartialEq, Eq)]

@@ -49,7 +49,7 @@ fn the_example_has_its_five_panels_and_words() {
     for words in [
         "'Step sizes on a cable: cable.txt'",
         "'wrong decisions after training: 58.8 % with share 1/16, 0 % with share 1/4, 1.5 % with share 1'",
-        "'shares are of the greatest M that is admitted with these sizes, 2097152'",
+        "'the greatest M admitted with these sizes is 2097152; shares are of it'",
         "'error power, dB'",
         "'0 dB: one symbol unit (r.m.s.), half the'",
         "'each point the mean of 2 blocks in a row'",

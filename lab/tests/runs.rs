@@ -237,3 +237,20 @@ fn the_summary_has_a_line_for_each_step_size() {
         assert!(summary.lines().any(|found| found == line), "{line}");
     }
 }
+
+#[test]
+fn a_long_response_is_cut_to_a_line() {
+    let response = "response = ".to_string() + &"-12345 ".repeat(32);
+    let line = |text: &str| summary::cable(&given(text))[1].clone();
+    let cut = line(&with_line(WORKED, 6, &response));
+    assert!(
+        cut.starts_with("response −0.37674 −0.37674 ") && cut.ends_with(" more, no noise"),
+        "{cut}"
+    );
+    assert!((100..=115).contains(&cut.chars().count()), "{cut}");
+    let ends = with_line(WORKED, 6, "response = 32767 -32768 1 -1 0 16384");
+    assert_eq!(
+        line(&ends),
+        "response 0.99997 −1 0.00003 −0.00003 0 0.5, no noise"
+    );
+}
