@@ -7,8 +7,9 @@ use lab::cable::traces;
 use lab::run::{decibels, error_power, mean_power, Ran, Run};
 use lab::text::Given;
 use lab::{summary, table};
-use reference::{Inputs, Outputs, Settings};
-use traces::trace::Trace;
+use reference::{Inputs, Outputs, State};
+use tigbulode::sides::settings_of;
+use traces::trace::{Sample, Trace};
 
 #[test]
 fn error_power_is_the_mean_of_squares() {
@@ -74,48 +75,44 @@ fn wrong_decisions_are_counted_after_training_alone() {
     assert_eq!(counts(6), [(0, 0), (0, 0), (0, 0)]);
 }
 
+/// A block by the second implementation.
+fn block_by_reference(state: &mut State, part: &[Sample], sent: &[i8]) -> Ran {
+    let samples: Vec<i16> = part.iter().map(|x| x.m).collect();
+    let gains: Vec<u8> = part.iter().map(|x| x.g).collect();
+    let training: Vec<i8> = part.iter().map(|x| x.entry).collect();
+    let inputs = Inputs {
+        samples: &samples,
+        gains: &gains,
+        training: &training,
+    };
+    let n = part.len();
+    let mut out = Outputs::zeros(n);
+    assert_eq!(reference::run(state, inputs, &mut out), 0);
+    let errors = (0..n).map(|i| f64::from(out.z[i]) * 2f64.powi(i32::from(out.theta[i]) - 30));
+    let decided: Vec<usize> = (0..n).filter(|i| training[*i] == 0).collect();
+    let wrong = decided.iter().filter(|i| out.decision[**i] != sent[**i]);
+    let unit = 2f64.powi(i32::from(state.psi) - 15);
+    Ran {
+        error_power: errors.map(|e| e * e).sum::<f64>() / n as f64,
+        decided: decided.len(),
+        wrong: wrong.count(),
+        psi: state.psi,
+        weights: state.weights.iter().map(|w| f64::from(*w) * unit).collect(),
+    }
+}
+
 /// Every block of a run by the second implementation.
 fn by_reference(given: &Given, trace: &Trace) -> Vec<Ran> {
-    let s = &trace.settings;
-    let settings = Settings {
-        p: s.p,
-        q: s.q,
-        n: s.n,
-        r: s.r,
-        l: s.l,
-        m: s.m,
-    };
+    let s = given.sizes(trace.settings.m);
+    let settings = settings_of(&s.set_up().state);
     let (number, mut state) = reference::set_up(settings);
     assert_eq!(number, 0);
     let n = usize::from(s.n);
     let sent = given.symbols.plain();
-    let mut blocks = Vec::new();
-    for (place, part) in trace.samples.chunks(n).enumerate() {
-        let samples: Vec<i16> = part.iter().map(|x| x.m).collect();
-        let gains: Vec<u8> = part.iter().map(|x| x.g).collect();
-        let training: Vec<i8> = part.iter().map(|x| x.entry).collect();
-        let inputs = Inputs {
-            samples: &samples,
-            gains: &gains,
-            training: &training,
-        };
-        let mut out = Outputs::zeros(n);
-        assert_eq!(reference::run(&mut state, inputs, &mut out), 0);
-        let errors = (0..n).map(|i| f64::from(out.z[i]) * 2f64.powi(i32::from(out.theta[i]) - 30));
-        let decided: Vec<usize> = (0..n).filter(|i| training[*i] == 0).collect();
-        let wrong = decided
-            .iter()
-            .filter(|i| out.decision[**i] != sent[place * n + **i]);
-        let unit = 2f64.powi(i32::from(state.psi) - 15);
-        blocks.push(Ran {
-            error_power: errors.map(|e| e * e).sum::<f64>() / n as f64,
-            decided: decided.len(),
-            wrong: wrong.count(),
-            psi: state.psi,
-            weights: state.weights.iter().map(|w| f64::from(*w) * unit).collect(),
-        });
-    }
+    let blocks = trace.samples.chunks(n).zip(sent.chunks(n));
     blocks
+        .map(|(part, sent)| block_by_reference(&mut state, part, sent))
+        .collect()
 }
 
 #[test]
@@ -253,4 +250,83 @@ fn a_long_response_is_cut_to_a_line() {
         line(&ends),
         "response 0.99997 −1 0.00003 −0.00003 0 0.5, no noise"
     );
+}
+
+/// Newest first, as many as there were.
+fn push(list: &mut [f64], newest: f64) {
+    list.rotate_right(1);
+    list[0] = newest;
+}
+
+fn product(weights: &[f64], data: &[f64]) -> f64 {
+    weights.iter().zip(data).map(|(w, x)| w * x).sum()
+}
+
+/// LMS in plain floating point numbers on the cable of a text, nothing cut:
+/// wrong decisions after training, and the error power over the last tenth.
+fn plain_lms(given: &Given, m: u32) -> (usize, f64) {
+    let step = f64::from(m) / f64::from(1 << 30);
+    let (p, q) = (usize::from(given.p.value), usize::from(given.q.value));
+    let (response, sent) = (given.response.plain(), given.symbols.plain());
+    let response: Vec<f64> = response.iter().map(|h| f64::from(*h) / 32768.0).collect();
+    let most = f64::from((2 << given.r.value) - 1);
+    let mut on_cable = vec![0.0; response.len()];
+    let (mut forward, mut heard) = (vec![0.0; p], vec![0.0; p]);
+    let (mut back, mut past) = (vec![0.0; q], vec![0.0; q]);
+    let (mut wrong, mut squares) = (0, Vec::new());
+    for (place, symbol) in sent.iter().map(|symbol| f64::from(*symbol)).enumerate() {
+        push(&mut on_cable, symbol);
+        push(&mut heard, product(&response, &on_cable));
+        let y = product(&forward, &heard) + product(&back, &past);
+        let decision = (2.0 * (y / 2.0).floor() + 1.0).clamp(-most, most);
+        let trained = place < given.training.value;
+        let aim = if trained { symbol } else { decision };
+        wrong += usize::from(!trained && decision != symbol);
+        squares.push((aim - y) * (aim - y));
+        let gain = step * (aim - y);
+        forward
+            .iter_mut()
+            .zip(&heard)
+            .for_each(|(w, x)| *w += gain * x);
+        back.iter_mut().zip(&past).for_each(|(w, x)| *w += gain * x);
+        push(&mut past, aim);
+    }
+    let last = &squares[sent.len() - sent.len() / 10..];
+    (wrong, last.iter().sum::<f64>() / last.len() as f64)
+}
+
+/// What the example shows is the method's own, not that of short registers.
+#[test]
+fn the_example_fares_as_in_plain_floating_point() {
+    let given = given(EXAMPLE);
+    for run in runs(&given) {
+        let (wrong, power) = plain_lms(&given, run.step.m);
+        let apart = decibels(power) - run.last_error_power().map_or(0.0, decibels);
+        assert!(apart.abs() < 0.2, "{}: {apart} dB", run.step.name);
+        assert!(
+            wrong.abs_diff(run.wrong()) <= run.wrong() / 10,
+            "{}: {wrong}",
+            run.step.name
+        );
+    }
+}
+
+/// Without the far echo nothing stays but what is cut: each step is less than
+/// a unit of a weight then.
+#[test]
+fn without_the_echo_the_greatest_step_is_the_best() {
+    let text = EXAMPLE.replace("-0.01 0 0 0 0.04", "-0.01");
+    let given = given(&text);
+    let runs = runs(&given);
+    let ends: Vec<f64> = runs
+        .iter()
+        .filter_map(Run::last_error_power)
+        .map(decibels)
+        .collect();
+    assert_eq!((runs[1].wrong(), runs[2].wrong()), (0, 0));
+    assert!(
+        (ends[1] + 21.3).abs() < 0.1 && (ends[2] + 35.3).abs() < 0.1,
+        "{ends:?}"
+    );
+    assert!(decibels(plain_lms(&given, runs[1].step.m).1) < -45.0);
 }
