@@ -182,6 +182,12 @@ fn the_table_has_a_row_for_each_block_and_its_columns() {
         .all(|line| line.split(',').count() == columns.len()));
     assert!(lines[301].starts_with("2,524288,0.250000,0,0,0,"));
     assert!(lines[900].starts_with("3,2097152,1.000000,299,9568,0,"));
+    let first = "-0.018280,0.037872,-0.007874,-0.018280,0.014557,-0.011963,-0.003662";
+    assert!(
+        lines[1].ends_with(&format!(",0.037872,{first}")),
+        "{}",
+        lines[1]
+    );
 }
 
 /// A run that was turned down in its third block.
