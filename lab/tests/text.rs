@@ -113,11 +113,15 @@ fn a_wrong_line_is_told_as_it_is() {
 fn every_problem_is_told_in_the_order_of_lines() {
     let text = with_line(WORKED, 2, "q = none");
     let text = with_line(&text, 7, "symbols = 1 x\ny 1");
+    let text = format!("shares = x\n{text}");
     let symbol = "but a whole number from -128 to 127 is wanted";
+    let share =
+        "but a share from 0 to 1 of the greatest admitted M, such as 1/8 or 0.125, is wanted";
     let wanted = [
-        "line 2: q = none, but a whole number from 0 to 255 is wanted".to_string(),
-        format!("line 7: symbols: x, {symbol}"),
-        format!("line 8: symbols: y, {symbol}"),
+        format!("line 1: shares: x, {share}"),
+        "line 3: q = none, but a whole number from 0 to 255 is wanted".to_string(),
+        format!("line 8: symbols: x, {symbol}"),
+        format!("line 9: symbols: y, {symbol}"),
     ];
     assert_eq!(problems(&text), wanted);
 }
