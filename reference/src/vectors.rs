@@ -5,7 +5,7 @@ mod blocks;
 mod cables;
 mod descriptions;
 mod images;
-mod spoiled;
+pub mod spoiled;
 mod traces;
 
 pub use blocks::{block_vectors, BlockVector};
