@@ -84,17 +84,7 @@ static void try_other_bytes(const cable *c, uint8_t number, size_t place) {
 }
 
 static void read_file(const char *name) {
-    FILE *f = fopen(name, "rb");
-    if (f == NULL) {
-        fprintf(stderr, "cables: can't open %s\n", name);
-        exit(2);
-    }
-    file_length = fread(file, 1, sizeof file, f);
-    if (ferror(f) || !feof(f) || file_length == 0) {
-        fprintf(stderr, "cables: can't read %s, or it does not have 1 to %d bytes\n", name, MOST_FILE - 1);
-        exit(2);
-    }
-    fclose(f);
+    file_length = read_whole("cables", name, file, sizeof file);
 }
 
 static uint32_t number_at(size_t place, int bytes) {

@@ -1,6 +1,7 @@
 /* Tries what tigbulode_laboratory.h has in plain C beside its function, against that: `interface`. This file is C99, C11 and
  * C++98 at once. Exit status 1: a difference, or a change that was not told apart. */
 #include "arguments.h"
+#include "expected.h"
 #include "tigbulode_laboratory.h"
 
 enum { FEW = 200, CABLES = 500, ROOM = TIGBULODE_MOST_TRACE + 16 };
@@ -8,28 +9,6 @@ enum { FEW = 200, CABLES = 500, ROOM = TIGBULODE_MOST_TRACE + 16 };
 static const int16_t quiet[TIGBULODE_MOST_RESPONSE + 1] = {100, -20, 3};
 static int8_t ones[TIGBULODE_MOST_SYMBOLS + 1];
 static uint8_t trace[ROOM], other[ROOM];
-
-static unsigned differences, changes, told;
-
-/* The first difference is printed, with its place. */
-static void expect(int holds, const char *about, unsigned place) {
-    if (holds) return;
-    if (differences == 0) fprintf(stderr, "interface: %s, case %u: not as expected\n", about, place);
-    differences++;
-}
-
-/* A changed expectation, which must be told apart. */
-static void try_changed(int holds) {
-    changes++;
-    told += !holds;
-}
-
-static void try_version(void) {
-    char text[16];
-    sprintf(text, "%d.%d", TIGBULODE_LABORATORY_VERSION_MAJOR, TIGBULODE_LABORATORY_VERSION_MINOR);
-    expect(strcmp(text, TIGBULODE_LABORATORY_VERSION) == 0, "version", 0);
-    printf("version %s\n", TIGBULODE_LABORATORY_VERSION);
-}
 
 static void try_number_texts(void) {
     int number;
@@ -157,7 +136,7 @@ static void try_left_out(void) {
 int main(int argc, char **argv) {
     take_arguments(argc, argv, 0, "interface, without arguments: tries the plain C of tigbulode_laboratory.h");
     memset(ones, 1, sizeof ones);
-    try_version();
+    try_version(TIGBULODE_LABORATORY_VERSION_MAJOR, TIGBULODE_LABORATORY_VERSION_MINOR, TIGBULODE_LABORATORY_VERSION);
     try_number_texts();
     try_trace_lengths();
     try_response_lengths();
