@@ -11,7 +11,7 @@ use lib.ListN.{length, getD}
 use lib.IntN.{ℤ, pos, natAbs}
 use mir.Syntax.{w8}
 use mir.Val.{toZ}
-use borrow.Author.Tests.{le-leb, leb-true, eq-eqb}
+use borrow.Author.Tests.{lt-ltb, le-ltb, le-leb, leb-true, eq-eqb}
 use Rattle.laws.specs.Lists.{all, all-at, and-left, and-right}
 use Rattle.laws.specs.Powers.{rises}
 use Rattle.laws.specs.Sums.{Each}
@@ -110,6 +110,9 @@ module _ (c : Cable) (room : ℕ) (ok : cableNumber c room ≡ 0) where
 
   -- ---- the samples
 
+  chosen : (n : ℕ) {b : Bool} → ltb n (c .training) ≡ b → entry c n ≡ cond b (getD (c .symbols) n (pos 0)) (pos 0)
+  chosen n e = ap (λ (b : Bool). cond b (getD (c .symbols) n (pos 0)) (pos 0)) e
+
   reads-sample : (n : ℕ) → n < sampleCount c → ReadsSample c t n
   reads-sample n h =
       let r = c .settings .r in
@@ -121,6 +124,8 @@ module _ (c : Cable) (room : ℕ) (ok : cableNumber c room ≡ 0) where
         sample-is = m-is;
         gain-is = gain-byte c n h;
         entry-is = e-is;
+        entry-trained = λ l. e-is ∙ chosen n (lt-ltb n (c .training) l);
+        entry-later = λ l. e-is ∙ chosen n (le-ltb n (c .training) l);
         sample-small = rw m-is small;
         gain-least = omega (arith, gain-byte c n h, g .1);
         gain-most = omega (arith, gain-byte c n h, gain-most r (s c n));
