@@ -3,6 +3,7 @@
 #include <stdlib.h>
 #include <time.h>
 
+#include "cables.h"
 #include "channel.h"
 #include "check.h"
 #include "plain.h"
@@ -15,6 +16,7 @@
 enum { PROVED, CAREFUL, NATIVE, PLAIN, CONTENDERS };
 
 static run_call *const runs[] = {tigbulode_run, careful_run, careful_native_run};
+static simulation *const simulations[] = {proved_simulation, careful_simulation, native_simulation};
 
 typedef struct {
     channel_block blocks[BLOCKS];
@@ -64,11 +66,22 @@ static double now(void) {
     return (double)t.tv_sec * 1e9 + (double)t.tv_nsec;
 }
 
+static setting current;
+static cable longest;
+
 // Nanoseconds per sample.
-static double timed(setting *s, int who) {
+static double timed_run(int who) {
     double start = now();
-    for (int i = 0; i < BLOCKS; i++) run_block(s, who, &s->blocks[i], decided);
+    for (int i = 0; i < BLOCKS; i++) run_block(&current, who, &current.blocks[i], decided);
     return (now() - start) / (BLOCKS * N);
+}
+
+// Microseconds for a cable.
+static double timed_cable(int who) {
+    static uint8_t room[CABLE_ROOM];
+    double start = now();
+    if (simulations[who](&longest, room)) fail("the longest cable was refused");
+    return (now() - start) / 1000;
 }
 
 static int by_size(const void *a, const void *b) {
@@ -82,24 +95,43 @@ static double median(double *xs, int n) {
 }
 
 // Rounds of all contenders in turn; ratios are of times in the same round.
-static figures measure(int p, int q) {
-    static setting s;
+static figures measure(double (*timed)(int who), int contenders) {
     static double times[CONTENDERS][ROUNDS], ratios[CONTENDERS][ROUNDS];
-    figures f;
-    prepare(&s, p, q);
+    figures f = {0};
     for (int i = 0; i < ROUNDS; i++) {
-        for (int k = 0; k < CONTENDERS; k++) {
-            int who = (i + k) % CONTENDERS;
-            times[who][i] = timed(&s, who);
+        for (int k = 0; k < contenders; k++) {
+            int who = (i + k) % contenders;
+            times[who][i] = timed(who);
         }
-        for (int who = 0; who < CONTENDERS; who++) ratios[who][i] = times[PROVED][i] / times[who][i];
+        for (int who = 0; who < contenders; who++) ratios[who][i] = times[PROVED][i] / times[who][i];
     }
-    for (int who = 0; who < CONTENDERS; who++) {
+    for (int who = 0; who < contenders; who++) {
         f.median[who] = median(times[who], ROUNDS);
         f.least[who] = times[who][0];
         f.ratio[who] = median(ratios[who], ROUNDS);
     }
     return f;
+}
+
+// Careful C with a fault: the last entry of a cable whose entries are all given.
+static uint8_t faulty_simulation(const cable *c, uint8_t room[CABLE_ROOM]) {
+    uint8_t number = careful_simulation(c, room);
+    if (number == 0 && c->training == c->symbols_length) room[AROUND + c->trace_length - 1] ^= 2;
+    return number;
+}
+
+static void check_cable_answers(void) {
+    unsigned counts[11] = {0}, unused[11] = {0};
+    const int numbers[] = {0, 1, 2, 10};
+    if (!check_cables(careful_simulation, 100000, counts)) fail("careful C and the proved code differ in a cable");
+    if (!check_cables(native_simulation, 30000, counts)) fail("careful C for this processor differs in a cable");
+    if (check_cables(faulty_simulation, 30000, unused)) fail("a cable with a fault was not found");
+    printf("careful C and the proved code agree byte for byte; random cables by answer:");
+    for (int i = 0; i < 4; i++) {
+        printf(" %d: %u", numbers[i], counts[numbers[i]]);
+        if (counts[numbers[i]] == 0) fail("an answer of a cable was never seen");
+    }
+    printf("\n");
 }
 
 static void check_answers(void) {
@@ -126,7 +158,8 @@ static void print_table(const char *title, const int (*sizes)[2], int rows) {
     printf("        |      proved     |  (a) careful C  | (b) plain float | proved/careful | proved | native\n");
     printf("  p   q |  median   least |  median   least |  median   least | median   least | /plain | median\n");
     for (int i = 0; i < rows; i++) {
-        figures f = measure(sizes[i][0], sizes[i][1]);
+        prepare(&current, sizes[i][0], sizes[i][1]);
+        figures f = measure(timed_run, CONTENDERS);
         printf("%3d %3d | %7.2f %7.2f | %7.2f %7.2f | %7.2f %7.2f | %6.2f %7.2f | %6.2f | %6.2f\n", sizes[i][0],
                sizes[i][1], f.median[PROVED], f.least[PROVED], f.median[CAREFUL], f.least[CAREFUL],
                f.median[PLAIN], f.least[PLAIN], f.ratio[CAREFUL], f.least[PROVED] / f.least[CAREFUL],
@@ -135,17 +168,32 @@ static void print_table(const char *title, const int (*sizes)[2], int rows) {
     }
 }
 
+static void print_cable(void) {
+    longest_cable(&longest);
+    figures f = measure(timed_cable, PLAIN);
+    printf("\nMicroseconds for the longest trace with 32 response values: 16,381 symbols, N = 1, r = 2, L = 0\n");
+    printf("        |      proved     |  (a) careful C  | proved/careful | native\n");
+    printf(" values |  median   least |  median   least | median   least | median\n");
+    printf("     32 | %7.2f %7.2f | %7.2f %7.2f | %6.2f %7.2f | %6.2f\n", f.median[PROVED], f.least[PROVED],
+           f.median[CAREFUL], f.least[CAREFUL], f.ratio[CAREFUL], f.least[PROVED] / f.least[CAREFUL],
+           f.median[NATIVE]);
+}
+
 int main(void) {
     static const int main_sizes[][2] = {{3, 3}, {8, 8}, {16, 16}};
     static const int growth[][2] = {{1, 1}, {2, 2}, {4, 4}, {8, 8}, {12, 12}, {16, 16}};
     static const int uneven[][2] = {{1, 16}, {4, 12}, {8, 3}, {12, 4}, {16, 1}};
     check_answers();
+    check_cable_answers();
     print_table("Nanoseconds per sample, N = 128, r = 2, L = 1, greatest admitted M, decided", main_sizes, 3);
     print_table("The same as p + q grows", growth, 6);
     print_table("The same with p + q split unevenly", uneven, 5);
+    print_cable();
     printf("\nMemory of a station: %zu bytes of record, at most %d bytes of image\n", sizeof(tigbulode_equaliser),
            12 + 4 * 32);
     printf("Stack of a block run: proved %zu bytes, careful C %zu bytes\n", stack_of(tigbulode_run),
            stack_of(careful_run));
+    printf("Stack of a cable: proved %zu bytes, careful C %zu bytes\n", stack_of_cable(tigbulode_cable),
+           stack_of_cable(careful_cable));
     return 0;
 }

@@ -13,7 +13,7 @@ uint32_t any_number(void) {
 
 uint32_t any_below(uint32_t limit) { return (uint32_t)((uint64_t)any_number() * limit >> 32); }
 
-static int any_symbol(int r) { return 2 * (int)any_below(2u << r) - ((2 << r) - 1); }
+int any_symbol(int r) { return 2 * (int)any_below(2u << r) - ((2 << r) - 1); }
 
 void channel_next(channel *c, channel_block *b) {
     float unit = 1.0f / (float)(4 << c->l);

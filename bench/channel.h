@@ -20,6 +20,7 @@ typedef struct {
 
 uint32_t any_number(void);
 uint32_t any_below(uint32_t limit);
+int any_symbol(int r);
 
 // The next 128 samples of a channel with three paths and little noise.
 void channel_next(channel *c, channel_block *b);

@@ -4,15 +4,19 @@
 #include <string.h>
 #include <ucontext.h>
 
+#include "cables.h"
 #include "channel.h"
 
-#define SIZE 65536
+#define SIZE 262144
 #define PAINT 0xa5
 #define N LONGEST_BLOCK
 
 static unsigned char area[SIZE] __attribute__((aligned(64)));
 static ucontext_t outside, inside;
 static run_call *measured;
+static cable_call *measured_cable;
+static cable longest;
+static uint8_t room[CABLE_ROOM];
 static tigbulode_equaliser state;
 static channel_block block;
 static int32_t y[N], z[N];
@@ -34,23 +38,49 @@ static uint8_t nothing(tigbulode_equaliser *s, const int16_t *m, size_t m_length
     return 0;
 }
 
-static size_t touched(run_call *run) {
+static void cable_once(void) { number = simulate(measured_cable, &longest, room); }
+
+static uint8_t no_cable(uint8_t p, uint8_t q, uint8_t n, uint8_t r, uint8_t l, uint32_t step,
+                        const int16_t *response, size_t response_length, const int8_t *symbols,
+                        size_t symbols_length, size_t training, uint8_t *trace, size_t trace_length) {
+    (void)p, (void)q, (void)n, (void)r, (void)l, (void)step, (void)response, (void)response_length;
+    (void)symbols, (void)symbols_length, (void)training, (void)trace, (void)trace_length;
+    return 0;
+}
+
+static size_t touched(void (*once)(void)) {
     memset(area, PAINT, SIZE);
-    measured = run;
     if (getcontext(&inside) != 0) return 0;
     inside.uc_stack.ss_sp = area, inside.uc_stack.ss_size = SIZE, inside.uc_link = &outside;
-    makecontext(&inside, run_once, 0);
+    makecontext(&inside, once, 0);
     if (swapcontext(&outside, &inside) != 0 || number != 0) return 0;
     size_t low = 0;
     while (low < SIZE && area[low] == PAINT) low++;
     return SIZE - low;
 }
 
+static size_t touched_by_run(run_call *run) {
+    measured = run;
+    return touched(run_once);
+}
+
+static size_t touched_by_cable(cable_call *call) {
+    measured_cable = call;
+    return touched(cable_once);
+}
+
+static size_t less(size_t with, size_t without) { return with > without ? with - without : 0; }
+
 size_t stack_of(run_call *run) {
     channel c = {.r = 2, .l = 1};
     channel_next(&c, &block);
     state = tigbulode_set_up(16, 16, N, 2, 1, tigbulode_greatest_step(16, 16, 2, 1)).state;
-    touched(run);
-    size_t with = touched(run), without = touched(nothing);
-    return with > without ? with - without : 0;
+    touched_by_run(run);
+    return less(touched_by_run(run), touched_by_run(nothing));
+}
+
+size_t stack_of_cable(cable_call *call) {
+    longest_cable(&longest);
+    touched_by_cable(call);
+    return less(touched_by_cable(call), touched_by_cable(no_cable));
 }

@@ -1,10 +1,14 @@
-// Stack that a block run uses.
+// Stack that a call uses.
 #ifndef STACK_H
 #define STACK_H
 
+#include "cable.h"
 #include "careful.h"
 
 // Bytes of stack that one accepted block of 128 samples touches, by the given call; 0 if it can't be told.
 size_t stack_of(run_call *run);
+
+// The same of the longest cable.
+size_t stack_of_cable(cable_call *call);
 
 #endif

@@ -1,4 +1,4 @@
-/* The arguments of the C programs here: --help, a count that is wanted, and nothing else. */
+/* The arguments of the C programs here: --help, a count that is wanted, and nothing else; and a file, read whole. */
 #ifndef ARGUMENTS_H
 #define ARGUMENTS_H
 
@@ -22,6 +22,23 @@ static inline void take_arguments(int argc, char **argv, int wanted, const char 
         fprintf(stderr, "arguments given: %d, wanted: %d\n", argc - 1, wanted);
     fprintf(stderr, "usage: %s\n", usage);
     exit(2);
+}
+
+/* The length of a file that is read into a room. One that can't be read, is empty or fills the room ends the program with 2. */
+static inline size_t read_whole(const char *program, const char *name, unsigned char *room, size_t most) {
+    size_t length;
+    FILE *f = fopen(name, "rb");
+    if (f == NULL) {
+        fprintf(stderr, "%s: can't open %s\n", program, name);
+        exit(2);
+    }
+    length = fread(room, 1, most, f);
+    if (ferror(f) || !feof(f) || length == 0) {
+        fprintf(stderr, "%s: can't read %s, or it does not have 1 to %lu bytes\n", program, name, (unsigned long)most - 1);
+        exit(2);
+    }
+    fclose(f);
+    return length;
 }
 
 #endif

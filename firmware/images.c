@@ -90,17 +90,7 @@ static void try_other_bytes(const image *i, size_t place) {
 }
 
 static void read_file(const char *name) {
-    FILE *f = fopen(name, "rb");
-    if (f == NULL) {
-        fprintf(stderr, "images: can't open %s\n", name);
-        exit(2);
-    }
-    file_length = fread(file, 1, sizeof file, f);
-    if (ferror(f) || !feof(f) || file_length == 0) {
-        fprintf(stderr, "images: can't read %s, or it does not have 1 to %d bytes\n", name, MOST_FILE - 1);
-        exit(2);
-    }
-    fclose(f);
+    file_length = read_whole("images", name, file, sizeof file);
     memcpy(copy, file, sizeof copy);
 }
 

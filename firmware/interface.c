@@ -1,6 +1,7 @@
 /* Tries what tigbulode.h has in plain C beside the four functions, against these: `interface`. This file is C99, C11 and
  * C++98 at once. Exit status 1: a difference, or a change that was not told apart. */
 #include "arguments.h"
+#include "expected.h"
 #include "tigbulode.h"
 
 enum { LONGEST = TIGBULODE_MOST_BLOCK, N = 16, BLOCKS = 32, RECORD = sizeof(tigbulode_equaliser) };
@@ -29,28 +30,6 @@ typedef struct {
     uint8_t xi[N], theta[N];
     int8_t decision[N];
 } outputs;
-
-static unsigned differences, changes, told;
-
-/* The first difference is printed, with its place. */
-static void expect(int holds, const char *about, unsigned place) {
-    if (holds) return;
-    if (differences == 0) fprintf(stderr, "interface: %s, case %u: not as expected\n", about, place);
-    differences++;
-}
-
-/* A changed expectation, which must be told apart. */
-static void try_changed(int holds) {
-    changes++;
-    told += !holds;
-}
-
-static void try_version(void) {
-    char text[16];
-    sprintf(text, "%d.%d", TIGBULODE_VERSION_MAJOR, TIGBULODE_VERSION_MINOR);
-    expect(strcmp(text, TIGBULODE_VERSION) == 0, "version", 0);
-    printf("version %s\n", TIGBULODE_VERSION);
-}
 
 static void try_number_texts(void) {
     int number;
@@ -249,7 +228,7 @@ static void try_blocks(void) {
 
 int main(int argc, char **argv) {
     take_arguments(argc, argv, 0, "interface, without arguments: tries the plain C of tigbulode.h against the library");
-    try_version();
+    try_version(TIGBULODE_VERSION_MAJOR, TIGBULODE_VERSION_MINOR, TIGBULODE_VERSION);
     try_number_texts();
     try_greatest_steps();
     try_any_size();

@@ -16,13 +16,17 @@
 //! * [`block`]: running a block.
 //! * [`image`]: saving and loading.
 //! * [`trace`]: the bytes of a trace to its text.
+//! * [`cable`]: symbols over a described cable to the bytes of a trace.
+//! * [`description`]: the bytes of a description to what the program `cable` writes.
 //! * [`exact`]: whole numbers and dyadic numbers of any length.
 //! * [`demand3`]: the figures of demand 3, checked at every sample.
 //! * [`random`]: a small generator and arbitrary sound states.
 //! * [`vectors`]: the test vectors.
 
 pub mod block;
+pub mod cable;
 pub mod demand3;
+pub mod description;
 pub mod exact;
 pub mod image;
 pub mod numbers;
@@ -58,3 +62,5 @@ pub const BUFFER: u8 = 7;
 pub const LENGTH: u8 = 8;
 /// The state is not sound.
 pub const UNSOUND: u8 = 9;
+/// A cable is turned down.
+pub const CABLE: u8 = 10;

@@ -1,7 +1,10 @@
 //! The bytes and numbers of `docs/EQUALISER.md`, made anew.
 
 use reference::block::{work, BlockDetail, SampleDetail};
+use reference::cable::{gain, mantissa, sum_at};
+use reference::description::description;
 use reference::trace::trace_with_state;
+use reference::vectors::spoiled::worked_example;
 use reference::{load, save, set_up, trace, Inputs, Settings, State};
 use std::fmt::Display;
 
@@ -208,6 +211,69 @@ fn the_refused_traces_stop_as_the_page_says() {
             format!("`{said}`")
         };
         assert!(row.ends_with(&format!(" | {said} |")), "{row}");
+    }
+}
+
+#[test]
+fn the_cable_is_on_the_page() {
+    let page = page();
+    let example = worked_example();
+    let written = description(&example.bytes());
+    assert!(has_bytes(&page, &example.bytes()) && has_bytes(&page, &written));
+    assert!(has_text(&page, &trace(&written)));
+    let r = example.settings.r;
+    for (n, &symbol) in example.symbols.iter().enumerate() {
+        let s = sum_at(&example.response, &example.symbols, n);
+        let g = gain(s, r).expect("a gain");
+        let m = mantissa(s, g, r);
+        let entry = if n < 3 { symbol } else { 0 };
+        let is_row = |line: &&str| {
+            let cells: Vec<&str> = line.split('|').map(str::trim).collect();
+            let ends = |cell: &str, value: String| {
+                cell == value || cell.ends_with(&format!(" = {value}"))
+            };
+            cells.len() == 8
+                && cells[1] == n.to_string()
+                && cells[2] == words([symbol])
+                && ends(cells[3], words([s]))
+                && cells[4] == g.to_string()
+                && ends(cells[5], words([m]))
+                && cells[6] == entry.to_string()
+        };
+        assert!(page.lines().any(|line| is_row(&line)), "row {n}");
+    }
+}
+
+/// A change of the cable's description as the page tells it: where, and to what.
+fn changed(text: &str, bytes: &[u8]) -> Option<Vec<u8>> {
+    let mut other = bytes.to_vec();
+    if text.starts_with("byte 6 is 00 and bytes 20 to 27 are gone") {
+        other.drain(20..28);
+        other[6] = 0;
+        return Some(other);
+    }
+    let words: Vec<&str> = text.split([' ', ':', ',']).collect();
+    let place: usize = words.get(1)?.parse().ok()?;
+    let at = words.iter().position(|word| *word == "is")?;
+    other[place] = u8::from_str_radix(words.get(at + 1)?, 16).ok()?;
+    Some(other)
+}
+
+#[test]
+fn the_changed_cables_are_turned_down_as_the_page_says() {
+    let page = page();
+    let bytes = worked_example().bytes();
+    let rows: Vec<(&str, &str)> = page
+        .lines()
+        .filter(|line| line.starts_with("| byte "))
+        .filter_map(|line| line.trim_matches(['|', ' ']).split_once(" | "))
+        .collect();
+    assert_eq!(rows.len(), 9);
+    for (change, line) in rows {
+        let other = changed(change, &bytes).unwrap_or_else(|| panic!("{change}"));
+        let written = String::from_utf8(description(&other)).expect("a line");
+        assert_eq!(format!("`{}`", written.trim_end()), line, "{change}");
+        assert_eq!(trace(written.as_bytes()), "stop 8 0\n", "{change}");
     }
 }
 

@@ -1,6 +1,9 @@
 //! The test vectors: the same every time, each kind present, and replayed
 //! from their bytes.
 
+mod reader;
+
+use reader::Reader;
 use reference::block::{Inputs, Outputs};
 use reference::vectors::{block_vectors, image_vectors, trace_vectors, TraceVector};
 use reference::{image_length, load, run, save, trace, Settings, State};
@@ -13,28 +16,7 @@ fn traces() -> &'static [TraceVector] {
     TRACES.get_or_init(trace_vectors)
 }
 
-/// Takes bytes from the front of a list.
-struct Reader<'a>(&'a [u8]);
-
-impl<'a> Reader<'a> {
-    fn take(&mut self, length: usize) -> &'a [u8] {
-        let (front, rest) = self.0.split_at(length);
-        self.0 = rest;
-        front
-    }
-
-    fn byte(&mut self) -> u8 {
-        self.take(1)[0]
-    }
-
-    fn short(&mut self) -> u16 {
-        u16::from_le_bytes(self.take(2).try_into().unwrap())
-    }
-
-    fn long(&mut self) -> u32 {
-        u32::from_le_bytes(self.take(4).try_into().unwrap())
-    }
-
+impl Reader<'_> {
     fn record(&mut self) -> State {
         let h = self.take(8);
         let m = self.long();

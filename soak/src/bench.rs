@@ -23,7 +23,7 @@ pub struct Failing {
 }
 
 impl Failing {
-    fn of(check: &str, text: impl Into<String>) -> Failing {
+    pub fn of(check: &str, text: impl Into<String>) -> Failing {
         let (check, text) = (check.to_string(), text.into());
         Failing { check, text }
     }
@@ -76,7 +76,7 @@ impl Operations for Refusing {
 }
 
 /// What `work` gives, or the text with which it stopped, which is not printed.
-fn stopping<T>(work: impl FnOnce() -> T) -> Result<T, String> {
+pub fn stopping<T>(work: impl FnOnce() -> T) -> Result<T, String> {
     static SILENT: Once = Once::new();
     thread_local!(static INSIDE: Cell<bool> = const { Cell::new(false) });
     SILENT.call_once(|| {

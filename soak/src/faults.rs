@@ -1,5 +1,6 @@
 //! Built-in faults: a library with one thing wrong, to see that it is found.
 
+use crate::cables::bench::Side;
 use reference::Settings;
 use tigbulode::sides::Operations;
 use tigbulode::{Answer, Block, Equaliser, Outputs, Saved};
@@ -41,11 +42,23 @@ pub enum Fault {
     WeightInBoth,
     /// The last Y is two units off in a loud block, on both sides.
     OutputInBoth,
+    /// A bit of a cable's last m, where its gain is below 15.
+    CableSample,
+    /// The first gain of a cable that is L is one more.
+    CableGain,
+    /// The first entry of a cable after the training ones is its symbol.
+    CableEntry,
+    /// A byte of a trace that is turned down.
+    CableRefused,
+    /// 10 for 2 in a cable.
+    CableNumber,
+    /// A gain of L - 1 in a cable is taken, on both sides.
+    CableLeastInBoth,
 }
 
 impl Fault {
     /// Every fault with its name.
-    pub const ALL: [(&'static str, Fault); 17] = [
+    pub const ALL: [(&'static str, Fault); 23] = [
         ("output", Fault::Output),
         ("exponent", Fault::Exponent),
         ("decision", Fault::Decision),
@@ -63,6 +76,12 @@ impl Fault {
         ("step", Fault::Step),
         ("weight-in-both", Fault::WeightInBoth),
         ("output-in-both", Fault::OutputInBoth),
+        ("cable-sample", Fault::CableSample),
+        ("cable-gain", Fault::CableGain),
+        ("cable-entry", Fault::CableEntry),
+        ("cable-refused", Fault::CableRefused),
+        ("cable-number", Fault::CableNumber),
+        ("cable-least-in-both", Fault::CableLeastInBoth),
     ];
 
     pub fn named(name: &str) -> Option<Fault> {
@@ -76,15 +95,23 @@ impl Fault {
     }
 
     /// Whether the second implementation has the same fault, so that only the
-    /// figures can show it.
+    /// figures, or the station behind a cable, can show it.
     pub fn in_both(self) -> bool {
-        matches!(self, Fault::WeightInBoth | Fault::OutputInBoth)
+        matches!(
+            self,
+            Fault::WeightInBoth | Fault::OutputInBoth | Fault::CableLeastInBoth
+        )
+    }
+
+    /// Whether it is one of a cable, which no list of calls shows.
+    pub fn of_cable(self) -> bool {
+        self.name().starts_with("cable-")
     }
 }
 
 /// A side with a fault.
 pub struct Faulty<'a> {
-    pub side: &'a dyn Operations,
+    pub side: &'a dyn Side,
     pub fault: Fault,
 }
 

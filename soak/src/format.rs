@@ -26,7 +26,7 @@ fn hex(bytes: &[u8]) -> String {
     bytes.iter().map(|byte| format!("{byte:02x}")).collect()
 }
 
-fn words<T: ToString>(list: &[T]) -> String {
+pub fn words<T: ToString>(list: &[T]) -> String {
     list.iter().map(|a| format!(" {}", a.to_string())).collect()
 }
 
@@ -60,12 +60,14 @@ fn line(call: &Call) -> String {
     }
 }
 
+/// A remark for each line.
+pub fn remarks(about: &str) -> String {
+    about.lines().map(|line| format!("# {line}\n")).collect()
+}
+
 /// The text of a list; `about` becomes remarks.
 pub fn text(saved: &Saved, about: &str) -> String {
-    let mut text = format!("{HEADING}\n");
-    for remark in about.lines() {
-        let _ = writeln!(text, "# {remark}");
-    }
+    let mut text = format!("{HEADING}\n{}", remarks(about));
     if let Some(fault) = saved.fault {
         let _ = writeln!(text, "fault {}", fault.name());
     }
@@ -75,12 +77,12 @@ pub fn text(saved: &Saved, about: &str) -> String {
     text + "end\n"
 }
 
-fn number<T: FromStr>(word: &str) -> Result<T, String> {
+pub fn number<T: FromStr>(word: &str) -> Result<T, String> {
     let number = word.parse();
     number.map_err(|_| format!("{word:?} is no number that fits here"))
 }
 
-fn numbers<T: FromStr>(words: &[&str]) -> Result<Vec<T>, String> {
+pub fn numbers<T: FromStr>(words: &[&str]) -> Result<Vec<T>, String> {
     if words.len() > MOST_ROOM {
         return Err(format!("a list of more than {MOST_ROOM}"));
     }
@@ -212,8 +214,8 @@ pub fn parse(text: &str) -> Result<Saved, String> {
     Err("no line \"end\": a part is missing".to_string())
 }
 
-/// The list of a file.
-pub fn read(path: &Path) -> Result<Saved, String> {
+/// What is read of a file: `parse` makes it from the text.
+pub fn read<T>(path: &Path, parse: impl FnOnce(&str) -> Result<T, String>) -> Result<T, String> {
     let in_file = |wrong: String| format!("{}: {wrong}", path.display());
     let mut bytes = Vec::new();
     std::fs::File::open(path)

@@ -3,6 +3,7 @@
 //! made short and saved.
 //!
 //! * [`lists`]: the calls of a list.
+//! * [`cables`]: cables, with what is checked of them, their text, and shrinking.
 //! * [`bench`]: one call on both sides, and everything that is checked.
 //! * [`pieces`]: the library's record after each sample of a block.
 //! * [`figures`]: the numbers of a block from the library's records and outputs.
@@ -15,6 +16,7 @@
 
 pub mod arguments;
 pub mod bench;
+pub mod cables;
 pub mod faults;
 pub mod figures;
 pub mod format;

@@ -71,7 +71,7 @@ pub struct Lister {
 }
 
 /// The start of a list's own numbers.
-fn start(seed: u64, list: u64) -> u64 {
+pub fn start(seed: u64, list: u64) -> u64 {
     seed.wrapping_mul(0xD134_2543_DE82_EF95)
         .wrapping_add(list)
         .wrapping_mul(0x2545_F491_4F6C_DD1D)

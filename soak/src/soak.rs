@@ -1,7 +1,11 @@
-//! Many lists of calls, until enough were made or one fails; a failing list is
-//! made short and saved.
+//! Many lists of calls with cables between them, until enough were made or one
+//! fails; a failing list or cable is made short and saved.
 
-use crate::bench::{Bench, Failure};
+use crate::bench::{Bench, Failing, Failure};
+use crate::cables::bench::{CableBench, Side};
+use crate::cables::format::{self as cable_format, SavedCable};
+use crate::cables::shrink::shrink as shrink_cable;
+use crate::cables::{CableMaker, Lent, PER_LIST};
 use crate::faults::{Fault, Faulty};
 use crate::format::{self, Saved};
 use crate::lists::Lister;
@@ -11,7 +15,7 @@ use crate::shrink::shrink;
 use crate::stop;
 use std::path::{Path, PathBuf};
 use tigbulode::calls::Call;
-use tigbulode::sides::{Library, Operations, Second};
+use tigbulode::sides::{Library, Second};
 
 /// When a run ends.
 #[derive(Clone, Copy, Debug, PartialEq, Eq)]
@@ -78,10 +82,7 @@ impl Verdict {
 }
 
 /// Both sides, with a fault or without, for `work`.
-pub fn with_sides<T>(
-    fault: Option<Fault>,
-    work: impl FnOnce(&dyn Operations, &dyn Operations) -> T,
-) -> T {
+pub fn with_sides<T>(fault: Option<Fault>, work: impl FnOnce(&dyn Side, &dyn Side) -> T) -> T {
     let Some(fault) = fault else {
         return work(&Library, &Second);
     };
@@ -100,16 +101,25 @@ pub fn with_sides<T>(
     }
 }
 
-/// A list that fails, by its place in the run.
-struct Found {
-    list: u64,
-    calls: Vec<Call>,
-    failure: Failure,
+/// What fails, by its place in the run.
+enum Found {
+    List {
+        list: u64,
+        calls: Vec<Call>,
+        failure: Failure,
+    },
+    Cable {
+        list: u64,
+        place: u64,
+        lent: Lent,
+        failing: Failing,
+    },
 }
 
 struct Running<'a> {
     run: &'a Run,
     bench: Bench<'a>,
+    cables: CableBench<'a>,
     calls: u64,
     lists: u64,
     progress: Progress,
@@ -144,7 +154,7 @@ impl Running<'_> {
                         failing,
                     };
                     let list = self.lists;
-                    return Some(Found {
+                    return Some(Found::List {
                         list,
                         calls,
                         failure,
@@ -158,10 +168,26 @@ impl Running<'_> {
         None
     }
 
-    /// Makes lists until the end or a failure.
+    /// The cables after a list; gives one that fails.
+    fn cables(&mut self) -> Option<Found> {
+        let list = self.lists;
+        let mut maker = CableMaker::new(self.run.seed, list);
+        (0..PER_LIST).find_map(|place| {
+            let lent = maker.cable();
+            let failing = self.cables.cable(&lent).err()?;
+            Some(Found::Cable {
+                list,
+                place,
+                lent,
+                failing,
+            })
+        })
+    }
+
+    /// Makes lists and cables until the end or a failure.
     fn lists(&mut self) -> Option<Found> {
         while !self.ended() {
-            if let Some(found) = self.list() {
+            if let Some(found) = self.list().or_else(|| self.cables()) {
                 return Some(found);
             }
             self.lists += 1;
@@ -190,6 +216,25 @@ pub fn shrunk(fault: Option<Fault>, calls: Vec<Call>, failure: &Failure) -> Vec<
     shrink(calls, &mut fails)
 }
 
+/// What fails with a cable.
+pub fn failing_of(fault: Option<Fault>, lent: &Lent) -> Option<Failing> {
+    with_sides(fault, |library, second| {
+        CableBench::new(library, second).cable(lent).err()
+    })
+}
+
+/// A simple cable that fails in the same check. A signal ends the search.
+pub fn shrunk_cable(fault: Option<Fault>, lent: Lent, failing: &Failing) -> Lent {
+    let mut fails = |lent: &Lent| {
+        let failing_now = match stop::noted() {
+            Some(_) => None,
+            None => failing_of(fault, lent),
+        };
+        failing_now.is_some_and(|now| now.check == failing.check)
+    };
+    shrink_cable(lent, &mut fails)
+}
+
 /// Runs what is asked for, until its end or a signal. A folder that can't be had is an error.
 pub fn run(run: &Run) -> Result<Verdict, String> {
     std::fs::create_dir_all(&run.out).map_err(|error| format!("{}: {error}", run.out.display()))?;
@@ -197,6 +242,7 @@ pub fn run(run: &Run) -> Result<Verdict, String> {
         let mut running = Running {
             run,
             bench: Bench::new(library, second),
+            cables: CableBench::new(library, second),
             calls: 0,
             lists: 0,
             progress: Progress::new(),
@@ -205,43 +251,91 @@ pub fn run(run: &Run) -> Result<Verdict, String> {
         running.progress.clear();
         match found {
             Some(found) => failed(run, found),
-            None => {
-                let counts = format!("{} lists, {} calls\n", running.lists, running.calls);
-                Verdict::seen(format!("{counts}{}", covered(&running.bench)))
-            }
+            None => Verdict::seen(counts(&running)),
         }
     });
     Ok(verdict)
 }
 
-/// Makes a failing list short and saves it.
+/// What a run has covered.
+fn counts(running: &Running) -> String {
+    let counts = format!("{} lists, {} calls\n", running.lists, running.calls);
+    format!(
+        "{counts}{}{}",
+        covered(&running.bench),
+        running.cables.tally
+    )
+}
+
+/// Makes what fails short and saves it.
 fn failed(run: &Run, found: Found) -> Verdict {
-    let from = format!("seed {}, list {}", run.seed, found.list);
-    let mut text = format!("{from}, {}\n", found.failure);
-    let count = found.calls.len();
-    let calls = shrunk(run.fault, found.calls, &found.failure);
-    let failure = failure_of(run.fault, &calls).unwrap_or(found.failure);
-    text += &format!(
-        "made short: {} of {count} calls, {} samples\n",
-        calls.len(),
-        samples(&calls)
-    );
-    text += &format!("{failure}\n");
+    match found {
+        Found::List {
+            list,
+            calls,
+            failure,
+        } => failed_list(run, list, calls, failure),
+        Found::Cable {
+            list,
+            place,
+            lent,
+            failing,
+        } => failed_cable(run, (list, place), lent, failing),
+    }
+}
+
+/// The name of a file for what failed at a place of the run.
+fn name(run: &Run, place: &str, ending: &str) -> String {
     let fault = run.fault.map(|fault| format!("-{}", fault.name()));
-    let place = format!("seed-{}-list-{}", run.seed, found.list);
-    let name = format!("{place}{}.calls", fault.unwrap_or_default());
+    let fault = fault.unwrap_or_default();
+    format!("seed-{}-{place}{fault}.{ending}", run.seed)
+}
+
+/// Saves a text, and says where; where it can't be saved it is told whole.
+fn saved(run: &Run, name: &str, text: &str) -> String {
     let path = run.out.join(name);
-    let saved = Saved {
+    match format::write(&path, text) {
+        Ok(()) => {
+            let path = path.display();
+            format!("saved: {path}\nonce more: soak/run replay {path}\n")
+        }
+        Err(error) => format!("not saved: {error}\n{text}"),
+    }
+}
+
+fn failed_list(run: &Run, list: u64, calls: Vec<Call>, failure: Failure) -> Verdict {
+    let from = format!("seed {}, list {list}", run.seed);
+    let mut text = format!("{from}, {failure}\n");
+    let count = calls.len();
+    let calls = shrunk(run.fault, calls, &failure);
+    let failure = failure_of(run.fault, &calls).unwrap_or(failure);
+    let (short, samples) = (calls.len(), samples(&calls));
+    text += &format!("made short: {short} of {count} calls, {samples} samples\n{failure}\n");
+    let list_ = Saved {
         fault: run.fault,
         calls,
     };
-    match format::write(&path, &format::text(&saved, &format!("{from}\n{failure}"))) {
-        Ok(()) => {
-            let path = path.display();
-            text += &format!("saved: {path}\nonce more: soak/run replay {path}\n");
-        }
-        Err(error) => text += &format!("not saved: {error}\n{}", format::text(&saved, "")),
-    }
+    let list_ = format::text(&list_, &format!("{from}\n{failure}"));
+    text += &saved(run, &name(run, &format!("list-{list}"), "calls"), &list_);
+    Verdict::failing(text)
+}
+
+fn failed_cable(run: &Run, (list, place): (u64, u64), lent: Lent, failing: Failing) -> Verdict {
+    let from = format!("seed {}, list {list}, cable {place}", run.seed);
+    let mut text = format!("{from}: {}\n", failing.text);
+    let (symbols, values) = (lent.symbols.len(), lent.response.len());
+    let lent = shrunk_cable(run.fault, lent, &failing);
+    let failing = failing_of(run.fault, &lent).unwrap_or(failing);
+    let (fewer, few) = (lent.symbols.len(), lent.response.len());
+    text += &format!("made short: {fewer} of {symbols} symbols, {few} of {values} values\n");
+    text += &format!("cable: {}\n", failing.text);
+    let cable = SavedCable {
+        fault: run.fault,
+        lent,
+    };
+    let cable = cable_format::text(&cable, &format!("{from}\n{}", failing.text));
+    let place = format!("list-{list}-cable-{place}");
+    text += &saved(run, &name(run, &place, "cable"), &cable);
     Verdict::failing(text)
 }
 
@@ -253,14 +347,38 @@ fn samples(calls: &[Call]) -> usize {
     lengths.sum()
 }
 
-/// Makes the calls of a saved list again.
+/// What a file holds.
+enum Kept {
+    List(Saved),
+    Cable(SavedCable),
+}
+
+fn kept(text: &str) -> Result<Kept, String> {
+    match cable_format::is_cable(text) {
+        true => cable_format::parse(text).map(Kept::Cable),
+        false => format::parse(text).map(Kept::List),
+    }
+}
+
+/// Makes the calls of a saved list, or a saved cable, again.
 pub fn replay(path: &Path) -> Result<Verdict, String> {
-    let saved = format::read(path)?;
-    let failure = failure_of(saved.fault, &saved.calls);
-    let fault = saved.fault.map(|fault| format!(", fault {}", fault.name()));
-    let count = format!("{} calls{}\n", saved.calls.len(), fault.unwrap_or_default());
+    let (what, fault, failure) = match format::read(path, kept)? {
+        Kept::List(saved) => {
+            let failure = failure_of(saved.fault, &saved.calls);
+            let failure = failure.map(|failure| failure.to_string());
+            (format!("{} calls", saved.calls.len()), saved.fault, failure)
+        }
+        Kept::Cable(saved) => {
+            let failing = failing_of(saved.fault, &saved.lent);
+            let failing = failing.map(|failing| format!("cable: {}", failing.text));
+            let symbols = saved.lent.symbols.len();
+            (format!("a cable, {symbols} symbols"), saved.fault, failing)
+        }
+    };
+    let fault = fault.map(|fault| format!(", fault {}", fault.name()));
+    let what = format!("{what}{}\n", fault.unwrap_or_default());
     Ok(match failure {
-        Some(failure) => Verdict::failing(format!("{count}{failure}\n")),
-        None => Verdict::good(format!("{count}no difference\n")),
+        Some(failure) => Verdict::failing(format!("{what}{failure}\n")),
+        None => Verdict::good(format!("{what}no difference\n")),
     })
 }

@@ -136,7 +136,10 @@ fn shrinking_keeps_what_it_is_asked_to_keep() {
 
 #[test]
 fn a_shrunk_list_fails_in_the_same_check() {
-    for (name, fault) in Fault::ALL {
+    for (name, fault) in Fault::ALL
+        .into_iter()
+        .filter(|(_, fault)| !fault.of_cable())
+    {
         let library = Faulty {
             side: &Library,
             fault,

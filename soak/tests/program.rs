@@ -4,9 +4,33 @@
 mod common;
 
 use common::{soak, Folder};
+use soak::cables;
 use soak::faults::Fault;
 use soak::format::{parse, HEADING};
 use tigbulode::calls::Call;
+
+/// What a saved list must be.
+fn short_list(text: &str, fault: Fault) {
+    let saved = parse(text).unwrap();
+    assert_eq!(saved.fault, Some(fault));
+    assert!((1..=3).contains(&saved.calls.len()), "{text}");
+    for call in &saved.calls {
+        if let Call::Block(lists, _) = call {
+            assert!(lists.m.len() <= 8, "{text}");
+        }
+    }
+}
+
+/// What a saved cable must be.
+fn short_cable(text: &str, fault: Fault) {
+    let saved = cables::format::parse(text).unwrap();
+    assert_eq!(saved.fault, Some(fault));
+    let lent = &saved.lent;
+    assert!(
+        lent.symbols.len() <= 4 && lent.response.len() <= 2,
+        "{text}"
+    );
+}
 
 #[test]
 fn every_fault_is_found_saved_and_found_again() {
@@ -17,13 +41,9 @@ fn every_fault_is_found_saved_and_found_again() {
         let names = folder.names();
         assert_eq!(names.len(), 1, "{name}: {names:?}");
         let text = std::fs::read_to_string(folder.0.join(&names[0])).unwrap();
-        let saved = parse(&text).unwrap();
-        assert_eq!(saved.fault, Some(fault));
-        assert!((1..=3).contains(&saved.calls.len()), "{name}: {text}");
-        for call in &saved.calls {
-            if let Call::Block(lists, _) = call {
-                assert!(lists.m.len() <= 8, "{name}: {text}");
-            }
+        match fault.of_cable() {
+            true => short_cable(&text, fault),
+            false => short_list(&text, fault),
         }
         let again = soak(&folder, &["replay", &names[0]]);
         assert_eq!(again.status, Some(1), "{name}: {}", again.out);
@@ -41,6 +61,7 @@ fn faults_on_both_sides_are_found_by_a_figure() {
     let wanted = [
         ("weight-in-both", "a weight is too far from the exact step"),
         ("output-in-both", "y is a unit off"),
+        ("cable-least-in-both", "of the trace answers 4"),
     ];
     for (name, figure) in wanted {
         let folder = Folder::new(&format!("figure-{name}"));
@@ -130,9 +151,24 @@ fn bad_files_are_turned_down() {
         ("{H}\nsave 20 on 00\nend\n", "line 2"),
         ("{H}\nfault none\nend\n", "line 2"),
         ("{H}\nrun\nend\n", "line 2"),
+        ("{C}\n", "end"),
+        ("{C}\nend\n", "no \"settings\""),
+        ("{C}\nsettings 1 1 1 0 0\nend\n", "line 2"),
+        ("{C}\nresponse 32768\nend\n", "line 2"),
+        ("{C}\n# x\nsymbols 128\nend\n", "line 3"),
+        ("{C}\ntraining 1\ntraining 1\nend\n", "line 3"),
+        ("{C}\nroom 1048577\nend\n", "line 2"),
+        ("{C}\nfault none\nend\n", "line 2"),
+        ("{C}\nload 00\nend\n", "line 2"),
+        (
+            "{C}\nsettings 1 1 1 0 0 0\nresponse\nsymbols 1\nroom 16\nend\n",
+            "no \"training\"",
+        ),
     ];
     for (text, wanted) in bad {
-        std::fs::write(folder.0.join("list"), text.replace("{H}", HEADING)).unwrap();
+        let text = text.replace("{H}", HEADING);
+        let text = text.replace("{C}", cables::format::HEADING);
+        std::fs::write(folder.0.join("list"), &text).unwrap();
         let ended = soak(&folder, &["replay", "list"]);
         assert_eq!(ended.status, Some(2), "{text:?}");
         assert!(

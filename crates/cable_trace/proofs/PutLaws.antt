@@ -2,7 +2,7 @@
 use mathlib.Core.Path.{_≡_, refl, sym, ap, ap₂, _∙_}
 use mathlib.Core.Bool.{Bool, true, false, _&&_, _||_, not, and-true}
 use mathlib.Core.List.{List, [], _∷_, _++_, append-assoc, append-nil}
-use Prim.Native.Nat.{ℕ, zero, suc, _+_, _*_, _-_, _%_, _^_, _≤_, _<_}
+use Prim.Native.Nat.{ℕ, suc, _+_, _*_, _-_, _%_, _^_, _≤_, _<_}
 use native.Mathlib.Omega.{arith}
 use native.Mathlib.Numerals.{add-one}
 use lib.Dec.{leb, eqb}
@@ -77,9 +77,3 @@ parts-put before h u v a b e long-h long-u long-v short =
     ap (λ (l : List ℕ). putMid b (e - b) l v) (next-part h u before a b long-h long-u)
     ∙ next-part (h ++ u) v before b e (length-append h u ∙ omega (arith, long-h, long-u)) long-v
     ∙ ap (λ (l : List ℕ). ((h ++ u) ++ v) ++ l) (drop-of-length-le before short) ∙ append-nil ((h ++ u) ++ v) ∙ append-assoc h u v
-
--- the parts have their lengths while they are lent
-pub joined-length : (f : ℕ → List ℕ) (n : ℕ) → ((i : ℕ) → length (f i) ≡ 3) → length (joined f n) ≡ 3 * n
-unfolding joined
-joined-length f zero h = refl
-joined-length f (suc n) h = length-append (joined f n) (f n) ∙ omega (arith, joined-length f n h, h n)

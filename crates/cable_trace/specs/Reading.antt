@@ -4,7 +4,8 @@ use mathlib.Core.Bool.{true}
 use mathlib.Core.List.{List}
 use mathlib.Core.Logic.{_⊎_}
 use Prim.Native.Nat.{ℕ, zero, suc, _*_, _^_, _≤_, _<_}
-use lib.IntN.{natAbs}
+use lib.ListN.{getD}
+use lib.IntN.{pos, natAbs}
 use Rattle.steps.specs.Limits.{gainLimit}
 use Rattle.steps.specs.Settings.{isEntry}
 use Rattle.state.specs.Sizes.{settingsNumber}
@@ -20,6 +21,9 @@ pub record ReadsSample (c : Cable) (t : List ℕ) (n : ℕ) : Type 0 where
   pub sample-is : sampleAt t n ≡ sample (c .settings .r) (s c n)
   pub gain-is : gainAt t n ≡ gain (c .settings .r) (s c n)
   pub entry-is : entryAt t n ≡ entry c n
+  -- the first symbols, and 0 after them
+  pub entry-trained : n < c .training → entryAt t n ≡ getD (c .symbols) n (pos 0)
+  pub entry-later : c .training ≤ n → entryAt t n ≡ pos 0
   -- |m| < 2^15
   pub sample-small : natAbs (sampleAt t n) < 2 ^ 15
   pub gain-least : c .settings .L ≤ gainAt t n

@@ -20,6 +20,15 @@ unfolding bytes
 bytes-length zero n = refl
 bytes-length (suc k) n = ap suc (bytes-length k (n / 256))
 
+-- the bytes of two and of four, one by one
+pub two-bytes : (n : ℕ) → bytes 2 n ≡ n % 256 ∷ n / 256 % 256 ∷ []
+unfolding bytes
+two-bytes n = refl
+
+pub four-bytes : (n : ℕ) → bytes 4 n ≡ n % 256 ∷ n / 256 % 256 ∷ n / 256 / 256 % 256 ∷ n / 256 / 256 / 256 % 256 ∷ []
+unfolding bytes
+four-bytes n = refl
+
 pub number-bytes : (k n : ℕ) → n < 256 ^ k → number (bytes k n) ≡ n
 unfolding number bytes
 number-bytes zero n h = omega arith

@@ -1,7 +1,10 @@
-//! Writes the test vectors: `vectors OUTDIR` makes `traces.bin`, `blocks.bin`
-//! and `images.bin` there.
+//! Writes the test vectors: `vectors OUTDIR` makes `traces.bin`, `blocks.bin`,
+//! `images.bin`, `cables.bin` and `descriptions.bin` there.
 
-use reference::vectors::{block_vectors, image_vectors, trace_vectors};
+use reference::vectors::{
+    block_vectors, cable_vectors, description_vectors, image_vectors, trace_vectors,
+};
+use reference::vectors::{BlockVector, CableVector, DescriptionVector, ImageVector, TraceVector};
 use std::path::Path;
 use std::process::ExitCode;
 
@@ -31,19 +34,33 @@ fn main() -> ExitCode {
 
 fn write_all(folder: &Path) -> std::io::Result<()> {
     std::fs::create_dir_all(folder)?;
-    let write = |name: &str, count: usize, bytes: Vec<u8>| {
-        println!("{name}: {count} vectors, {} bytes", bytes.len());
-        let part = folder.join(format!("{name}.part"));
-        std::fs::write(&part, bytes)?;
-        std::fs::rename(part, folder.join(name))
-    };
     let traces = trace_vectors();
-    let bytes = traces.iter().flat_map(|vector| vector.bytes()).collect();
-    write("traces.bin", traces.len(), bytes)?;
     let blocks = block_vectors();
-    let bytes = blocks.iter().flat_map(|vector| vector.bytes()).collect();
-    write("blocks.bin", blocks.len(), bytes)?;
     let images = image_vectors();
-    let bytes = images.iter().flat_map(|vector| vector.bytes()).collect();
-    write("images.bin", images.len(), bytes)
+    let cables = cable_vectors();
+    let descriptions = description_vectors();
+    write(folder, "traces.bin", &traces, TraceVector::bytes)?;
+    write(folder, "blocks.bin", &blocks, BlockVector::bytes)?;
+    write(folder, "images.bin", &images, ImageVector::bytes)?;
+    write(folder, "cables.bin", &cables, CableVector::bytes)?;
+    write(
+        folder,
+        "descriptions.bin",
+        &descriptions,
+        DescriptionVector::bytes,
+    )
+}
+
+/// Writes one file, whole or not at all.
+fn write<V>(
+    folder: &Path,
+    name: &str,
+    list: &[V],
+    bytes: fn(&V) -> Vec<u8>,
+) -> std::io::Result<()> {
+    let all: Vec<u8> = list.iter().flat_map(bytes).collect();
+    println!("{name}: {} vectors, {} bytes", list.len(), all.len());
+    let part = folder.join(format!("{name}.part"));
+    std::fs::write(&part, all)?;
+    std::fs::rename(part, folder.join(name))
 }

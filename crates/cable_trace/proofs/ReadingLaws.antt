@@ -1,0 +1,208 @@
+-- The trace of an accepted cable is read as such: its settings, samples, gains and entries, and no block is refused but with 6.
+use mathlib.Core.Path.{_≡_, refl, sym, ap, ap₂, _∙_, subst}
+use mathlib.Core.Bool.{Bool, true, false, cond}
+use mathlib.Core.List.{List}
+use mathlib.Core.Logic.{_⊎_, inl, inr}
+use Prim.Native.Nat.{ℕ, zero, suc, _+_, _*_, _/_, _%_, _^_, _≤_, _<_}
+use native.Mathlib.Omega.{arith}
+use native.Mathlib.Nat.{mod-add-div, mul-le-mul-right, le-of-lt}
+use lib.Dec.{leb, ltb, eqb}
+use lib.ListN.{length, getD}
+use lib.IntN.{ℤ, pos, natAbs}
+use mir.Syntax.{w8}
+use mir.Val.{toZ}
+use borrow.Author.Tests.{lt-ltb, le-ltb, le-leb, leb-true, eq-eqb}
+use Rattle.laws.specs.Lists.{all, all-at, and-left, and-right}
+use Rattle.laws.specs.Powers.{rises}
+use Rattle.laws.specs.Sums.{Each}
+use Rattle.laws.specs.Tests.{both}
+use Rattle.steps.specs.Limits.{gainLimit}
+use Rattle.steps.specs.Settings.{Settings, Within, isSymbol, isEntry}
+use Rattle.steps.proofs.SymbolLaws.{symbol-entry, entry-below}
+use Rattle.block.specs.Block.{values}
+use Rattle.block.proofs.ValuesLaws.{values-length, values-at}
+use Rattle.state.specs.Sizes.{settingsNumber}
+use Rattle.state.specs.State.{settings, fresh, refused}
+use Rattle.state.specs.Answers.{SetUp, setUpState}
+use Rattle.state.specs.declared.equaliser.Equaliser.{Equaliser}
+use Rattle.state.specs.declared.equaliser.Answer.{Answer}
+use Rattle.state.proofs.NumberLaws.{fresh-settings}
+use Rattle.state.proofs.SizesLaws.{settings-tests, fit-within}
+use Rattle.state.proofs.SoundLaws.{Accepted, set-up-accepted}
+use Rattle.image.proofs.StateBits.{step-bits}
+use Rattle.checks.specs.Checks as Checks
+use Rattle.checks.specs.Checks.{Lent, block, checkNumber}
+use Rattle.checks.specs.Calls.{Sampled}
+use Rattle.checks.proofs.CheckLaws.{checks-pass}
+use Rattle.station.specs.Answers.{runNumber, runState}
+use Rattle.station.specs.Calls.{goesOn}
+use Rattle.station.proofs.AnswerLaws.{number-is}
+use Rattle.station.proofs.NumberLaws.{run-settings, run-accepted}
+use Rattle.trace_text.specs.Trace.{headerLength, traceLimit, byteAt, settingsIn, countIn, samplesIn, wellFormed, sampleStart, lentAt}
+use Rattle.trace_text.specs.Text.{textFrom, traceText}
+use Rattle.trace_text.proofs.ReadLaws.{well-tested}
+use Rattle.trace_text.proofs.LentLaws.{lent-long, lent-samples, lent-gains, lent-entries}
+use Rattle.trace_text.proofs.TraceLaws.{state-is, accepted-text}
+use Rattle.cable_trace.specs.Limits.{sentLimit, countLimit}
+use Rattle.cable_trace.specs.Cable.{Cable, s, gain, hasGain, sample, entry, sampleCount, blockCount, cableTrace, gainFits, cableNumber}
+use Rattle.cable_trace.specs.Reading.{ReadsSample, Runs, Reads}
+use Rattle.cable_trace.proofs.CauseLaws.{Listed, listed, cause-tests, number-tests}
+use Rattle.cable_trace.proofs.GainLaws.{gain-most, sample-small}
+use Rattle.cable_trace.proofs.ReadingBytes.{flat, trace-flat, flat-length, gain-byte, sample-word, entry-byte}
+
+module _ (c : Cable) (room : ℕ) (ok : cableNumber c room ≡ 0) where
+  settled : settingsNumber (c .settings) ≡ 0
+  settled = number-tests c room ok .0
+
+  fitting : Listed c room
+  fitting = listed c room (cause-tests c room (number-tests c room ok .1) .0)
+
+  within : Within (c .settings)
+  within = fit-within (c .settings) (settings-tests (c .settings) settled .0)
+
+  gains : (n : ℕ) → n < sampleCount c → (hasGain (c .settings .r) (s c n) ≡ true) × (c .settings .L ≤ gain (c .settings .r) (s c n))
+  gains n h =
+      let k = c .settings in
+      let t = all-at (gainFits k) (values (s c) (sampleCount c)) n (pos 0) (cause-tests c room (number-tests c room ok .1) .1) (omega (arith, values-length (s c) (sampleCount c))) in
+      let e : gainFits k (s c n) ≡ true = ap (gainFits k) (sym (values-at (s c) (pos 0) (sampleCount c) n h)) ∙ t in
+      (and-left (hasGain (k .r) (s c n)) (leb (k .L) (gain (k .r) (s c n))) e, leb-true (k .L) (gain (k .r) (s c n)) (and-right (hasGain (k .r) (s c n)) (leb (k .L) (gain (k .r) (s c n))) e))
+
+  entry-is : (n : ℕ) → n < sampleCount c → isEntry (c .settings .r) (entry c n) ≡ true
+  entry-is n h = go (ltb n (c .training))
+    where
+      go : (b : Bool) → isEntry (c .settings .r) (cond b (getD (c .symbols) n (pos 0)) (pos 0)) ≡ true
+      go true = symbol-entry (c .settings .r) (getD (c .symbols) n (pos 0)) (all-at (isSymbol (c .settings .r)) (c .symbols) n (pos 0) (fitting .symbols) h)
+      go false = refl
+
+  -- ---- the header
+
+  abbrev t : List ℕ
+  t = flat c
+
+  first : Accepted (fresh (c .settings))
+  first = subst Accepted (ap (λ (b : Bool). cond b (fresh (c .settings)) refused) (eq-eqb (settingsNumber (c .settings)) 0 settled)) (set-up-accepted (c .settings))
+
+  step : c .settings .M < 2 ^ 32
+  step = subst (λ (k : Settings). k .M < 2 ^ 32) (fresh-settings (c .settings)) (step-bits (fresh (c .settings)) first)
+
+  settings-are : settingsIn t ≡ c .settings
+  settings-are =
+      let k = c .settings in
+      ap (λ (m : ℕ). record { p = k .p; q = k .q; N = k .N; r = k .r; L = k .L; M = m }) (whole (k .M) step)
+    where
+      whole : (m : ℕ) → m < 2 ^ 32 → m % 256 + 256 * (m / 256 % 256) + 65536 * (m / 256 / 256 % 256 + 256 * (m / 256 / 256 / 256 % 256)) ≡ m
+      whole m h = omega arith
+
+  count-is : countIn t ≡ blockCount c
+  count-is = whole (blockCount c) (fitting .blocks-most)
+    where
+      whole : (n : ℕ) → n ≤ countLimit → n % 256 + 256 * (n / 256 % 256) ≡ n
+      whole n h = omega arith
+
+  samples-are : samplesIn t ≡ sampleCount c
+  samples-are =
+      ap (λ (n : ℕ). c .settings .N * n) count-is ∙ omega (arith, mod-add-div (sampleCount c) (c .settings .N), fitting .whole)
+
+  well-formed : wellFormed t ≡ true
+  well-formed =
+      well-tested t (omega (arith, flat-length c)) (omega (arith, flat-length c, fitting .few))
+      ∙ both (eqb (length t) (headerLength + 4 * samplesIn t)) (eqb (byteAt t 5) 0) (eq-eqb (length t) (headerLength + 4 * samplesIn t) (flat-length c ∙ ap (λ (n : ℕ). headerLength + 4 * n) (sym samples-are))) refl
+
+  -- ---- the samples
+
+  chosen : (n : ℕ) {b : Bool} → ltb n (c .training) ≡ b → entry c n ≡ cond b (getD (c .symbols) n (pos 0)) (pos 0)
+  chosen n e = ap (λ (b : Bool). cond b (getD (c .symbols) n (pos 0)) (pos 0)) e
+
+  reads-sample : (n : ℕ) → n < sampleCount c → ReadsSample c t n
+  reads-sample n h =
+      let r = c .settings .r in
+      let g = gains n h in
+      let small = sample-small r (s c n) (g .0) in
+      let m-is = sample-word c n h small in
+      let e-is = ap (λ (k : ℕ). toZ w8 (byteAt t (sampleStart k + n))) samples-are ∙ entry-byte c n h (omega (arith, entry-below r (entry c n) (entry-is n h), rises {a = r + 1} {b = 4} (omega (arith, within .r-most)))) in
+      record {
+        sample-is = m-is;
+        gain-is = gain-byte c n h;
+        entry-is = e-is;
+        entry-trained = λ l. e-is ∙ chosen n (lt-ltb n (c .training) l);
+        entry-later = λ l. e-is ∙ chosen n (le-ltb n (c .training) l);
+        sample-small = rw m-is small;
+        gain-least = omega (arith, gain-byte c n h, g .1);
+        gain-most = omega (arith, gain-byte c n h, gain-most r (s c n));
+        entry-fits = rw e-is (entry-is n h);
+      }
+
+  -- ---- the blocks
+
+  -- a place of a block is a place of the trace
+  inside : (i j : ℕ) → i < countIn t → j < settingsIn t .N → i * settingsIn t .N + j < sampleCount c
+  inside i j h k = omega (arith, samples-are, mul-le-mul-right (settingsIn t .N) h)
+
+  module _ (e : Equaliser) (a : Accepted e) (same : settings e ≡ settingsIn t) (i : ℕ) (h : i < countIn t) where
+    abbrev l : Lent
+    l = lentAt t (i * e .n)
+
+    n-is : e .n ≡ settingsIn t .N
+    n-is = ap (λ (k : Settings). k .N) same
+
+    l-is : e .l ≡ c .settings .L
+    l-is = ap (λ (k : Settings). k .L) (same ∙ settings-are)
+
+    r-is : e .r ≡ c .settings .r
+    r-is = ap (λ (k : Settings). k .r) (same ∙ settings-are)
+
+    at : (j : ℕ) → j < settingsIn t .N → ReadsSample c t (i * e .n + j)
+    at j k = reads-sample (i * e .n + j) (omega (arith, inside i j h k, ap (λ (n : ℕ). i * n) n-is))
+
+    lengths : Checks.lengthsFit (e .n) l ≡ true
+    lengths = subst (λ (n : ℕ). Checks.lengthsFit n l ≡ true) (sym n-is) (lent-long t (i * e .n))
+
+    gains-pass : all (Checks.gainFits (e .l)) (l .gains) ≡ true
+    gains-pass =
+        lent-gains t (i * e .n) (Checks.gainFits (e .l))
+        (λ j k. both _ _ (le-leb (e .l) _ (omega (arith, l-is, at j k .gain-least))) (le-leb _ gainLimit (at j k .gain-most)))
+
+    entries-pass : all (isEntry (e .r)) (l .entries) ≡ true
+    entries-pass = lent-entries t (i * e .n) (isEntry (e .r)) (λ j k. rw r-is (at j k .entry-fits))
+
+    checked : checkNumber e l ≡ 0
+    checked = sym (checks-pass e l (a .number) lengths gains-pass entries-pass)
+
+    sampled : Sampled (l .m)
+    sampled = lent-samples t (i * e .n) (λ (z : ℤ). natAbs z ≤ 2 ^ 15) (λ j k. le-of-lt (at j k .sample-small))
+
+  runs : (blocks i : ℕ) (e : Equaliser) → Accepted e → settings e ≡ settingsIn t → i + blocks ≡ countIn t → Runs t blocks i e
+  runs zero i e a same q = tt
+  runs (suc blocks) i e a same q =
+      let h : i < countIn t = omega (arith, q) in
+      go (goesOn e (block (l e a same i h))) (number-is e (l e a same i h) (checked e a same i h))
+      (λ z. runs blocks (suc i) (runState e (l e a same i h)) (run-accepted e (l e a same i h) z (a .weights-long) (a .past-long) (sampled e a same i h))
+      (run-settings e (l e a same i h) ∙ same) (omega (arith, q)))
+    where
+      go : (b : Bool) → cond b 0 6 ≡ runNumber e (lentAt t (i * e .n)) → (runNumber e (lentAt t (i * e .n)) ≡ 0 → Runs t blocks (suc i) (runState e (lentAt t (i * e .n)))) →
+          (runNumber e (lentAt t (i * e .n)) ≡ 6) ⊎ ((runNumber e (lentAt t (i * e .n)) ≡ 0) × Runs t blocks (suc i) (runState e (lentAt t (i * e .n))))
+      go true z rest = inr (sym z, rest (sym z))
+      go false z rest = inl (sym z)
+
+  set-up : settingsNumber (settingsIn t) ≡ 0
+  set-up = ap settingsNumber settings-are ∙ settled
+
+  text-is : traceText t ≡ textFrom t (countIn t) 0 (fresh (settingsIn t))
+  text-is =
+      let a : Answer = record { number = settingsNumber (settingsIn t); state = setUpState (settingsIn t) } in
+      let u : SetUp (settingsIn t) a = record { number = refl; state = refl } in
+      sym (accepted-text t well-formed a u set-up) ∙ ap (textFrom t (countIn t) 0) (state-is t well-formed a u set-up)
+
+  pub reads : Reads c (cableTrace c)
+  reads =
+      subst (Reads c) (sym (trace-flat c))
+      (record {
+        well-formed = well-formed;
+        settings-are = settings-are;
+        set-up = set-up;
+        count-is = count-is;
+        samples-are = samples-are;
+        samples = reads-sample;
+        text-is = text-is;
+        blocks = runs (countIn t) 0 (fresh (settingsIn t)) (subst (λ (k : Settings). Accepted (fresh k)) (sym settings-are) first) (fresh-settings (settingsIn t)) (omega arith);
+      })

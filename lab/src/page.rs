@@ -1,0 +1,389 @@
+//! What stands on the page: its words and its panels, a curve in each for
+//! every step size.
+
+use crate::run::{decibels, mean_power, Ran, Run};
+use crate::summary::{cable, in_decibels, last_blocks, named, stop, wrong};
+use crate::text::{Given, MOST_STEPS};
+use crate::words::shown;
+use years::axis::Axis;
+use years::curve::{Curve, Rows, GREY};
+use years::words::percent;
+
+pub struct Page {
+    pub title: String,
+    pub lines: Vec<String>,
+    pub panels: Vec<Panel>,
+}
+
+pub struct Panel {
+    /// In the picture's points, where its legend doesn't need more.
+    pub least_height: f64,
+    /// At the left.
+    pub label: &'static str,
+    /// At the right, above the legend: the panel's name, then more of it.
+    pub name: &'static str,
+    pub notes: Vec<String>,
+    pub across: Axis,
+    pub up: Axis,
+    /// What is across; none where the next panel has the same axis.
+    pub below: Option<&'static str>,
+    /// Where training ends.
+    pub mark: Option<f64>,
+    pub curves: Vec<Curve>,
+}
+
+/// From the top of a panel to its notes, and the lines of notes and legend.
+pub const NOTES: f64 = 28.0;
+pub const NOTE: f64 = 20.0;
+const KEY: f64 = 24.5;
+
+impl Panel {
+    /// In the picture's points.
+    pub fn height(&self) -> f64 {
+        let titles = self.curves.iter().filter(|curve| curve.title.is_some());
+        let keys = titles.count() + usize::from(self.mark.is_some());
+        let legend = NOTES + NOTE * self.notes.len() as f64 + KEY * keys as f64;
+        self.least_height.max(legend)
+    }
+}
+
+/// A look for each step size: wide and light to thin and black, so that each
+/// is seen over the one before, in grey too; then dots and dashes.
+const LOOKS: [&str; MOST_STEPS] = [
+    "lw 6 lc rgb '#b8b8b8'",
+    "lw 3 lc rgb '#4a86c5'",
+    "lw 1.5 lc rgb '#000000'",
+    "lw 4 dt 3 lc rgb '#999999'",
+    "lw 2.5 dt 2 lc rgb '#4a86c5'",
+    "lw 1.5 dt 4 lc rgb '#000000'",
+];
+/// The marks of weights.
+const MARKS: [&str; MOST_STEPS] = ["pt 7", "pt 5", "pt 9", "pt 6", "pt 4", "pt 8"];
+/// A curve's points at most.
+const MOST_POINTS: usize = 160;
+
+pub fn page(given: &Given, runs: &[Run], file: &str) -> Page {
+    let mut lines = vec![outcome(runs)];
+    lines.extend(cable(given));
+    lines.push(
+        "Trace by the laboratory's library, blocks run by the station's: both are proved."
+            .to_string(),
+    );
+    lines.extend(runs.iter().filter_map(stopped));
+    Page {
+        title: format!("Step sizes on a cable: {}", shown(file)),
+        lines,
+        panels: panels(given, runs),
+    }
+}
+
+fn panels(given: &Given, runs: &[Run]) -> Vec<Panel> {
+    let mut panels = vec![error_power(given, runs)];
+    if runs.iter().any(|run| run.decided() > 0) {
+        panels.push(wrong_decisions(given, runs));
+    }
+    panels.push(exponent(given, runs));
+    panels.extend(filters(given).iter().map(|filter| weights(filter, runs)));
+    panels
+}
+
+fn stopped(run: &Run) -> Option<String> {
+    Some(format!(
+        "{}: {}, and ends there",
+        named(&run.step),
+        stop(run)?
+    ))
+}
+
+/// The wrong decisions of each step size, with their names where they fit a
+/// line.
+fn outcome(runs: &[Run]) -> String {
+    const LINE: usize = 95;
+    if runs.iter().all(|run| run.decided() == 0) {
+        return "no decision after training".to_string();
+    }
+    let share = |run: &Run| percent(run.wrong() as u64, run.decided() as u64);
+    let named = runs.iter().map(|run| (share(run), &run.step.name));
+    let named: Vec<String> = named
+        .map(|(share, name)| format!("{share} with {name}"))
+        .collect();
+    let line = format!("wrong decisions after training: {}", named.join(", "));
+    if line.chars().count() <= LINE {
+        return line;
+    }
+    let shares: Vec<String> = runs.iter().map(share).collect();
+    let shares = shares.join(", ");
+    format!("wrong decisions after training: {shares}, in the order of the legend")
+}
+
+fn samples(given: &Given) -> f64 {
+    given.symbols.values.len() as f64
+}
+
+/// The axis of samples.
+fn over_samples(given: &Given) -> Axis {
+    Axis::between(0.0, samples(given), 10, 1.0)
+}
+
+/// The end of training, where it is within the page.
+fn end_of_training(given: &Given) -> Option<f64> {
+    let end = given.training.value as f64;
+    (end > 0.0 && end < samples(given)).then_some(end)
+}
+
+/// A curve for each step size, with a title of its own.
+fn curves(runs: &[Run], rows: impl Fn(&Run) -> Rows, title: impl Fn(&Run) -> String) -> Vec<Curve> {
+    let looks = runs.iter().zip(LOOKS);
+    looks
+        .map(|(run, look)| {
+            let style = format!("with lines {look}");
+            Curve::new(rows(run), style, Some(&title(run)))
+        })
+        .collect()
+}
+
+/// How many blocks in a row make a point.
+fn together(given: &Given) -> usize {
+    let blocks = given.symbols.values.len() / usize::from(given.n.value);
+    blocks.div_ceil(MOST_POINTS)
+}
+
+/// Means of blocks in a row, each in the middle of its samples; the first and
+/// the last reach to the ends.
+fn powers(given: &Given, run: &Run) -> Vec<(f64, f64)> {
+    let (n, few) = (f64::from(given.n.value), together(given));
+    let groups = run.blocks.chunks(few).enumerate();
+    let middles = groups.filter_map(|(place, blocks)| {
+        let middle = (place * few) as f64 + blocks.len() as f64 / 2.0;
+        Some((middle * n, decibels(mean_power(blocks)?)))
+    });
+    let middles: Vec<(f64, f64)> = middles.collect();
+    let first = middles.first().map(|(_, value)| (0.0, *value));
+    let end = run.blocks.len() as f64 * n;
+    let last = middles.last().map(|(_, value)| (end, *value));
+    let ends = |end: Option<(f64, f64)>| end.into_iter();
+    ends(first)
+        .chain(middles.clone())
+        .chain(ends(last))
+        .collect()
+}
+
+fn in_rows(points: &[(f64, f64)]) -> Rows {
+    let mut rows = Rows::default();
+    points
+        .iter()
+        .for_each(|(at, value)| rows.add(&[*at, *value]));
+    rows
+}
+
+/// An error that is anything within ±1 of a decision has the mean square 1/3.
+fn guessing(given: &Given) -> Curve {
+    let level = decibels(1.0 / 3.0);
+    let rows = in_rows(&[(0.0, level), (samples(given), level)]);
+    let style = format!("with lines dt 3 lw 2 lc rgb '{GREY}'");
+    Curve::new(rows, style, Some("about −5 dB: guessing"))
+}
+
+fn error_notes(given: &Given, runs: &[Run]) -> Vec<String> {
+    let mean = match together(given) {
+        1 => "each point the mean of a block".to_string(),
+        few => format!("each point the mean of {few} blocks in a row"),
+    };
+    let fixed = [
+        "0 dB: one symbol unit (r.m.s.), half the",
+        "distance between neighbours; the error is",
+        "to the training symbol, then to the station's",
+        "own decision, right or wrong: one that only",
+        "guesses shows about −5 dB",
+    ];
+    let last = runs.iter().map(|run| run.last_blocks().len()).max();
+    let fixed = fixed.map(str::to_string).into_iter();
+    fixed
+        .chain([
+            mean,
+            format!("dB below: the mean of {}", last_blocks(last.unwrap_or(0))),
+        ])
+        .collect()
+}
+
+fn error_power(given: &Given, runs: &[Run]) -> Panel {
+    let points = runs.iter().flat_map(|run| powers(given, run));
+    let start = (-5.0f64, 1.0f64);
+    let (low, high) = points.fold(start, |(low, high), (_, v)| (low.min(v), high.max(v)));
+    let title = |run: &Run| {
+        let end = run
+            .last_error_power()
+            .map_or(String::new(), |power| format!(", {}", in_decibels(power)));
+        format!("{}{end}", named(&run.step))
+    };
+    let mut drawn = vec![guessing(given)];
+    drawn.extend(curves(runs, |run| in_rows(&powers(given, run)), title));
+    Panel {
+        least_height: 330.0,
+        label: "error power, dB",
+        name: "error power",
+        notes: error_notes(given, runs),
+        across: over_samples(given),
+        up: Axis::around(low, high, 7, 1.0),
+        below: None,
+        mark: end_of_training(given),
+        curves: drawn,
+    }
+}
+
+/// A value after each block, from the block where it changes.
+fn changes(given: &Given, run: &Run, mut value: impl FnMut(&Ran) -> f64) -> Vec<(f64, f64)> {
+    let n = f64::from(given.n.value);
+    let mut points: Vec<(f64, f64)> = Vec::new();
+    for (place, block) in run.blocks.iter().enumerate() {
+        let (value, end) = (value(block), (place + 1) as f64 * n);
+        match points.last().copied() {
+            Some((_, last)) if last == value => (),
+            Some((_, last)) => points.extend([(end, last), (end, value)]),
+            None => points.push((end - n, value)),
+        }
+    }
+    if let Some((_, last)) = points.last().copied() {
+        points.push((run.blocks.len() as f64 * n, last));
+    }
+    points
+}
+
+/// Wrong decisions so far; nothing before the first.
+fn wrong_so_far(given: &Given, run: &Run) -> Vec<(f64, f64)> {
+    let mut sum = 0;
+    let mut points = changes(given, run, |block| {
+        sum += block.wrong;
+        sum as f64
+    });
+    points.retain(|(_, sum)| *sum > 0.0);
+    points
+}
+
+/// Counts from 1 on, by powers of ten.
+fn counts(greatest: usize) -> Axis {
+    let powers = (0..=7).map(|power| 10f64.powi(power));
+    let high = (greatest as f64 * 1.5).max(15.0);
+    let labels = powers.filter(|at| *at <= high);
+    Axis {
+        low: 0.7,
+        high,
+        labels: labels.map(|at| (at, format!("{at:.0}"))).collect(),
+        logarithmic: true,
+    }
+}
+
+fn wrong_decisions(given: &Given, runs: &[Run]) -> Panel {
+    let title = |run: &Run| format!("{}: {}", run.step.name, wrong(run));
+    let most = runs.iter().map(Run::wrong).max();
+    Panel {
+        least_height: 190.0,
+        label: "wrong so far",
+        name: "wrong decisions after training, so far",
+        notes: vec!["a curve begins at its first wrong decision".to_string()],
+        across: over_samples(given),
+        up: counts(most.unwrap_or(0)),
+        below: None,
+        mark: end_of_training(given),
+        curves: curves(runs, |run| in_rows(&wrong_so_far(given, run)), title),
+    }
+}
+
+fn exponent(given: &Given, runs: &[Run]) -> Panel {
+    let psi = |run: &Run| in_rows(&changes(given, run, |block| block.psi.into()));
+    let last = |run: &Run| run.blocks.last().map_or(0, |block| block.psi);
+    let title = |run: &Run| format!("{}: {} at the end", run.step.name, last(run));
+    let most = runs.iter().map(last).max().unwrap_or(0);
+    Panel {
+        least_height: 130.0,
+        label: "ψ",
+        name: "ψ, the weights' exponent",
+        notes: Vec::new(),
+        across: over_samples(given),
+        up: Axis::counts(most.into(), 5),
+        below: Some("samples received, one for each symbol"),
+        mark: end_of_training(given),
+        curves: curves(runs, psi, title),
+    }
+}
+
+/// The weights of one filter.
+struct Filter {
+    name: &'static str,
+    note: &'static str,
+    /// The first weight's place among all, its number, and how many there are.
+    start: usize,
+    first: usize,
+    count: usize,
+}
+
+fn filters(given: &Given) -> [Filter; 2] {
+    let (p, q) = (given.p.value.into(), given.q.value.into());
+    let forward = Filter {
+        name: "feed forward weights at the end",
+        note: "W·2^(ψ−15); 0 is the newest sample's",
+        start: 0,
+        first: 0,
+        count: p,
+    };
+    let back = Filter {
+        name: "feedback weights at the end",
+        note: "W·2^(ψ−15); 1 is the newest symbol's",
+        start: p,
+        first: 1,
+        count: q,
+    };
+    [forward, back]
+}
+
+/// A filter's weights after the last block.
+fn last_weights<'a>(filter: &Filter, run: &'a Run) -> &'a [f64] {
+    let last = run.blocks.last();
+    last.map_or(&[], |block| &block.weights[filter.start..][..filter.count])
+}
+
+/// Stems of the weights, those of each step size side by side.
+fn stems(filter: &Filter, runs: &[Run], place: usize) -> Rows {
+    let width = 0.7 / runs.len() as f64;
+    let aside = (place as f64 - (runs.len() - 1) as f64 / 2.0) * width;
+    let weights = last_weights(filter, &runs[place]).iter().enumerate();
+    let points = weights.map(|(tap, weight)| ((filter.first + tap) as f64 + aside, *weight));
+    in_rows(&points.collect::<Vec<_>>())
+}
+
+fn weights(filter: &Filter, runs: &[Run]) -> Panel {
+    let all = runs.iter().flat_map(|run| last_weights(filter, run));
+    let (low, high) = all.fold((0.0f64, 0.0f64), |(low, high), w| {
+        (low.min(*w), high.max(*w))
+    });
+    let (first, last) = (
+        filter.first as f64,
+        (filter.first + filter.count - 1) as f64,
+    );
+    let taps = (0..filter.count).map(|tap| filter.first + tap);
+    let drawn = (0..runs.len()).map(|place| {
+        let style = format!("with impulses {}", LOOKS[place]);
+        Curve::new(stems(filter, runs, place), style, None)
+    });
+    let marks = (0..runs.len()).map(|place| {
+        let style = format!("with points {} ps 1.4 {}", MARKS[place], LOOKS[place]);
+        let title = Some(runs[place].step.name.as_str());
+        Curve::new(stems(filter, runs, place), style, title)
+    });
+    Panel {
+        least_height: 160.0,
+        label: "weight",
+        name: filter.name,
+        notes: vec![filter.note.to_string()],
+        across: Axis {
+            low: first - 0.6,
+            high: last + 0.6,
+            labels: taps.map(|tap| (tap as f64, tap.to_string())).collect(),
+            logarithmic: false,
+        },
+        up: Axis::around(low, high, 5, 0.0001),
+        below: Some("tap"),
+        mark: None,
+        curves: drawn.chain(marks).collect(),
+    }
+}

@@ -1,0 +1,338 @@
+//! Runs through the station, held to figures computed without it.
+
+mod common;
+
+use common::{given, runs, with_line, EXAMPLE, WORKED};
+use lab::cable::traces;
+use lab::run::{decibels, error_power, mean_power, Ran, Run};
+use lab::text::Given;
+use lab::{summary, table};
+use reference::{Inputs, Outputs, State};
+use tigbulode::sides::settings_of;
+use traces::trace::{Sample, Trace};
+
+#[test]
+fn error_power_is_the_mean_of_squares() {
+    assert_eq!(error_power(&[1 << 28], &[2]), 1.0);
+    assert_eq!(error_power(&[-(1 << 28), 0], &[2, 24]), 0.5);
+    assert_eq!(
+        error_power(&[3 << 20, -(1 << 20)], &[10, 11]),
+        (9.0 + 4.0) / 2.0
+    );
+    assert_eq!(error_power(&[0, 0], &[5, 5]), 0.0);
+}
+
+#[test]
+fn decibels_have_a_floor() {
+    assert_eq!(decibels(1.0), 0.0);
+    assert_eq!(decibels(100.0), 20.0);
+    assert!((decibels(0.5) + 3.0103).abs() < 1e-4);
+    assert_eq!(decibels(0.0), -100.0);
+    assert_eq!(decibels(1e-30), -100.0);
+}
+
+/// The figures of the worked example in docs/EQUALISER.md.
+#[test]
+fn the_worked_example_comes_out() {
+    let given = given(WORKED);
+    let runs = runs(&given);
+    let unit = 1.0 / 32768.0;
+    let second = 264_241_152.0 / f64::from(1 << 28);
+    let ran = |error_power, decided, weights: [f64; 2]| Ran {
+        error_power,
+        decided,
+        wrong: 0,
+        psi: 0,
+        weights: weights.map(|weight| weight * unit).to_vec(),
+    };
+    let first = ran(1.0, 0, [1024.0, 0.0]);
+    let blocks = vec![first, ran(second * second, 1, [2032.0, 2016.0])];
+    assert_eq!(runs[0].blocks, blocks);
+    assert_eq!(runs[0].stopped, None);
+    let rows = "\
+1,67108864,1.000000,0,0,0,1.000000e0,0.000,0,0,0,0.031250,0.000000,0.031250,0.000000
+1,67108864,1.000000,1,1,0,9.689941e-1,-0.137,1,0,0,0.062012,0.061523,0.062012,0.061523
+";
+    assert!(table::csv(&given, &runs).ends_with(rows));
+}
+
+/// A wrong decision is counted: without a weight every output is 0, so every
+/// decision is 1.
+#[test]
+fn wrong_decisions_are_counted_after_training_alone() {
+    let text = with_line(WORKED, 3, "N = 2");
+    let text = with_line(&text, 7, "symbols = -1 1 -1 -1 1 -1");
+    let text = with_line(&text, 9, "M = 0");
+    let counts = |training: usize| {
+        let text = with_line(&text, 8, &format!("training = {training}"));
+        let run = runs(&given(&text)).remove(0);
+        let counts: Vec<_> = run.blocks.iter().map(|b| (b.decided, b.wrong)).collect();
+        assert_eq!(run.decided(), 6 - training);
+        counts
+    };
+    assert_eq!(counts(0), [(2, 1), (2, 2), (2, 1)]);
+    assert_eq!(counts(3), [(0, 0), (1, 1), (2, 1)]);
+    assert_eq!(counts(6), [(0, 0), (0, 0), (0, 0)]);
+}
+
+/// A block by the second implementation.
+fn block_by_reference(state: &mut State, part: &[Sample], sent: &[i8]) -> Ran {
+    let samples: Vec<i16> = part.iter().map(|x| x.m).collect();
+    let gains: Vec<u8> = part.iter().map(|x| x.g).collect();
+    let training: Vec<i8> = part.iter().map(|x| x.entry).collect();
+    let inputs = Inputs {
+        samples: &samples,
+        gains: &gains,
+        training: &training,
+    };
+    let n = part.len();
+    let mut out = Outputs::zeros(n);
+    assert_eq!(reference::run(state, inputs, &mut out), 0);
+    let errors = (0..n).map(|i| f64::from(out.z[i]) * 2f64.powi(i32::from(out.theta[i]) - 30));
+    let decided: Vec<usize> = (0..n).filter(|i| training[*i] == 0).collect();
+    let wrong = decided.iter().filter(|i| out.decision[**i] != sent[**i]);
+    let unit = 2f64.powi(i32::from(state.psi) - 15);
+    Ran {
+        error_power: errors.map(|e| e * e).sum::<f64>() / n as f64,
+        decided: decided.len(),
+        wrong: wrong.count(),
+        psi: state.psi,
+        weights: state.weights.iter().map(|w| f64::from(*w) * unit).collect(),
+    }
+}
+
+/// Every block of a run by the second implementation.
+fn by_reference(given: &Given, trace: &Trace) -> Vec<Ran> {
+    let s = given.sizes(trace.settings.m);
+    let settings = settings_of(&s.set_up().state);
+    let (number, mut state) = reference::set_up(settings);
+    assert_eq!(number, 0);
+    let n = usize::from(s.n);
+    let sent = given.symbols.plain();
+    let blocks = trace.samples.chunks(n).zip(sent.chunks(n));
+    blocks
+        .map(|(part, sent)| block_by_reference(&mut state, part, sent))
+        .collect()
+}
+
+#[test]
+fn the_example_is_run_as_the_second_implementation_runs_it() {
+    let given = given(EXAMPLE);
+    let made = traces(&given).expect("it is accepted");
+    for ((_, bytes), run) in made.iter().zip(runs(&given)) {
+        let mut trace = Trace::of_bytes(bytes).expect("a trace");
+        assert_eq!(run.blocks, by_reference(&given, &trace));
+        assert_eq!(run.stopped, None);
+        // one sample heard otherwise is seen
+        trace.samples[5000].m ^= 1 << 12;
+        assert_ne!(run.blocks, by_reference(&given, &trace));
+    }
+}
+
+/// What the example is there to show.
+#[test]
+fn one_step_is_too_slow_one_is_right_and_one_is_at_the_limit() {
+    let given = given(EXAMPLE);
+    let runs = runs(&given);
+    let wrong: Vec<usize> = runs.iter().map(Run::wrong).collect();
+    assert_eq!(wrong, [3763, 0, 94]);
+    assert!(runs.iter().all(|run| run.decided() == 6400));
+    assert_eq!(Some(runs[2].step.m), given.greatest_step());
+    let before_end = |run: &Run| mean_power(&run.blocks[90..100]).map(decibels);
+    let trained: Vec<f64> = runs.iter().filter_map(before_end).collect();
+    assert!(
+        trained[0] > 0.0 && trained[1] < -6.0 && trained[2] < -6.0,
+        "{trained:?}"
+    );
+    let end = |run: &Run| run.last_error_power().map(decibels);
+    assert!(end(&runs[1]) < end(&runs[2]));
+}
+
+#[test]
+fn the_table_has_a_row_for_each_block_and_its_columns() {
+    let given = given(EXAMPLE);
+    let csv = table::csv(&given, &runs(&given));
+    let lines: Vec<&str> = csv.lines().collect();
+    assert_eq!(lines.len(), 1 + 3 * 300);
+    let columns: Vec<&str> = lines[0].split(',').collect();
+    assert_eq!(
+        columns[..6],
+        [
+            "step",
+            "M",
+            "share of the greatest M",
+            "block",
+            "first sample",
+            "turned down with"
+        ]
+    );
+    assert_eq!(
+        columns[13..],
+        [
+            "feed forward 0",
+            "feed forward 1",
+            "feedback 1",
+            "feedback 2",
+            "feedback 3",
+            "feedback 4"
+        ]
+    );
+    assert!(lines
+        .iter()
+        .all(|line| line.split(',').count() == columns.len()));
+    assert!(lines[301].starts_with("2,524288,0.250000,0,0,0,"));
+    assert!(lines[900].starts_with("3,2097152,1.000000,299,9568,0,"));
+    let first = "-0.018280,0.037872,-0.007874,-0.018280,0.014557,-0.011963,-0.003662";
+    assert!(
+        lines[1].ends_with(&format!(",0.037872,{first}")),
+        "{}",
+        lines[1]
+    );
+}
+
+/// A run that was turned down in its third block.
+fn stopped() -> (Given, Vec<Run>) {
+    let text = with_line(WORKED, 7, "symbols = 1 1 1 1");
+    let given = given(&text);
+    let mut runs = runs(&given);
+    runs[0].blocks.truncate(2);
+    runs[0].stopped = Some(6);
+    (given, runs)
+}
+
+#[test]
+fn a_block_that_is_turned_down_is_told_in_the_table_and_the_summary() {
+    let (given, runs) = stopped();
+    let csv = table::csv(&given, &runs);
+    let columns = csv.lines().next().expect("a header").split(',').count();
+    let last = csv.lines().last().expect("a row");
+    assert_eq!(
+        last,
+        format!("1,67108864,1.000000,2,2,6{}", ",".repeat(columns - 6))
+    );
+    let summary = summary::summary(&given, &runs);
+    assert!(
+        summary.contains("; block 2 turned down with 6; "),
+        "{summary}"
+    );
+    let page = lab::page::page(&given, &runs, "a");
+    let line = "M = 67108864: block 2 turned down with 6, and ends there";
+    assert!(
+        page.lines.iter().any(|told| told == line),
+        "{:?}",
+        page.lines
+    );
+}
+
+#[test]
+fn the_summary_has_a_line_for_each_step_size() {
+    let given = given(EXAMPLE);
+    let summary = summary::summary(&given, &runs(&given));
+    assert_eq!(summary.lines().count(), 4 + 3);
+    let shown = [
+        "response 0.4 −0.07 −0.02 0.02 −0.01 0 0 0 0.04, no noise",
+        "9600 symbols, random from seed 1; training on the first 3200; least gain 0 (L)",
+        "share 1/4: M = 524288, 0.250000 of the greatest: wrong decisions after training 0 of 6400 (0 %); \
+         error power over the last 30 blocks −6.8 dB (2.0828e-1); ψ 3; feed forward weights 2.476562 0.046875; \
+         feedback weights 0.150879 0.050781 −0.05835 0.016846",
+    ];
+    for line in shown {
+        assert!(summary.lines().any(|found| found == line), "{line}");
+    }
+}
+
+#[test]
+fn a_long_response_is_cut_to_a_line() {
+    let response = "response = ".to_string() + &"-12345 ".repeat(32);
+    let line = |text: &str| summary::cable(&given(text))[1].clone();
+    let cut = line(&with_line(WORKED, 6, &response));
+    assert!(
+        cut.starts_with("response −0.37674 −0.37674 ") && cut.ends_with(" more, no noise"),
+        "{cut}"
+    );
+    assert!((100..=115).contains(&cut.chars().count()), "{cut}");
+    let ends = with_line(WORKED, 6, "response = 32767 -32768 1 -1 0 16384");
+    assert_eq!(
+        line(&ends),
+        "response 0.99997 −1 0.00003 −0.00003 0 0.5, no noise"
+    );
+}
+
+/// Newest first, as many as there were.
+fn push(list: &mut [f64], newest: f64) {
+    list.rotate_right(1);
+    list[0] = newest;
+}
+
+fn product(weights: &[f64], data: &[f64]) -> f64 {
+    weights.iter().zip(data).map(|(w, x)| w * x).sum()
+}
+
+/// LMS in plain floating point numbers on the cable of a text, nothing cut:
+/// wrong decisions after training, and the error power over the last tenth.
+fn plain_lms(given: &Given, m: u32) -> (usize, f64) {
+    let step = f64::from(m) / f64::from(1 << 30);
+    let (p, q) = (usize::from(given.p.value), usize::from(given.q.value));
+    let (response, sent) = (given.response.plain(), given.symbols.plain());
+    let response: Vec<f64> = response.iter().map(|h| f64::from(*h) / 32768.0).collect();
+    let most = f64::from((2 << given.r.value) - 1);
+    let mut on_cable = vec![0.0; response.len()];
+    let (mut forward, mut heard) = (vec![0.0; p], vec![0.0; p]);
+    let (mut back, mut past) = (vec![0.0; q], vec![0.0; q]);
+    let (mut wrong, mut squares) = (0, Vec::new());
+    for (place, symbol) in sent.iter().map(|symbol| f64::from(*symbol)).enumerate() {
+        push(&mut on_cable, symbol);
+        push(&mut heard, product(&response, &on_cable));
+        let y = product(&forward, &heard) + product(&back, &past);
+        let decision = (2.0 * (y / 2.0).floor() + 1.0).clamp(-most, most);
+        let trained = place < given.training.value;
+        let aim = if trained { symbol } else { decision };
+        wrong += usize::from(!trained && decision != symbol);
+        squares.push((aim - y) * (aim - y));
+        let gain = step * (aim - y);
+        forward
+            .iter_mut()
+            .zip(&heard)
+            .for_each(|(w, x)| *w += gain * x);
+        back.iter_mut().zip(&past).for_each(|(w, x)| *w += gain * x);
+        push(&mut past, aim);
+    }
+    let last = &squares[sent.len() - sent.len() / 10..];
+    (wrong, last.iter().sum::<f64>() / last.len() as f64)
+}
+
+/// What the example shows is the method's own, not that of short registers.
+#[test]
+fn the_example_fares_as_in_plain_floating_point() {
+    let given = given(EXAMPLE);
+    for run in runs(&given) {
+        let (wrong, power) = plain_lms(&given, run.step.m);
+        let apart = decibels(power) - run.last_error_power().map_or(0.0, decibels);
+        assert!(apart.abs() < 0.2, "{}: {apart} dB", run.step.name);
+        assert!(
+            wrong.abs_diff(run.wrong()) <= run.wrong() / 10,
+            "{}: {wrong}",
+            run.step.name
+        );
+    }
+}
+
+/// Without the far echo nothing stays but what is cut: each step is less than
+/// a unit of a weight then.
+#[test]
+fn without_the_echo_the_greatest_step_is_the_best() {
+    let text = EXAMPLE.replace("-0.01 0 0 0 0.04", "-0.01");
+    let given = given(&text);
+    let runs = runs(&given);
+    let ends: Vec<f64> = runs
+        .iter()
+        .filter_map(Run::last_error_power)
+        .map(decibels)
+        .collect();
+    assert_eq!((runs[1].wrong(), runs[2].wrong()), (0, 0));
+    assert!(
+        (ends[1] + 21.3).abs() < 0.1 && (ends[2] + 35.3).abs() < 0.1,
+        "{ends:?}"
+    );
+    assert!(decibels(plain_lms(&given, runs[1].step.m).1) < -45.0);
+}

@@ -1,0 +1,200 @@
+//! The stored outputs are the second implementation's, and the README shows
+//! what is stored.
+
+use reference::cable::{cable, Cable};
+use reference::vectors::{cable_vectors, description_vectors};
+use reference::Settings;
+use tigbulode_laboratory::{number_text, trace_length, MOST_RESPONSE, MOST_SYMBOLS, VERSION};
+
+/// The trace of the second implementation, with its number.
+fn simulated(cable_: &Cable) -> (u8, Vec<u8>) {
+    let mut trace = vec![0; trace_length(cable_.symbols.len())];
+    (cable(cable_, &mut trace), trace)
+}
+
+#[test]
+fn the_cables() {
+    let cables = cable_vectors();
+    let count = |number: u8| cables.iter().filter(|c| c.number == number).count();
+    let (all, good) = (cables.len(), count(0));
+    let mut text = format!(
+        "cables {all}: accepted {good}, turned down {}\n",
+        all - good
+    );
+    for number in [0, 1, 2, 10] {
+        text += &format!("answer {number}: {}\n", count(number));
+    }
+    // Three other answers and a byte before and after the trace of each cable,
+    // and a byte of each list that has one.
+    let lengths = cables.iter().flat_map(|c| {
+        let lists = &c.description;
+        [c.output, lists.response.len(), lists.symbols.len()]
+    });
+    let changes = 5 * all + lengths.filter(|&length| length > 0).count();
+    text += &format!("changed expectations told apart: {changes} of {changes}\n");
+    text += "no difference\n";
+    assert_eq!(text, include_str!("../../cables.out"));
+}
+
+#[test]
+fn the_descriptions() {
+    let all = description_vectors();
+    let line = |text: &[u8]| text.starts_with(b"cable: ");
+    let lines = all.iter().filter(|one| line(&one.written)).count();
+    let (count, traces) = (all.len(), all.len() - lines);
+    let mut text = format!("descriptions {count}: traces {traces}, lines {lines}\n");
+    // Three other outputs of cable and seven other texts of trace.
+    let changes = 10 * count;
+    text += &format!("changed expectations told apart: {changes} of {changes}\n");
+    text += "no difference\n";
+    assert_eq!(text, include_str!("../../descriptions.out"));
+}
+
+/// What the first program prints.
+fn first_program() -> String {
+    let settings = Settings {
+        p: 2,
+        q: 1,
+        n: 2,
+        r: 1,
+        l: 0,
+        m: 1 << 20,
+    };
+    let (number, trace) = simulated(&Cable {
+        settings,
+        response: &[16384, -4096],
+        symbols: &[1, -3, 3, 1, -1, 3],
+        training: 3,
+    });
+    let about = number_text(number);
+    let mut text = format!("{about}: m, gain and entry of each sample\n");
+    for (sample, &entry) in trace[12..30].chunks(3).zip(&trace[30..]) {
+        let m = i16::from_le_bytes([sample[0], sample[1]]);
+        text += &format!("{m} {} {}\n", sample[2], entry as i8);
+    }
+    text
+}
+
+#[test]
+fn the_first_program() {
+    let in_c_and_cpp_and_rust = first_program().repeat(3);
+    assert_eq!(in_c_and_cpp_and_rust, include_str!("../../first.out"));
+}
+
+/// The generator of the C programs.
+struct Numbers(u32);
+
+impl Numbers {
+    fn next(&mut self) -> u32 {
+        self.0 = self.0.wrapping_mul(1_664_525).wrapping_add(1_013_904_223);
+        self.0
+    }
+
+    fn below(&mut self, end: u32) -> u32 {
+        (self.next() >> 8) % end
+    }
+}
+
+#[test]
+fn a_cable_and_a_station() {
+    const SYMBOLS: usize = 16 * 256;
+    let mut numbers = Numbers(2026);
+    let symbol = |_| 2 * (numbers.next() >> 30) as i8 - 3;
+    let symbols: Vec<i8> = (0..SYMBOLS).map(symbol).collect();
+    let settings = Settings {
+        p: 4,
+        q: 3,
+        n: 16,
+        r: 1,
+        l: 0,
+        m: 0,
+    };
+    let (number, trace) = simulated(&Cable {
+        settings: settings.with_m(settings.largest_m() / 2),
+        response: &[16000, -3500, 1700, -600],
+        symbols: &symbols,
+        training: SYMBOLS / 2,
+    });
+    let text = reference::trace(&trace);
+    let decisions = text.lines().map(|line| line.split(' ').next_back());
+    let decisions: Vec<i8> = decisions
+        .map(|word| word.unwrap().parse().unwrap())
+        .collect();
+    let wrong = |range: std::ops::Range<usize>| {
+        let pairs = decisions[range.clone()].iter().zip(&symbols[range]);
+        pairs
+            .filter(|(decision, symbol)| decision != symbol)
+            .count()
+    };
+    let (trained, decided) = (wrong(0..SYMBOLS / 2), wrong(SYMBOLS / 2..SYMBOLS));
+    let text = format!(
+        "cable: {}\ntrained: 2048 symbols, accepted; wrong decisions {trained}\n\
+         decided: 2048 symbols, accepted; wrong decisions {decided}\n",
+        number_text(number)
+    );
+    assert_eq!(text, include_str!("../../both.out"));
+}
+
+/// Whether a random cable of interface.c is accepted, and whether its p and q
+/// differ.
+fn any_cable(numbers: &mut Numbers) -> (bool, bool) {
+    let (p, q) = (1 + numbers.below(4) as u8, 1 + numbers.below(16) as u8);
+    let (n, r) = (3 + numbers.below(8) as u8, numbers.below(4) as u8);
+    let (l, m) = (numbers.below(3) as u8, numbers.below(2_000_000));
+    let settings = Settings { p, q, n, r, l, m };
+    let values = 1 + numbers.below(MOST_RESPONSE as u32);
+    let symbols = u32::from(n) * (1 + numbers.below(8));
+    let training = numbers.below(symbols) as usize;
+    let value = |numbers: &mut Numbers| numbers.below(2048) as i16 - 1024;
+    let response: Vec<i16> = (0..values).map(|_| value(numbers)).collect();
+    let symbol = |numbers: &mut Numbers| 2 * numbers.below(2 << r) as i8 - ((2 << r) - 1);
+    let symbols: Vec<i8> = (0..symbols).map(|_| symbol(numbers)).collect();
+    let (number, _) = simulated(&Cable {
+        settings,
+        response: &response,
+        symbols: &symbols,
+        training,
+    });
+    (number == 0, p != q)
+}
+
+#[test]
+fn the_interface() {
+    let mut text = format!("version {VERSION}\n");
+    for number in 0..=11 {
+        text += &format!("number {number}: {}\n", number_text(number));
+    }
+    text += &format!("trace lengths: 1 to 200 symbols, and {MOST_SYMBOLS}\n");
+    let (most, more) = (MOST_RESPONSE, MOST_RESPONSE + 1);
+    text += &format!("response lengths: 1 to {most} accepted, 0 and {more} turned down\n");
+    let mut numbers = Numbers(2026);
+    let cables: Vec<(bool, bool)> = (0..500).map(|_| any_cable(&mut numbers)).collect();
+    let accepted = cables.iter().filter(|(accepted, _)| *accepted).count();
+    text += &format!("cables: 500 by both calls, {accepted} accepted\n");
+    text += "lists left out: 3, each turned down with 10\n";
+    // A byte more and a byte less for each trace length, one symbol too many;
+    // another training count, and p and q exchanged where they differ.
+    let exchanged = cables
+        .iter()
+        .filter(|(accepted, other)| *accepted && *other);
+    let changes = 2 * 201 + 1 + accepted + exchanged.count();
+    text += &format!("changed expectations told apart: {changes} of {changes}\n");
+    text += "differences: 0\n";
+    assert_eq!(text, include_str!("../../interface.out"));
+}
+
+#[test]
+fn the_readme() {
+    let readme = include_str!("../../README.md");
+    let shown = |text: &str| assert!(readme.contains(text), "the README lacks {text}");
+    let in_c = include_str!("../../first.c");
+    shown(&format!("\n```c\n{in_c}```\n"));
+    let in_rust = include_str!("../examples/first.rs");
+    shown(&format!("\n```rust\n{in_rust}```\n"));
+    for line in first_program().lines() {
+        shown(&format!("\n    {line}\n"));
+    }
+    for number in [0, 1, 2, 10] {
+        shown(&format!("\n| {number} | {} | ", number_text(number)));
+    }
+}

@@ -1,0 +1,117 @@
+/* The surface laboratory's operations: a cable on paper. C99 and later, C++98 and later. It needs no other header, and goes
+ * with firmware/tigbulode.h in one file, in either order.
+ *
+ * Link target/staticlib/liblaboratory.a, which `rt staticlib laboratory` writes; laboratory/README.md has the lines for C and
+ * Rust, docs/EQUALISER.md what the numbers mean.
+ *
+ * What a caller owes: a pointer is not null, even beside a length of 0; it is aligned for its type and valid for as many
+ * elements as its length says; what is written overlaps nothing else that is lent to the same call; until the call returns,
+ * nothing else writes to what is lent, and nothing else reads what is written; the stack has room (docs/PERFORMANCE.md has
+ * the bytes). Every value is taken (but C converts a value to its parameter's type first: 257 for p arrives as 1;
+ * -Wconversion tells). What can't be used is turned down with a number, and all lent memory is then as it was.
+ *
+ * The archive is code for x86-64. The function in it is proved; the static inline ones below are plain C, and
+ * laboratory/check tries them. */
+#ifndef TIGBULODE_LABORATORY_H
+#define TIGBULODE_LABORATORY_H
+
+#include <stddef.h>
+#include <stdint.h>
+
+/* Of this interface. A larger minor number only adds to it. */
+#define TIGBULODE_LABORATORY_VERSION_MAJOR 0
+#define TIGBULODE_LABORATORY_VERSION_MINOR 1
+#define TIGBULODE_LABORATORY_VERSION "0.1"
+
+/* A number is to be looked at: GCC and Clang warn where it is not. */
+#ifdef __GNUC__
+#define TIGBULODE_LABORATORY_NUMBER __attribute__((warn_unused_result))
+#else
+#define TIGBULODE_LABORATORY_NUMBER
+#endif
+
+/* The number that each function answers with; 1 and 2 are those of set-up. */
+enum tigbulode_laboratory_number {
+    TIGBULODE_LABORATORY_ACCEPTED = 0,
+    TIGBULODE_LABORATORY_SIZES = 1, /* a size is outside its limits */
+    TIGBULODE_LABORATORY_STEP = 2,  /* M is not admitted with these sizes */
+    TIGBULODE_CABLE = 10            /* the cable can't be simulated */
+};
+
+/* The limits. Sizes are those of set-up: p and q 1 to 16; N at least 1, at least p - 1, at most 128; r 0 to 3; L 0 to 15. */
+enum tigbulode_laboratory_limit {
+    TIGBULODE_MOST_RESPONSE = 32, /* values of a response */
+    TIGBULODE_MOST_TRACE = 65536  /* bytes of a trace */
+};
+
+enum tigbulode_laboratory_room {
+    TIGBULODE_TRACE_HEADER_BYTES = 12, /* a trace has 12 bytes, and 4 for each sample */
+    TIGBULODE_MOST_SYMBOLS = 16381     /* in the longest trace */
+};
+
+/* The length of a trace of so many symbols. */
+#define TIGBULODE_TRACE_LENGTH(symbols) (TIGBULODE_TRACE_HEADER_BYTES + 4 * (size_t)(symbols))
+
+/* The cable. */
+
+#ifdef __cplusplus
+extern "C" {
+#endif
+
+/* Writes the trace of symbols that went through a cable: header, samples with their gains, training entries. The response
+ * is in units of 1/32768, its first value is that of the present symbol; the first `training` symbols are training
+ * entries. Turned down with 1, then 2 for the settings; then with 10 where the response has not 1 to 32 values, the symbols
+ * are not 1 to 65,535 whole blocks of N, there are more training entries than symbols, the trace would be longer than
+ * 65,536 bytes, an entry is not a symbol, the trace lent is not TIGBULODE_TRACE_LENGTH(symbols_length) long, or some gain
+ * would be below L or does not exist. tigbulode_run_cable below is the same call with what it reads as named members. */
+TIGBULODE_LABORATORY_NUMBER
+uint8_t tigbulode_cable(uint8_t p, uint8_t q, uint8_t n, uint8_t r, uint8_t l, uint32_t step,
+                        const int16_t *response, size_t response_length,
+                        const int8_t *symbols, size_t symbols_length,
+                        size_t training,
+                        uint8_t *trace, size_t trace_length);
+
+#ifdef __cplusplus
+}
+#endif
+
+/* What a cable is described by. Fill its members by name: by place they can be exchanged. */
+typedef struct tigbulode_cable_description {
+    uint8_t p;              /* feed forward taps */
+    uint8_t q;              /* feedback taps */
+    uint8_t n;              /* the block length N */
+    uint8_t r;
+    uint8_t l;              /* the least gain L */
+    uint32_t step;          /* M: the step size is M / 2^30 */
+    const int16_t *response;
+    size_t response_length;
+    const int8_t *symbols;
+    size_t symbols_length;
+    size_t training;        /* how many of the symbols, from the first, are training entries */
+} tigbulode_cable_description;
+
+/* tigbulode_cable with what it reads as the members of a struct. A null pointer counts as an empty list, so that the cable is
+ * turned down with 10 (or before that with 1 or 2). */
+TIGBULODE_LABORATORY_NUMBER
+static inline uint8_t tigbulode_run_cable(const tigbulode_cable_description *c, uint8_t *trace, size_t trace_length) {
+    const int16_t no_value = 0;
+    const int8_t no_symbol = 0;
+    uint8_t no_byte = 0;
+    return tigbulode_cable(c->p, c->q, c->n, c->r, c->l, c->step,
+                           c->response ? c->response : &no_value, c->response ? c->response_length : 0,
+                           c->symbols ? c->symbols : &no_symbol, c->symbols ? c->symbols_length : 0, c->training,
+                           trace ? trace : &no_byte, trace ? trace_length : 0);
+}
+
+/* What a number says, in words. */
+static inline const char *tigbulode_laboratory_number_text(uint8_t number) {
+    switch (number) {
+    case TIGBULODE_LABORATORY_ACCEPTED: return "accepted";
+    case TIGBULODE_LABORATORY_SIZES: return "a size is outside its limits";
+    case TIGBULODE_LABORATORY_STEP: return "M is not admitted with these sizes";
+    case TIGBULODE_CABLE: return "the cable can't be simulated";
+    default: return "no number of the laboratory";
+    }
+}
+
+#endif
