@@ -1,3 +1,4 @@
 pub mod LineLaws
 pub mod ReadLaws
 pub mod WriteLaws
+pub mod Piped

@@ -83,7 +83,18 @@ end-cases false n h = omega arith
 pub end-most : (n : ℕ) → traceEnd n ≤ traceLimit
 end-most n = end-cases (leb (Trace.headerLength + 4 * n) traceLimit) (Trace.headerLength + 4 * n) refl
 
--- ---- what is written, by what the simulator answered in the first `end` bytes
+-- ---- what is written, by the number
+
+module _ (c : Cable) where
+  pub accepted-output : cableNumber c (traceLength c) ≡ 0 → cableTrace c ≡ cableOutput c
+  unfolding cableOutput
+  accepted-output h = simp (eq-eqb (cableNumber c (traceLength c)) 0 h)
+
+  pub refused-output : (cableNumber c (traceLength c) ≡ 0 → ⊥) → refusalLine (cableNumber c (traceLength c)) (cause c (traceLength c)) ≡ cableOutput c
+  unfolding cableOutput
+  refused-output h = simp (ne-eqb (cableNumber c (traceLength c)) 0 h)
+
+-- ---- and by what the simulator answered in the first `end` bytes
 
 module _ (c : Cable) (end : ℕ) (h : end ≡ traceEnd (sampleCount c)) where
   -- where the trace would be too long, its output's length does not count
@@ -105,10 +116,9 @@ module _ (c : Cable) (end : ℕ) (h : end ≡ traceEnd (sampleCount c)) where
 
     module _ (z : a .number ≡ 0) where
       trace-is : last ≡ cableOutput c
-      unfolding cableOutput
       trace-is =
           s .output .contents ∙ ap (λ (b : Bool). cond b (cableTrace c) (take (end - 0) before)) (eq-eqb _ 0 (sym (s .output .number-is) ∙ z))
-          ∙ sym (ap (λ (b : Bool). cond b (cableTrace c) (refusalLine (cableNumber c (traceLength c)) (cause c (traceLength c)))) (eq-eqb _ 0 (sym number-is ∙ z)))
+          ∙ accepted-output c (sym number-is ∙ z)
 
       pub trace-written : length last ≡ length (take (end - 0) before) → TextAt 0 (cableOutput c) before end (last ++ drop (end - 0) before)
       trace-written k =
@@ -138,9 +148,7 @@ module _ (c : Cable) (end : ℕ) (h : end ≡ traceEnd (sampleCount c)) where
               (settings-line (c .settings) (a .cause) (cause c (traceLength c)) g)
 
       pub line-is : refusalLine (a .number) (a .cause) ≡ cableOutput c
-      unfolding cableOutput
-      line-is =
-          number-line ∙ sym (ap (λ (b : Bool). cond b (cableTrace c) (refusalLine (cableNumber c (traceLength c)) (cause c (traceLength c)))) (ne-eqb _ 0 (λ z. f (number-is ∙ z))))
+      line-is = number-line ∙ refused-output c (λ z. f (number-is ∙ z))
 
 -- ---- the answer, from what stands at the front of the bytes
 
