@@ -9,7 +9,7 @@ use borrow.Author.Tests.{eqb-true, eqb-false}
 use Rattle.trace_text.specs.Trace.{byteAt}
 use Rattle.trace_text.specs.Text.{stopLine, traceText}
 use Rattle.trace_text.proofs.TraceLaws.{not-well-formed}
-use Rattle.cable_trace.specs.Cable.{Cable, traceLength, cableTrace, cause, cableNumber}
+use Rattle.cable_trace.specs.Cable.{Cable, traceLength, cause, cableNumber}
 use Rattle.cable_trace.specs.Reading.{Reads}
 use Rattle.cable_trace.proofs.ReadingLaws.{reads}
 use Rattle.description.specs.Description.{wellDescribed, cableIn, malformedLine, refusalLine, described}

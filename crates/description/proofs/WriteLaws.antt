@@ -10,7 +10,7 @@ use lib.ListN.{length, take, drop, take-append-drop}
 use lib.IntN.{ℤ}
 use mir.Syntax.{w8, w16}
 use mir.Val.{toZ}
-use borrow.Author.Tests.{le-leb, lt-leb, leb-true, eq-eqb, ne-eqb, eqb-true, eqb-false}
+use borrow.Author.Tests.{le-leb, lt-leb, leb-true, eq-eqb, ne-eqb, eqb-false}
 use borrow.Rule.Slice.PartMut.{mid-len}
 use Rattle.steps.specs.Settings.{Settings}
 use Rattle.block.specs.Block.{values}
@@ -20,7 +20,6 @@ use Rattle.state.proofs.SizesLaws.{settings-refused, settings-number}
 use Rattle.trace_text.specs.Trace.{traceLimit, byteAt, number16, number32}
 use Rattle.trace_text.specs.Trace as Trace
 use Rattle.trace_text.specs.TextAt.{TextAt}
-use Rattle.trace_text.specs.declared.Written.{Written}
 use Rattle.cable_trace.specs.Cable.{Cable, sampleCount, traceLength, cableTrace, cause, cableNumber}
 use Rattle.cable_trace.specs.Answers.{cableOf, Simulation}
 use Rattle.cable_trace.specs.declared.Simulated.{Simulated}

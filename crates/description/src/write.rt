@@ -8,10 +8,10 @@ ghost use Rattle.cable_trace.specs.Answers.{Simulation};
 ghost use Rattle.description.specs.Description.{descriptionLimit, responseIn, symbolsIn, wellDescribed, cableIn, cableOutput};
 ghost use Rattle.description.specs.Calls.{traceEnd, Counted, Describable};
 use super::limits::DESCRIPTION;
-use super::limits::HEADER;
 use super::limits::RESPONSE;
 use super::read;
 use cable_trace::Simulated;
+use trace_text::limits::HEADER;
 use trace_text::limits::TRACE;
 
 fn response_room() -> [i16; RESPONSE]
@@ -76,7 +76,7 @@ fn trace_end(n: usize) -> usize
     requires { ⌜ n ≤ descriptionLimit ⌝ }
     ensures { λ r. ⌜ r ≡ traceEnd n ⌝ }
 {
-    let end = trace_text::limits::HEADER + 4 * n;
+    let end = HEADER + 4 * n;
     if end <= TRACE { end } else { 0 }
 }
 
