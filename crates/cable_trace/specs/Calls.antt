@@ -94,9 +94,10 @@ traceBytes k symbols training sums =
     ++ (joined (λ n. sampleBytes (k .r) (getD sums n (pos 0))) (length sums)
     ++ values (λ n. ofZ w8 (cond (ltb n training) (getD symbols n (pos 0)) (pos 0))) (length symbols))
 
-pub record Puttable (N r : ℕ) (symbols sums : List ℤ) (out : List ℕ) : Type 0 where
+pub record Puttable (N r : ℕ) (symbols : List ℤ) (training : ℕ) (sums : List ℤ) (out : List ℕ) : Type 0 where
   pub N-least : 1 ≤ N
   pub few : length symbols ≤ sentLimit
+  pub training-most : training ≤ length symbols
   pub same-length : length sums ≡ length symbols
   pub gains : Each (Gainable r) sums
   pub room : length out ≡ headerLength + 4 * length symbols
