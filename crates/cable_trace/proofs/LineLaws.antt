@@ -1,22 +1,21 @@
--- The symbols in a line, the windows of it, and sums over them.
+-- The symbols in a line, and the windows of it.
 use mathlib.Core.Path.{_≡_, refl, sym, ap, ap₂, _∙_}
 use mathlib.Core.Bool.{Bool, true, false, cond}
 use mathlib.Core.List.{List, []}
-use Prim.Native.Nat.{ℕ, suc, _+_, _*_, _-_, _^_, _≤_, _<_}
+use Prim.Native.Nat.{ℕ, suc, _+_, _-_, _≤_, _<_}
 use native.Mathlib.Omega.{arith}
-use native.Mathlib.Nat.{mul-le-mul-right}
 use native.Mathlib.Numerals.{add-one}
 use lib.Dec.{leb, ltb}
 use lib.ListN.{length, getD, take, drop, set, length-set, length-take, length-drop, length-replicate, getD-replicate, List·getD-eq-default}
 use lib.Seq.{take-all, length-take-le, getD-take, getD-drop, getD-set-same, getD-set-other, ext-getD}
-use lib.IntN.{ℤ, pos, natAbs, _+ℤ_, _*ℤ_}
-use borrow.Author.Tests.{lt-ltb, le-ltb, le-leb, lt-leb, ltb-true, ltb-false, leb-true, leb-false}
-use Rattle.laws.specs.Sums.{Each, each-at, each-of, each-take, each-drop, dot, dot-next, dot-bound}
+use lib.IntN.{ℤ, pos}
+use borrow.Author.Tests.{lt-ltb, le-ltb, ltb-true, ltb-false, leb-true, leb-false}
+use Rattle.laws.specs.Sums.{Each, each-at, each-of}
 use Rattle.block.specs.Block.{values}
 use Rattle.block.proofs.ValuesLaws.{values-length, values-at}
 use Rattle.cable_trace.specs.Limits.{responseLimit, sentLimit, lineLength}
 use Rattle.cable_trace.specs.Cable.{sentBefore}
-use Rattle.cable_trace.specs.Calls.{place, placed, lineOf, emptyLine, emptySums, window, Summable, Sumsable}
+use Rattle.cable_trace.specs.Calls.{place, placed, lineOf, emptyLine, emptySums, window}
 
 -- ---- lists of values
 
@@ -137,7 +136,7 @@ line-small P l h z = each-of P (pos 0) (lineOf l) (λ i k. rw (values-at (placed
 
 -- ---- a window: the symbols that are newest at n
 
-window-long : (line : List ℤ) (k n : ℕ) → length line ≡ lineLength → k ≤ responseLimit → length (window line k n) ≡ k
+pub window-long : (line : List ℤ) (k n : ℕ) → length line ≡ lineLength → k ≤ responseLimit → length (window line k n) ≡ k
 window-long line k n l h = length-take-le k (drop (place n) line) (omega (arith, length-drop (place n) line))
 
 pub window-is : (l : List ℤ) (k n : ℕ) → k ≤ responseLimit → n < sentLimit → window (lineOf l) k n ≡ values (sentBefore l n) k
@@ -159,28 +158,3 @@ window-is l k n h m =
             ap (λ (b : Bool). cond b (getD l (place (place n + j)) (pos 0)) (pos 0)) (lt-ltb (place n + j) sentLimit (omega (arith, leb-true j n e)))
             ∙ ap (λ (i : ℕ). getD l i (pos 0)) back
         go false e = ap (λ (b : Bool). cond b (getD l (place (place n + j)) (pos 0)) (pos 0)) (le-ltb (place n + j) sentLimit (omega (arith, leb-false j n e)))
-
--- ---- sums
-
-pub sum-next : (h v : List ℤ) (i : ℕ) (t : ℤ) → Summable h v → i < length h → t ≡ dot (take i h) (take i v) →
-    t +ℤ getD h i (pos 0) *ℤ getD v i (pos 0) ≡ dot (take (i + 1) h) (take (i + 1) v)
-sum-next h v i t s l e =
-    ap (λ (x : ℤ). x +ℤ getD h i (pos 0) *ℤ getD v i (pos 0)) e ∙ sym (dot-next i h v l (omega (arith, s .same-length)))
-    ∙ ap (λ (j : ℕ). dot (take j h) (take j v)) (sym (add-one i))
-
--- each partial sum is below 2^25
-pub sum-bound : (h v : List ℤ) (j : ℕ) → Summable h v → natAbs (dot (take j h) (take j v)) < 2 ^ 25
-sum-bound h v j s =
-    omega (arith, dot-bound (2 ^ 15) (2 ^ 4) (take j h) (take j v) (each-take _ j h (s .h-small)) (each-take _ j v (s .v-small)), length-take j h, s .few)
-
-pub sum-all : (h v : List ℤ) (i : ℕ) → Summable h v → length h ≤ i → dot (take i h) (take i v) ≡ dot h v
-sum-all h v i s l = ap₂ dot (take-all i h l) (take-all i v (omega (arith, s .same-length)))
-
--- the response and a window
-pub window-summable : (h line : List ℤ) (m n : ℕ) → Sumsable h line m → Summable h (window line (length h) n)
-window-summable h line m n s = record {
-  same-length = sym (window-long line (length h) n (s .line-long) (s .few));
-  few = s .few;
-  h-small = s .h-small;
-  v-small = each-take _ (length h) (drop (place n) line) (each-drop _ (place n) line (s .line-small));
-}

@@ -2,7 +2,7 @@
 use mathlib.Core.Path.{_≡_}
 use mathlib.Core.Bool.{Bool, true, cond}
 use mathlib.Core.List.{List, _++_}
-use Prim.Native.Nat.{ℕ, _+_, _*_, _-_, _/_, _^_, _≤_}
+use Prim.Native.Nat.{ℕ, _+_, _*_, _-_, _/_, _%_, _^_, _≤_}
 use lib.Dec.{ltb}
 use lib.ListN.{length, getD, take, drop, replicate}
 use lib.IntN.{ℤ, pos, natAbs}
@@ -13,7 +13,7 @@ use mir.Val.{ofZ}
 use Rattle.steps.specs.Limits.{symbolLimit}
 use Rattle.steps.specs.Settings.{Settings}
 use Rattle.block.specs.Block.{values}
-use Rattle.cable_trace.specs.Limits.{responseLimit, sentLimit, lineLength}
+use Rattle.cable_trace.specs.Limits.{responseLimit, tapsLength, sentLimit, lineLength}
 use Rattle.state.specs.Sizes.{settingsNumber}
 use Rattle.trace_text.specs.Trace.{headerLength}
 use Rattle.cable_trace.specs.Cable.{Cable, s, hasGain, sampleCount, traceHeader, sampleBytes, joined, cableTrace, gainFits, listCause}
@@ -42,13 +42,6 @@ window line k n = take k (drop (place n) line)
 
 -- ---- sums
 
--- a response and as many symbols
-pub record Summable (h v : List ℤ) : Type 0 where
-  pub same-length : length h ≡ length v
-  pub few : length h ≤ responseLimit
-  pub h-small : Each (λ (x : ℤ). natAbs x ≤ 2 ^ 15) h
-  pub v-small : Each (λ (x : ℤ). natAbs x ≤ 2 ^ 4) v
-
 -- s of each of n symbols, from their line
 abbrev pub sums : List ℤ → List ℤ → ℕ → List ℤ
 sums h line n = values (λ i. dot h (window line (length h) i)) n
@@ -59,6 +52,31 @@ pub record Sumsable (h line : List ℤ) (n : ℕ) : Type 0 where
   pub line-long : length line ≡ lineLength
   pub line-small : Each (λ (x : ℤ). natAbs x ≤ 2 ^ 4) line
   pub n-most : n ≤ sentLimit
+
+-- a response twice, each time with 0 after it up to the greatest length
+abbrev pub twice : List ℤ → List ℤ
+twice h = values (λ i. getD h (i % responseLimit) (pos 0)) tapsLength
+
+-- the first and the second of them in turn
+abbrev pub row : List ℤ → ℕ → List ℤ
+row taps n = take responseLimit (drop (responseLimit * (n % 2)) taps)
+
+abbrev pub rowSums : List ℤ → List ℤ → ℕ → List ℤ
+rowSums taps line n = values (λ i. dot (row taps i) (window line responseLimit i)) n
+
+pub record RowsSummable (taps line : List ℤ) (n : ℕ) : Type 0 where
+  pub taps-long : length taps ≡ tapsLength
+  pub taps-small : Each (λ (x : ℤ). natAbs x ≤ 2 ^ 15) taps
+  pub line-long : length line ≡ lineLength
+  pub line-small : Each (λ (x : ℤ). natAbs x ≤ 2 ^ 4) line
+  pub n-most : n ≤ sentLimit
+
+-- a row and as many symbols
+pub record Summable (h v : List ℤ) : Type 0 where
+  pub h-long : length h ≡ responseLimit
+  pub v-long : length v ≡ responseLimit
+  pub h-small : Each (λ (x : ℤ). natAbs x ≤ 2 ^ 15) h
+  pub v-small : Each (λ (x : ℤ). natAbs x ≤ 2 ^ 4) v
 
 -- ---- a sample
 
@@ -76,9 +94,10 @@ traceBytes k symbols training sums =
     ++ (joined (λ n. sampleBytes (k .r) (getD sums n (pos 0))) (length sums)
     ++ values (λ n. ofZ w8 (cond (ltb n training) (getD symbols n (pos 0)) (pos 0))) (length symbols))
 
-pub record Puttable (N r : ℕ) (symbols sums : List ℤ) (out : List ℕ) : Type 0 where
+pub record Puttable (N r : ℕ) (symbols : List ℤ) (training : ℕ) (sums : List ℤ) (out : List ℕ) : Type 0 where
   pub N-least : 1 ≤ N
   pub few : length symbols ≤ sentLimit
+  pub training-most : training ≤ length symbols
   pub same-length : length sums ≡ length symbols
   pub gains : Each (Gainable r) sums
   pub room : length out ≡ headerLength + 4 * length symbols

@@ -1,5 +1,5 @@
 -- The limits of the cable, and what follows from those of a trace.
-use Prim.Native.Nat.{ℕ, _+_, _-_, _/_}
+use Prim.Native.Nat.{ℕ, _+_, _*_, _-_, _/_}
 use Rattle.trace_text.specs.Trace.{headerLength, traceLimit}
 
 -- values of a response
@@ -11,6 +11,10 @@ abbrev pub countLimit : ℕ
 countLimit = 65535
 
 -- ---- what follows
+
+-- a response twice
+abbrev pub tapsLength : ℕ
+tapsLength = 2 * responseLimit
 
 -- symbols: a sample and its training entry take 4 bytes of the trace
 abbrev pub sentLimit : ℕ

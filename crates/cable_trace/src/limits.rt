@@ -4,6 +4,9 @@ use trace_text::limits;
 // Values of a response.
 pub const RESPONSE: usize = 32;
 
+// A response twice.
+pub const TAPS: usize = 2 * RESPONSE;
+
 // Blocks of a trace.
 pub const COUNT: usize = 65535;
 

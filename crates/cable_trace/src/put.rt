@@ -83,16 +83,26 @@ fn entry_byte(v: i8, trained: bool) -> u8
     }
 }
 
-// The training entries: the first symbols, and 0 after them.
-pub fn entries(symbols: &[i8], training: usize, out: &mut [u8])
+// The training entries of symbols that all are training entries, or of none.
+fn part_entries(symbols: &[i8], trained: bool, out: &mut [u8])
     requires { ⌜ length (now out) ≡ length (now symbols) ⌝ }
-    ensures { λ _. ⌜ now (out .exit) ≡ values (λ n. ofZ w8 (cond (ltb n training) (getD (now (symbols .entry)) n (pos 0)) (pos 0))) (length (now (symbols .entry))) ⌝ }
+    ensures { λ _. ⌜ now (out .exit) ≡ values (λ n. ofZ w8 (cond trained (getD (now (symbols .entry)) n (pos 0)) (pos 0))) (length (now (symbols .entry))) ⌝ }
 {
     let mut i: usize = 0;
     while i < symbols.len() {
-        out[i] = entry_byte(symbols[i], i < training);
+        out[i] = entry_byte(symbols[i], trained);
         i += 1;
     }
+}
+
+// The training entries: the first symbols, and 0 after them.
+pub fn entries(symbols: &[i8], training: usize, out: &mut [u8])
+    requires { ⌜ (training ≤ length (now symbols)) × (length (now out) ≡ length (now symbols)) ⌝ }
+    ensures { λ _. ⌜ now (out .exit) ≡ values (λ n. ofZ w8 (cond (ltb n training) (getD (now (symbols .entry)) n (pos 0)) (pos 0))) (length (now (symbols .entry))) ⌝ }
+{
+    let k = symbols.len();
+    part_entries(&symbols[0..training], true, &mut out[0..training]);
+    part_entries(&symbols[training..k], false, &mut out[training..k]);
 }
 
 // The header of an image with the block count in the places of b and B is that of a trace.
@@ -128,7 +138,7 @@ pub fn trace(
     sums: &[i32],
     out: &mut [u8],
 )
-    requires { ⌜ Puttable n r (now symbols) (now sums) (now out) ⌝ }
+    requires { ⌜ Puttable n r (now symbols) training (now sums) (now out) ⌝ }
     ensures { λ _. ⌜ now (out .exit) ≡ traceBytes (given p q n r l m) (now (symbols .entry)) training (now (sums .entry)) ⌝ }
 {
     let k = symbols.len();

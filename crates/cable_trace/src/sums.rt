@@ -1,11 +1,12 @@
 // What the cable makes of the symbols: s of each.
 ghost use mathlib.Core.Path.{_≡_};
 ghost use Prim.Native.Nat.{_≤_};
-ghost use lib.ListN.{length};
+ghost use lib.ListN.{length, getD};
+ghost use lib.IntN.{pos};
 ghost use Rattle.laws.specs.Sums.{dot};
 ghost use Rattle.steps.specs.Side.{magnitudes, together};
-ghost use Rattle.cable_trace.specs.Limits.{sentLimit};
-ghost use Rattle.cable_trace.specs.Calls.{lineOf, emptyLine, emptySums, sums, Summable, Sumsable};
+ghost use Rattle.cable_trace.specs.Limits.{sentLimit, tapsLength};
+ghost use Rattle.cable_trace.specs.Calls.{lineOf, emptyLine, emptySums, sums, Sumsable, twice, rowSums, RowsSummable, Summable};
 use super::limits;
 
 pub fn empty_line() -> [i16; limits::LINE]
@@ -32,35 +33,66 @@ pub fn line(symbols: &[i8], line: &mut [i16])
     }
 }
 
-// The sum of a response times as many symbols.
+// h at place i, or 0 after its end.
+fn tap(h: &[i16], i: usize) -> i16
+    ensures { λ r. ⌜ r ≡ getD (now (h .entry)) i (pos 0) ⌝ }
+{
+    if i < h.len() { h[i] } else { 0 }
+}
+
+// A response twice, each time with 0 after it up to the greatest length.
+fn twice(h: &[i16], taps: &mut [i16])
+    requires { ⌜ length (now taps) ≡ tapsLength ⌝ }
+    ensures { λ _. ⌜ now (taps .exit) ≡ twice (now (h .entry)) ⌝ }
+{
+    let mut i: usize = 0;
+    while i < taps.len() {
+        taps[i] = tap(h, i % limits::RESPONSE);
+        i += 1;
+    }
+}
+
+// The sum of a row times as many symbols.
 fn sum(h: &[i16], v: &[i16]) -> i32
     requires { ⌜ Summable (now h) (now v) ⌝ }
     ensures { λ r. ⌜ r ≡ dot (now (h .entry)) (now (v .entry)) ⌝ }
 {
     let mut sum: i32 = 0;
     let mut i: usize = 0;
-    while i < h.len() {
+    while i < limits::RESPONSE {
         sum = steps::side::mac(sum, h[i], v[i]);
         i += 1;
     }
     sum
 }
 
-// s of each symbol, and the bits of every |s| together.
-pub fn sums(h: &[i16], line: &[i16], out: &mut [i32]) -> u32
-    requires { ⌜ Sumsable (now h) (now line) (length (now out)) ⌝ }
-    ensures { λ r. ⌜ (now (out .exit) ≡ sums (now (h .entry)) (now (line .entry)) (length (now (out .entry)))) × (r ≡ together (magnitudes (now (out .exit)))) ⌝ }
+// s of each symbol, and the bits of every |s| together. The two rows are equal: as their place changes, a compiler
+// multiplies words of 16 bits as they are, and does not widen them before the loop.
+fn row_sums(taps: &[i16], line: &[i16], out: &mut [i32]) -> u32
+    requires { ⌜ RowsSummable (now taps) (now line) (length (now out)) ⌝ }
+    ensures { λ r. ⌜ (now (out .exit) ≡ rowSums (now (taps .entry)) (now (line .entry)) (length (now (out .entry)))) × (r ≡ together (magnitudes (now (out .exit)))) ⌝ }
 {
-    let k = h.len();
     let mut seen: u32 = 0;
     let mut i: usize = 0;
     while i < out.len() {
+        let row = limits::RESPONSE * (i % 2);
+        let last = row + limits::RESPONSE;
         let at = limits::SENT - 1 - i;
-        let end = at + k;
-        let s = sum(h, &line[at..end]);
+        let end = at + limits::RESPONSE;
+        let s = sum(&taps[row..last], &line[at..end]);
         out[i] = s;
         seen |= numbers::bit_length::magnitude32(s);
         i += 1;
     }
     seen
+}
+
+// The same of a response.
+pub fn sums(h: &[i16], line: &[i16], out: &mut [i32]) -> u32
+    requires { ⌜ Sumsable (now h) (now line) (length (now out)) ⌝ }
+    ensures { λ r. ⌜ (now (out .exit) ≡ sums (now (h .entry)) (now (line .entry)) (length (now (out .entry)))) × (r ≡ together (magnitudes (now (out .exit)))) ⌝ }
+{
+    let mut taps = [0i16; limits::TAPS];
+    twice(h, &mut taps);
+    row_sums(&taps, line, out)
 }

@@ -1,9 +1,8 @@
 -- The two bytes of m, and its gain.
 use mathlib.Core.Path.{_≡_, sym, ap, ap₂, _∙_}
 use mathlib.Core.List.{List, [], _∷_, _++_}
-use Prim.Native.Nat.{ℕ, _/_, _%_}
+use Prim.Native.Nat.{ℕ}
 use native.Mathlib.Omega.{arith}
-use lib.IntN.{ℤ}
 use mir.Syntax.{w16}
 use mir.Val.{ofZ}
 use mir.Facts.{toZ-ofZ}

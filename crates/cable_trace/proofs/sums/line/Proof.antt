@@ -7,7 +7,7 @@ use lib.IntN.{pos}
 use mir.Syntax.{w8, w16}
 use mir.Val.{SFits}
 use mir.Facts.{toZ-ofZ, sfits-widen}
-use borrow.Author.Needs.{needs, sfits-of}
+use borrow.Author.Needs.{sfits-of}
 use Rattle.cable_trace.proofs.LineLaws.{empty-line, Lined, lined-none, lined-next, lined-all}
 use Rattle.cable_trace.proofs.sums.line.Statement.{statement}
 use Rattle.cable_trace.proofs.sums.line.Tie as tie

@@ -2,14 +2,15 @@
 use mathlib.Core.Path.{_≡_, sym, _∙_, subst}
 use Prim.Native.Nat.{_+_, _-_, _^_, _<_}
 use native.Mathlib.Omega.{arith}
-use lib.ListN.{length, getD, take}
+use lib.ListN.{getD, take}
 use lib.IntN.{ℤ, pos, natAbs, _+ℤ_, _*ℤ_}
 use mir.Syntax.{w16, w32}
 use mir.Val.{toZ, ofZ}
 use borrow.Author.Needs.{needs}
 use Rattle.laws.specs.Sums.{dot, dot-none}
 use Rattle.laws.specs.Machine.{kept}
-use Rattle.cable_trace.proofs.LineLaws.{sum-next, sum-bound, sum-all}
+use Rattle.cable_trace.specs.Limits.{responseLimit}
+use Rattle.cable_trace.proofs.RowLaws.{sum-next, sum-bound, sum-all}
 use Rattle.cable_trace.proofs.sums.sum.Statement.{statement}
 use Rattle.cable_trace.proofs.sums.sum.Tie as tie
 
@@ -17,7 +18,7 @@ abbrev Inv-loop : tie.InvT-loop
 Inv-loop h v sum₀ i₀ sum i = toZ w32 sum ≡ dot (take i h) (take i v)
 
 abbrev μ-loop : tie.MeasureT-loop
-μ-loop h v sum₀ i₀ sum i = length h - i
+μ-loop h v sum₀ i₀ sum i = responseLimit - i
 
 -- the next partial sum
 step : (c : tie.After-mac-arg2 Inv-loop μ-loop) →
@@ -48,5 +49,5 @@ pub sum-spec : {M : Type 1} → statement M
 sum-spec =
     tie.close
     (tie.spec
-    Inv-loop μ-loop (λ c. sym (dot-none _)) (λ c. search needs) (λ c. search needs) (λ c. search needs) (λ c. omega (arith, c .before .before .before .pre .same-length))
+    Inv-loop μ-loop (λ c. sym (dot-none _)) (λ c. search needs) (λ c. omega (arith, c .before .before .pre .h-long, c .loop-test .taken)) (λ c. search needs) (λ c. omega (arith, c .before .before .before .pre .v-long, c .before .loop-test .taken))
     mac-requires (λ c. search needs) (λ c. omega arith) loop-again returns)
