@@ -45,16 +45,23 @@ fn main() -> ExitCode {
         (None, [file, outdir]) => lab(Path::new(file), Path::new(outdir)),
         _ => Err((2, USAGE.trim_end().to_string())),
     };
-    match done {
-        Ok(summary) => {
-            print!("{summary}");
-            ExitCode::SUCCESS
-        }
+    match done.and_then(print) {
+        Ok(()) => ExitCode::SUCCESS,
         Err((status, lines)) => {
             eprintln!("{lines}");
             ExitCode::from(status)
         }
     }
+}
+
+/// The summary to standard output, which may be a full disk or a closed pipe.
+fn print(summary: String) -> Result<(), Failure> {
+    let mut out = std::io::stdout().lock();
+    let written = out.write_all(summary.as_bytes()).and_then(|()| out.flush());
+    written.map_err(|error| {
+        let sentence = "the summary can't be written to standard output";
+        (1, format!("{sentence}: {error}; summary.txt has it"))
+    })
 }
 
 /// Problems with the file's name, in the order of lines.

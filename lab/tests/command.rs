@@ -178,6 +178,22 @@ fn a_folder_that_cannot_be_made_ends_with_1() {
 }
 
 #[test]
+fn a_summary_that_cannot_be_printed_is_told_and_its_files_are_there() {
+    let outdir = folder("full-output");
+    let file = outdir.with_extension("txt");
+    std::fs::write(&file, WORKED).expect("written");
+    let full = std::fs::File::options().write(true).open("/dev/full");
+    let mut program = Command::new(env!("CARGO_BIN_EXE_lab"));
+    let program = program.args([&file, &outdir]).stdout(full.expect("opened"));
+    let output = program.output().expect("the program runs");
+    assert_eq!(output.status.code(), Some(1));
+    let last = told(&output).lines().last().map(str::to_string);
+    let wanted = "the summary can't be written to standard output: No space left on device (os error 28); summary.txt has it";
+    assert_eq!(last.as_deref(), Some(wanted));
+    assert_eq!(names(&outdir), WRITTEN);
+}
+
+#[test]
 fn help_is_told_and_wrong_arguments_end_with_2() {
     for word in ["--help", "-h"] {
         let output = lab(&[Path::new(word)]);
