@@ -50,6 +50,15 @@ pub fn cut(word: &str, most: usize) -> String {
     }
 }
 
+/// What to do about a word with a comma.
+fn hint(word: &str) -> &'static str {
+    if word.contains(',') {
+        "; spaces go between values, a point before decimals, and a comma nowhere"
+    } else {
+        ""
+    }
+}
+
 struct Entry<'a> {
     key: &'a str,
     line: usize,
@@ -167,7 +176,8 @@ impl<'a> Words<'a> {
         At { line, value }
     }
 
-    /// A list, each word as `read` takes it; none where no line gives it.
+    /// A list, each word as `read` takes it; none where no line gives it. The
+    /// minus sign of the summary and of the page counts as a hyphen.
     pub fn list<T>(
         &mut self,
         key: &str,
@@ -178,11 +188,12 @@ impl<'a> Words<'a> {
         let mut values = Vec::new();
         for word in words {
             let line = word.line;
-            match read(word.value) {
+            match read(&word.value.replace('−', "-")) {
                 Some(value) => values.push(At { line, value }),
                 None => {
-                    let found = shown(word.value);
-                    self.problem(line, format!("{key}: {found}, but {wanted} is wanted"));
+                    let (found, hint) = (shown(word.value), hint(word.value));
+                    let sentence = format!("{key}: {found}, but {wanted} is wanted{hint}");
+                    self.problem(line, sentence);
                 }
             }
         }

@@ -87,6 +87,29 @@ fn fractions_go_to_the_nearest_unit() {
     }
 }
 
+/// The summary and the page write a minus sign, so a response can be copied
+/// from them.
+#[test]
+fn a_minus_sign_counts_as_a_hyphen() {
+    let text = with_line(WORKED, 7, "symbols = 1 −1");
+    let text = with_line(&text, 6, "response_fractions = 0.4 −0.07");
+    assert_eq!(given(&text).symbols.plain(), [1, -1]);
+    assert_eq!(given(&text).response.plain(), [13107, -2294]);
+    let text = with_line(&text, 6, "response = 5 −32768");
+    assert_eq!(given(&text).response.plain(), [5, -32768]);
+}
+
+#[test]
+fn a_comma_is_told() {
+    let hint = "; spaces go between values, a point before decimals, and a comma nowhere";
+    let units = "but a whole number from -32768 to 32767, in units of 1/32768, is wanted";
+    let sentence = format!("response: 5,, {units}{hint}");
+    refused(6, "response = 5, 6", &sentence);
+    let wanted = "but a decimal fraction from -1 to 32767/32768 is wanted";
+    let sentence = format!("response_fractions: 0,4, {wanted}{hint}");
+    refused(6, "response_fractions = 0,4", &sentence);
+}
+
 #[test]
 fn a_wrong_line_is_told_as_it_is() {
     let keys = "there are p, q, N, r, L, random_symbols, seed, training, response, \
