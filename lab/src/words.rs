@@ -156,8 +156,9 @@ impl<'a> Words<'a> {
         self.missing.push(what.to_string());
     }
 
-    /// A whole number; 0 where it is wrong or missing.
-    pub fn whole(&mut self, key: &str, most: u64) -> At<u64> {
+    /// A whole number up to `most`; 0 where it is wrong or missing. What is
+    /// told to be wanted is from `low` to `high`, which the library looks at.
+    pub fn whole(&mut self, key: &str, most: u64, (low, high): (u64, u64)) -> At<u64> {
         let Some((line, words)) = self.entry(key) else {
             self.miss(key);
             return At { line: 0, value: 0 };
@@ -169,7 +170,7 @@ impl<'a> Words<'a> {
         let value = number.unwrap_or_else(|| {
             let found: Vec<&str> = words.iter().map(|word| word.value).collect();
             let found = shown(&found.join(" "));
-            let wanted = format!("a whole number from 0 to {most} is wanted");
+            let wanted = format!("a whole number from {low} to {high} is wanted");
             self.problem(line, format!("{key} = {found}, but {wanted}"));
             0
         });

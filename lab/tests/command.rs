@@ -84,7 +84,7 @@ fn a_bad_line_ends_with_2_and_nothing_is_written() {
         ),
         (
             with_line(WORKED, 7, "symbols = 2"),
-            "line 7: symbol 0 is 2, but",
+            "line 7: symbol 0 (from 0) is 2, but",
         ),
         (
             with_line(WORKED, 9, "M = 4 4"),
