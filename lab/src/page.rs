@@ -113,7 +113,7 @@ fn outcome(runs: &[Run]) -> String {
     }
     let shares: Vec<String> = runs.iter().map(share).collect();
     let shares = shares.join(", ");
-    format!("wrong decisions after training: {shares}, in the order of the legend")
+    format!("wrong after training, as in the legend: {shares}")
 }
 
 fn samples(given: &Given) -> f64 {
