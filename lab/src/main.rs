@@ -84,7 +84,10 @@ fn text(file: &Path) -> Result<String, Failure> {
     String::from_utf8(bytes).map_err(|error| {
         let before = &error.as_bytes()[..error.utf8_error().valid_up_to()];
         let line = 1 + before.iter().filter(|byte| **byte == b'\n').count();
-        told(file, vec![Problem::new(line, "not a text in UTF-8")])
+        told(
+            file,
+            vec![Problem::new(line, "not a text in UTF-8; save it as one")],
+        )
     })
 }
 
@@ -105,6 +108,9 @@ fn lab(file: &Path, outdir: &Path) -> Result<String, Failure> {
 /// Writes every file in full first. Then what an earlier run left goes, and
 /// the new files take their names.
 fn write(file: &Path, given: &Given, runs: &[Run], outdir: &Path) -> Result<String, String> {
+    if outdir.exists() && !outdir.is_dir() {
+        return Err(format!("{}: is not a folder", outdir.display()));
+    }
     std::fs::create_dir_all(outdir)
         .map_err(|error| format!("{}: can't be made: {error}", outdir.display()))?;
     let name = file.file_name().unwrap_or_default().to_string_lossy();

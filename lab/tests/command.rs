@@ -174,7 +174,10 @@ fn a_folder_that_cannot_be_made_ends_with_1() {
     std::fs::write(&file, WORKED).expect("written");
     let output = lab(&[&file, &file]);
     assert_eq!(output.status.code(), Some(1));
-    assert!(told(&output).contains("cable.txt: can't be made"));
+    assert!(told(&output).ends_with("cable.txt: is not a folder\n"));
+    let output = lab(&[&file, &file.join("below")]);
+    assert_eq!(output.status.code(), Some(1));
+    assert!(told(&output).contains("below: can't be made"));
 }
 
 #[test]
