@@ -62,8 +62,9 @@ extern "C" {
  * is in units of 1/32768, its first value is that of the present symbol; the first `training` symbols are training
  * entries. Turned down with 1, then 2 for the settings; then with 10 where the response has not 1 to 32 values, the symbols
  * are not 1 to 65,535 whole blocks of N, there are more training entries than symbols, the trace would be longer than
- * 65,536 bytes, an entry is not a symbol, the trace lent is not TIGBULODE_TRACE_LENGTH(symbols_length) long, or some gain
- * would be below L or does not exist. tigbulode_run_cable below is the same call with what it reads as named members. */
+ * 65,536 bytes, one of the symbols is none for this r, the trace lent is not TIGBULODE_TRACE_LENGTH(symbols_length) long, or
+ * some gain would be below L or does not exist. tigbulode_run_cable below is the same call with what it reads as named
+ * members. */
 TIGBULODE_LABORATORY_NUMBER
 uint8_t tigbulode_cable(uint8_t p, uint8_t q, uint8_t n, uint8_t r, uint8_t l, uint32_t step,
                         const int16_t *response, size_t response_length,

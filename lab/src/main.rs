@@ -45,16 +45,23 @@ fn main() -> ExitCode {
         (None, [file, outdir]) => lab(Path::new(file), Path::new(outdir)),
         _ => Err((2, USAGE.trim_end().to_string())),
     };
-    match done {
-        Ok(summary) => {
-            print!("{summary}");
-            ExitCode::SUCCESS
-        }
+    match done.and_then(print) {
+        Ok(()) => ExitCode::SUCCESS,
         Err((status, lines)) => {
             eprintln!("{lines}");
             ExitCode::from(status)
         }
     }
+}
+
+/// The summary to standard output, which may be a full disk or a closed pipe.
+fn print(summary: String) -> Result<(), Failure> {
+    let mut out = std::io::stdout().lock();
+    let written = out.write_all(summary.as_bytes()).and_then(|()| out.flush());
+    written.map_err(|error| {
+        let sentence = "the summary can't be written to standard output";
+        (1, format!("{sentence}: {error}; summary.txt has it"))
+    })
 }
 
 /// Problems with the file's name, in the order of lines.
@@ -77,7 +84,10 @@ fn text(file: &Path) -> Result<String, Failure> {
     String::from_utf8(bytes).map_err(|error| {
         let before = &error.as_bytes()[..error.utf8_error().valid_up_to()];
         let line = 1 + before.iter().filter(|byte| **byte == b'\n').count();
-        told(file, vec![Problem::new(line, "not a text in UTF-8")])
+        told(
+            file,
+            vec![Problem::new(line, "not a text in UTF-8; save it as one")],
+        )
     })
 }
 
@@ -98,6 +108,9 @@ fn lab(file: &Path, outdir: &Path) -> Result<String, Failure> {
 /// Writes every file in full first. Then what an earlier run left goes, and
 /// the new files take their names.
 fn write(file: &Path, given: &Given, runs: &[Run], outdir: &Path) -> Result<String, String> {
+    if outdir.exists() && !outdir.is_dir() {
+        return Err(format!("{}: is not a folder", outdir.display()));
+    }
     std::fs::create_dir_all(outdir)
         .map_err(|error| format!("{}: can't be made: {error}", outdir.display()))?;
     let name = file.file_name().unwrap_or_default().to_string_lossy();

@@ -113,7 +113,7 @@ fn outcome(runs: &[Run]) -> String {
     }
     let shares: Vec<String> = runs.iter().map(share).collect();
     let shares = shares.join(", ");
-    format!("wrong decisions after training: {shares}, in the order of the legend")
+    format!("wrong after training, as in the legend: {shares}")
 }
 
 fn samples(given: &Given) -> f64 {
@@ -181,7 +181,7 @@ fn guessing(given: &Given) -> Curve {
     let level = decibels(1.0 / 3.0);
     let rows = in_rows(&[(0.0, level), (samples(given), level)]);
     let style = format!("with lines dt 3 lw 2 lc rgb '{GREY}'");
-    Curve::new(rows, style, Some("about −5 dB: guessing"))
+    Curve::new(rows, style, Some("−5 dB: any error within one unit"))
 }
 
 fn error_notes(given: &Given, runs: &[Run]) -> Vec<String> {
@@ -193,8 +193,8 @@ fn error_notes(given: &Given, runs: &[Run]) -> Vec<String> {
         "0 dB: one symbol unit (r.m.s.), half the",
         "distance between neighbours; the error is",
         "to the training symbol, then to the station's",
-        "own decision, right or wrong: one that only",
-        "guesses shows about −5 dB",
+        "own decision, right or wrong: a low one is no",
+        "success where decisions below are wrong",
     ];
     let last = runs.iter().map(|run| run.last_blocks().len()).max();
     let fixed = fixed.map(str::to_string).into_iter();
@@ -280,7 +280,7 @@ fn wrong_decisions(given: &Given, runs: &[Run]) -> Panel {
         least_height: 190.0,
         label: "wrong so far",
         name: "wrong decisions after training, so far",
-        notes: vec!["a curve begins at its first wrong decision".to_string()],
+        notes: vec!["after each block, from the first wrong one on".to_string()],
         across: over_samples(given),
         up: counts(most.unwrap_or(0)),
         below: None,

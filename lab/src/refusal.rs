@@ -2,10 +2,10 @@
 //! that is to blame. The library decides; this explains.
 
 use crate::cable::StepSize;
-use crate::text::Given;
+use crate::text::{Given, SIZES};
 use crate::words::At;
-use tigbulode::{number, MOST_BLOCK, MOST_GAIN, MOST_R, MOST_TAPS};
-use tigbulode_laboratory::{number_text, trace_length, MOST_RESPONSE, MOST_TRACE};
+use tigbulode::{number, MOST_GAIN};
+use tigbulode_laboratory::{number_text, trace_length, MOST_RESPONSE, MOST_SYMBOLS, MOST_TRACE};
 use traces::Problem;
 
 /// What is to be said at the line that is to blame.
@@ -22,17 +22,10 @@ pub fn refusal(given: &Given, step: &StepSize, number: u8) -> Problem {
 }
 
 fn size(given: &Given) -> Cause {
-    let limits = [
-        ("p", given.p, 1, MOST_TAPS),
-        ("q", given.q, 1, MOST_TAPS),
-        ("N", given.n, 1, MOST_BLOCK),
-        ("r", given.r, 0, MOST_R),
-        ("L", given.l, 0, MOST_GAIN),
-    ];
-    let outside = limits
-        .into_iter()
-        .find(|(_, size, low, high)| !(*low..=*high).contains(&size.value));
-    let sentence = |(key, size, low, high): (&str, At<u8>, u8, u8)| {
+    let sizes = [given.p, given.q, given.n, given.r, given.l];
+    let mut sizes = SIZES.into_iter().zip(sizes);
+    let outside = sizes.find(|((_, low, high), size)| !(*low..=*high).contains(&size.value));
+    let sentence = |((key, low, high), size): ((&str, u8, u8), At<u8>)| {
         let sentence = format!("{key} = {}, but {low} to {high} is admitted", size.value);
         (size.line, sentence)
     };
@@ -74,11 +67,17 @@ fn symbols_end(given: &Given) -> usize {
     last.map_or(given.symbols.line, |last| last.line)
 }
 
+/// The most whole blocks of a trace.
+fn most_blocks(given: &Given) -> usize {
+    MOST_SYMBOLS / usize::from(given.n.value)
+}
+
 fn blocks(given: &Given) -> Cause {
     let (found, n) = (given.symbols.values.len(), usize::from(given.n.value));
     let whole = found.is_multiple_of(n) && (1..=65_535).contains(&(found / n));
     (!whole).then(|| {
-        let wanted = format!("1 to 65535 whole blocks of N = {n} are wanted");
+        let most = most_blocks(given);
+        let wanted = format!("1 to {most} whole blocks of N = {n} are wanted");
         (symbols_end(given), format!("{found} symbols, but {wanted}"))
     })
 }
@@ -95,8 +94,10 @@ fn length(given: &Given) -> Cause {
     let found = given.symbols.values.len();
     let bytes = trace_length(found);
     (bytes > MOST_TRACE).then(|| {
-        let sentence =
-            format!("{found} symbols make a trace of {bytes} bytes, but {MOST_TRACE} is the most");
+        let (most, n) = (most_blocks(given), usize::from(given.n.value));
+        let fitting = format!("{} symbols, {most} blocks of N = {n}", most * n);
+        let trace = format!("a trace of {bytes} bytes, but {MOST_TRACE} is the most");
+        let sentence = format!("{found} symbols make {trace}: {fitting}");
         (symbols_end(given), sentence)
     })
 }
@@ -112,7 +113,7 @@ fn entry(given: &Given) -> Cause {
     let mut symbols = given.symbols.values.iter().enumerate();
     let (place, symbol) = symbols.find(|(_, symbol)| !is_symbol(symbol.value))?;
     let sentence = format!(
-        "symbol {place} is {}, but an odd number from -{most} to {most} is wanted",
+        "symbol {place} (from 0) is {}, but an odd number from -{most} to {most} is wanted",
         symbol.value
     );
     Some((symbol.line, sentence))
@@ -144,7 +145,7 @@ fn gain(given: &Given) -> Cause {
     Some(match gain_of(level, r) {
         Some(gain) => {
             let line = given.l.line;
-            let found = format!("symbol {place} has s = {level}, so a gain of {gain}");
+            let found = format!("symbol {place} (from 0) has s = {level}, so a gain of {gain}");
             (line, format!("L = {l}, but {found} ({safe})"))
         }
         None => {
@@ -152,7 +153,7 @@ fn gain(given: &Given) -> Cause {
             let line = given.response.line;
             (
                 line,
-                format!("symbol {place} has s = {level}, but {wanted} ({safe})"),
+                format!("symbol {place} (from 0) has s = {level}, but {wanted} ({safe})"),
             )
         }
     })

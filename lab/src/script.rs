@@ -7,7 +7,7 @@ use years::curve::{Curve, GREY};
 
 /// Across the picture: its width, and where panels and legends begin and end.
 const WIDTH: f64 = 1340.0;
-const LEFT: f64 = 110.0;
+const LEFT: f64 = 140.0;
 const RIGHT: f64 = 830.0;
 const LEGEND: f64 = 856.0;
 /// Between panels with the same axis, and below one with words of its own.

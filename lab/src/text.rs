@@ -3,14 +3,27 @@
 
 use crate::share::Share;
 use crate::words::{At, List, Words};
+use tigbulode::{MOST_BLOCK, MOST_GAIN, MOST_R, MOST_TAPS};
+use tigbulode_laboratory::MOST_SYMBOLS;
 use traces::Problem;
 use years::assumptions::Sizes;
 use years::random::{Purpose, Random};
 
 /// The most step sizes of a page.
 pub const MOST_STEPS: usize = 6;
-/// The most random symbols, far beyond those of a trace.
-const MOST_SYMBOLS: u64 = 999_999;
+/// The most symbols of a trace, and the most random ones that are drawn for
+/// the library to look at.
+const MOST_SENT: u64 = MOST_SYMBOLS as u64;
+const MOST_DRAWN: u64 = 999_999;
+
+/// The sizes with their limits.
+pub const SIZES: [(&str, u8, u8); 5] = [
+    ("p", 1, MOST_TAPS),
+    ("q", 1, MOST_TAPS),
+    ("N", 1, MOST_BLOCK),
+    ("r", 0, MOST_R),
+    ("L", 0, MOST_GAIN),
+];
 
 /// A step size as it is asked for.
 #[derive(Clone, Debug, PartialEq, Eq)]
@@ -58,10 +71,10 @@ impl Given {
 /// What a text describes, or all its problems in the order of lines.
 pub fn read(text: &str) -> Result<Given, Vec<Problem>> {
     let mut words = Words::new(text);
-    let [p, q, n, r, l] = ["p", "q", "N", "r", "L"].map(|key| byte(&mut words, key));
+    let [p, q, n, r, l] = SIZES.map(|(key, low, high)| byte(&mut words, key, (low, high)));
     let response = response(&mut words);
     let (symbols, seed) = symbols(&mut words, r.value);
-    let training = words.whole("training", u32::MAX.into());
+    let training = words.whole("training", u32::MAX.into(), (0, MOST_SENT));
     let training = At {
         line: training.line,
         value: training.value as usize,
@@ -82,8 +95,8 @@ pub fn read(text: &str) -> Result<Given, Vec<Problem>> {
     })
 }
 
-fn byte(words: &mut Words, key: &str) -> At<u8> {
-    let At { line, value } = words.whole(key, 255);
+fn byte(words: &mut Words, key: &str, (low, high): (u8, u8)) -> At<u8> {
+    let At { line, value } = words.whole(key, 255, (low.into(), high.into()));
     let value = value as u8;
     At { line, value }
 }
@@ -132,11 +145,12 @@ fn response(words: &mut Words) -> List<i16> {
 
 /// The symbols, and the seed where they are random ones.
 fn symbols(words: &mut Words, r: u8) -> (List<i8>, Option<u64>) {
-    let wanted = "a whole number from -128 to 127";
+    let wanted = "an odd number of magnitude at most 2^(r+1) - 1";
     let listed = words.list("symbols", wanted, |word| word.parse().ok());
     let random = words.line_of("random_symbols").map(|line| {
-        let count = words.whole("random_symbols", MOST_SYMBOLS).value;
-        let seed = words.whole("seed", u64::MAX).value;
+        let count = words.whole("random_symbols", MOST_DRAWN, (1, MOST_SENT));
+        let count = count.value;
+        let seed = words.whole("seed", u64::MAX, (0, u64::MAX)).value;
         let drawn = draw(count as usize, seed, r).into_iter();
         let values = drawn.map(|value| At { line, value }).collect();
         (List { line, values }, seed)

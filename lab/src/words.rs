@@ -50,6 +50,15 @@ pub fn cut(word: &str, most: usize) -> String {
     }
 }
 
+/// What to do about a word with a comma.
+fn hint(word: &str) -> &'static str {
+    if word.contains(',') {
+        "; spaces go between values, a point before decimals, and a comma nowhere"
+    } else {
+        ""
+    }
+}
+
 struct Entry<'a> {
     key: &'a str,
     line: usize,
@@ -147,8 +156,9 @@ impl<'a> Words<'a> {
         self.missing.push(what.to_string());
     }
 
-    /// A whole number; 0 where it is wrong or missing.
-    pub fn whole(&mut self, key: &str, most: u64) -> At<u64> {
+    /// A whole number up to `most`; 0 where it is wrong or missing. What is
+    /// told to be wanted is from `low` to `high`, which the library looks at.
+    pub fn whole(&mut self, key: &str, most: u64, (low, high): (u64, u64)) -> At<u64> {
         let Some((line, words)) = self.entry(key) else {
             self.miss(key);
             return At { line: 0, value: 0 };
@@ -160,14 +170,15 @@ impl<'a> Words<'a> {
         let value = number.unwrap_or_else(|| {
             let found: Vec<&str> = words.iter().map(|word| word.value).collect();
             let found = shown(&found.join(" "));
-            let wanted = format!("a whole number from 0 to {most} is wanted");
+            let wanted = format!("a whole number from {low} to {high} is wanted");
             self.problem(line, format!("{key} = {found}, but {wanted}"));
             0
         });
         At { line, value }
     }
 
-    /// A list, each word as `read` takes it; none where no line gives it.
+    /// A list, each word as `read` takes it; none where no line gives it. The
+    /// minus sign of the summary and of the page counts as a hyphen.
     pub fn list<T>(
         &mut self,
         key: &str,
@@ -178,11 +189,12 @@ impl<'a> Words<'a> {
         let mut values = Vec::new();
         for word in words {
             let line = word.line;
-            match read(word.value) {
+            match read(&word.value.replace('−', "-")) {
                 Some(value) => values.push(At { line, value }),
                 None => {
-                    let found = shown(word.value);
-                    self.problem(line, format!("{key}: {found}, but {wanted} is wanted"));
+                    let (found, hint) = (shown(word.value), hint(word.value));
+                    let sentence = format!("{key}: {found}, but {wanted} is wanted{hint}");
+                    self.problem(line, sentence);
                 }
             }
         }

@@ -84,7 +84,7 @@ fn a_bad_line_ends_with_2_and_nothing_is_written() {
         ),
         (
             with_line(WORKED, 7, "symbols = 2"),
-            "line 7: symbol 0 is 2, but",
+            "line 7: symbol 0 (from 0) is 2, but",
         ),
         (
             with_line(WORKED, 9, "M = 4 4"),
@@ -174,7 +174,26 @@ fn a_folder_that_cannot_be_made_ends_with_1() {
     std::fs::write(&file, WORKED).expect("written");
     let output = lab(&[&file, &file]);
     assert_eq!(output.status.code(), Some(1));
-    assert!(told(&output).contains("cable.txt: can't be made"));
+    assert!(told(&output).ends_with("cable.txt: is not a folder\n"));
+    let output = lab(&[&file, &file.join("below")]);
+    assert_eq!(output.status.code(), Some(1));
+    assert!(told(&output).contains("below: can't be made"));
+}
+
+#[test]
+fn a_summary_that_cannot_be_printed_is_told_and_its_files_are_there() {
+    let outdir = folder("full-output");
+    let file = outdir.with_extension("txt");
+    std::fs::write(&file, WORKED).expect("written");
+    let full = std::fs::File::options().write(true).open("/dev/full");
+    let mut program = Command::new(env!("CARGO_BIN_EXE_lab"));
+    let program = program.args([&file, &outdir]).stdout(full.expect("opened"));
+    let output = program.output().expect("the program runs");
+    assert_eq!(output.status.code(), Some(1));
+    let last = told(&output).lines().last().map(str::to_string);
+    let wanted = "the summary can't be written to standard output: No space left on device (os error 28); summary.txt has it";
+    assert_eq!(last.as_deref(), Some(wanted));
+    assert_eq!(names(&outdir), WRITTEN);
 }
 
 #[test]

@@ -198,7 +198,7 @@ fn six_step_sizes_make_room_for_their_legend() {
     assert!(heights.iter().zip(&fewer).all(|(six, three)| six >= three));
     assert!(heights[2] > fewer[2]);
     assert!(
-        page.lines[0].ends_with("in the order of the legend"),
+        page.lines[0].starts_with("wrong after training, as in the legend: "),
         "{}",
         page.lines[0]
     );

@@ -65,21 +65,22 @@ fn a_response_is_1_to_32_values() {
 #[test]
 fn symbols_are_whole_blocks_that_a_trace_holds() {
     let by = "turned down with 10";
-    let blocks = "1 to 65535 whole blocks of N";
-    refused(
-        7,
-        "symbols =",
-        &format!("0 symbols, but {blocks} = 1 are wanted; {by}"),
-    );
+    let blocks = |most: u32, n: u32| format!("1 to {most} whole blocks of N = {n} are wanted");
+    let sentence = format!("0 symbols, but {}; {by}", blocks(16_381, 1));
+    refused(7, "symbols =", &sentence);
     let text = with_line(WORKED, 3, "N = 3");
-    let wanted = format!("line 8: 4 symbols, but {blocks} = 3 are wanted; {by}");
+    let wanted = format!("line 8: 4 symbols, but {}; {by}", blocks(5460, 3));
     assert_eq!(told(&with_line(&text, 7, "symbols = 1 1\n1 1")), wanted);
     let random = |count: u32| with_line(WORKED, 7, &format!("seed = 1\nrandom_symbols = {count}"));
-    let wanted =
-        format!("line 8: 16382 symbols make a trace of 65540 bytes, but 65536 is the most; {by}");
+    let most = "but 65536 is the most: 16381 symbols, 16381 blocks of N = 1";
+    let wanted = format!("line 8: 16382 symbols make a trace of 65540 bytes, {most}; {by}");
     assert_eq!(told(&random(16_382)), wanted);
+    let most = "but 65536 is the most: 16256 symbols, 127 blocks of N = 128";
+    let wanted = format!("line 8: 16384 symbols make a trace of 65548 bytes, {most}; {by}");
+    let wide = with_line(&random(16_384), 3, "N = 128");
+    assert_eq!(told(&wide), wanted);
     assert!(traces(&given(&random(16_381))).is_ok());
-    let wanted = format!("line 8: 65536 symbols, but {blocks} = 1 are wanted; {by}");
+    let wanted = format!("line 8: 65536 symbols, but {}; {by}", blocks(16_381, 1));
     assert_eq!(told(&random(65_536)), wanted);
 }
 
@@ -97,12 +98,12 @@ fn training_is_on_symbols_that_there_are() {
 fn an_entry_that_is_no_symbol_has_its_place_and_line() {
     let text = with_line(WORKED, 7, "symbols = 1 1\n1 3 1");
     let wanted =
-        "line 8: symbol 3 is 3, but an odd number from -1 to 1 is wanted; turned down with 10";
+        "line 8: symbol 3 (from 0) is 3, but an odd number from -1 to 1 is wanted; turned down with 10";
     assert_eq!(told(&text), wanted);
     refused(
         7,
         "symbols = 0",
-        "symbol 0 is 0, but an odd number from -1 to 1 is wanted; turned down with 10",
+        "symbol 0 (from 0) is 0, but an odd number from -1 to 1 is wanted; turned down with 10",
     );
 }
 
@@ -110,7 +111,7 @@ fn an_entry_that_is_no_symbol_has_its_place_and_line() {
 fn a_level_without_a_gain_has_its_place() {
     let text = with_line(WORKED, 6, "response = 20000 -20000");
     let text = with_line(&text, 7, "symbols = 1 1 -1");
-    let wanted = "line 6: symbol 2 has s = -40000, but only |s| below 2^(15+r) = 32768 has a gain \
+    let wanted = "line 6: symbol 2 (from 0) has s = -40000, but only |s| below 2^(15+r) = 32768 has a gain \
                   (magnitudes of the response that sum to at most 32767 always fit); turned down with 10";
     assert_eq!(told(&text), wanted);
 }
@@ -118,7 +119,7 @@ fn a_level_without_a_gain_has_its_place() {
 #[test]
 fn a_gain_below_l_is_told_at_l() {
     let text = with_line(WORKED, 5, "L = 2");
-    let wanted = "line 5: L = 2, but symbol 0 has s = 16384, so a gain of 0 \
+    let wanted = "line 5: L = 2, but symbol 0 (from 0) has s = 16384, so a gain of 0 \
                   (magnitudes of the response that sum to at most 8191 always fit); turned down with 10";
     assert_eq!(told(&text), wanted);
     let text = with_line(&text, 6, "response = 8191");

@@ -53,12 +53,12 @@ fn a_mark_of_order_and_other_line_ends_are_taken() {
 
 #[test]
 fn a_bad_value_is_told_with_its_line() {
-    let byte = "but a whole number from 0 to 255 is wanted";
-    refused(1, "p = six", &format!("p = six, {byte}"));
-    refused(2, "q = 256", &format!("q = 256, {byte}"));
-    refused(3, "N = 1 2", &format!("N = 1 2, {byte}"));
-    refused(4, "r = -1", &format!("r = -1, {byte}"));
-    refused(5, "L =", &format!("L = , {byte}"));
+    let whole = |low: u64, high: u64| format!("but a whole number from {low} to {high} is wanted");
+    refused(1, "p = six", &format!("p = six, {}", whole(1, 16)));
+    refused(2, "q = 256", &format!("q = 256, {}", whole(1, 16)));
+    refused(3, "N = 1 2", &format!("N = 1 2, {}", whole(1, 128)));
+    refused(4, "r = -1", &format!("r = -1, {}", whole(0, 3)));
+    refused(5, "L =", &format!("L = , {}", whole(0, 15)));
     let units = "but a whole number from -32768 to 32767, in units of 1/32768, is wanted";
     refused(
         6,
@@ -66,11 +66,12 @@ fn a_bad_value_is_told_with_its_line() {
         &format!("response: 32768, {units}"),
     );
     refused(6, "response = 0.5", &format!("response: 0.5, {units}"));
-    let symbol = "but a whole number from -128 to 127 is wanted";
+    let symbol = "but an odd number of magnitude at most 2^(r+1) - 1 is wanted";
     refused(7, "symbols = 1 128", &format!("symbols: 128, {symbol}"));
-    let count = "but a whole number from 0 to 4294967295 is wanted";
-    refused(8, "training = -1", &format!("training = -1, {count}"));
-    refused(9, "M = 4294967296", &format!("M: 4294967296, {count}"));
+    let training = format!("training = -1, {}", whole(0, 16_381));
+    refused(8, "training = -1", &training);
+    let step = format!("M: 4294967296, {}", whole(0, 4_294_967_295));
+    refused(9, "M = 4294967296", &step);
     refused(9, "M =", "no step size, but at least one is wanted");
 }
 
@@ -85,6 +86,29 @@ fn fractions_go_to_the_nearest_unit() {
         let line = format!("response_fractions = 0.5 {word}");
         refused(6, &line, &format!("response_fractions: {word}, {wanted}"));
     }
+}
+
+/// The summary and the page write a minus sign, so a response can be copied
+/// from them.
+#[test]
+fn a_minus_sign_counts_as_a_hyphen() {
+    let text = with_line(WORKED, 7, "symbols = 1 −1");
+    let text = with_line(&text, 6, "response_fractions = 0.4 −0.07");
+    assert_eq!(given(&text).symbols.plain(), [1, -1]);
+    assert_eq!(given(&text).response.plain(), [13107, -2294]);
+    let text = with_line(&text, 6, "response = 5 −32768");
+    assert_eq!(given(&text).response.plain(), [5, -32768]);
+}
+
+#[test]
+fn a_comma_is_told() {
+    let hint = "; spaces go between values, a point before decimals, and a comma nowhere";
+    let units = "but a whole number from -32768 to 32767, in units of 1/32768, is wanted";
+    let sentence = format!("response: 5,, {units}{hint}");
+    refused(6, "response = 5, 6", &sentence);
+    let wanted = "but a decimal fraction from -1 to 32767/32768 is wanted";
+    let sentence = format!("response_fractions: 0,4, {wanted}{hint}");
+    refused(6, "response_fractions = 0,4", &sentence);
 }
 
 #[test]
@@ -114,12 +138,12 @@ fn every_problem_is_told_in_the_order_of_lines() {
     let text = with_line(WORKED, 2, "q = none");
     let text = with_line(&text, 7, "symbols = 1 x\ny 1");
     let text = format!("shares = x\n{text}");
-    let symbol = "but a whole number from -128 to 127 is wanted";
+    let symbol = "but an odd number of magnitude at most 2^(r+1) - 1 is wanted";
     let share =
         "but a share from 0 to 1 of the greatest admitted M, such as 1/8 or 0.125, is wanted";
     let wanted = [
         format!("line 1: shares: x, {share}"),
-        "line 3: q = none, but a whole number from 0 to 255 is wanted".to_string(),
+        "line 3: q = none, but a whole number from 1 to 16 is wanted".to_string(),
         format!("line 8: symbols: x, {symbol}"),
         format!("line 9: symbols: y, {symbol}"),
     ];
