@@ -252,6 +252,12 @@ fn changed(text: &str, bytes: &[u8]) -> Option<Vec<u8>> {
         other[6] = 0;
         return Some(other);
     }
+    if text.starts_with("bytes 12 to 15 are FE 3F 00 00, with as many symbols of 01") {
+        other.truncate(28);
+        other[12..16].copy_from_slice(&0x3FFEu32.to_le_bytes());
+        other.resize(28 + 0x3FFE, 1);
+        return Some(other);
+    }
     let words: Vec<&str> = text.split([' ', ':', ',']).collect();
     let place: usize = words.get(1)?.parse().ok()?;
     let at = words.iter().position(|word| *word == "is")?;
@@ -265,10 +271,10 @@ fn the_changed_cables_are_turned_down_as_the_page_says() {
     let bytes = worked_example().bytes();
     let rows: Vec<(&str, &str)> = page
         .lines()
-        .filter(|line| line.starts_with("| byte "))
+        .filter(|line| line.starts_with("| byte") && line.contains("`cable: "))
         .filter_map(|line| line.trim_matches(['|', ' ']).split_once(" | "))
         .collect();
-    assert_eq!(rows.len(), 9);
+    assert_eq!(rows.len(), 10);
     for (change, line) in rows {
         let other = changed(change, &bytes).unwrap_or_else(|| panic!("{change}"));
         let written = String::from_utf8(description(&other)).expect("a line");
