@@ -69,7 +69,7 @@ pub struct SampleBytes {
     pub gain: u8,
 }
 
-// By the tables of r.
+// By the tables of r, which take the place of two shifts by a count that changes with s.
 fn sample_bytes(r: u32, gains: &[u8], scales: &[i32], s: i32) -> SampleBytes
     requires { ⌜ (Tables r (now gains) (now scales)) × (Gainable r s) ⌝ }
     ensures { λ b. ⌜ b .low ∷ b .high ∷ b .gain ∷ [] ≡ sampleBytes r s ⌝ }
@@ -83,6 +83,7 @@ fn sample_bytes(r: u32, gains: &[u8], scales: &[i32], s: i32) -> SampleBytes
     }
 }
 
+// The same of every s.
 fn table_samples(r: u32, gains: &[u8], scales: &[i32], sums: &[i32], out: &mut [u8])
     requires { ⌜ (Tables r (now gains) (now scales)) × (Each (Gainable r) (now sums)) × (length (now out) ≡ 3 * length (now sums)) ⌝ }
     ensures { λ _. ⌜ now (out .exit) ≡ joined (λ n. sampleBytes r (getD (now (sums .entry)) n (pos 0))) (length (now (sums .entry))) ⌝ }
