@@ -1,29 +1,32 @@
 -- The gain: the largest of those that s takes, from the bit length of |s|.
-use mathlib.Core.Path.{_≡_, refl, sym, ap, _∙_, subst}
-use mathlib.Core.Bool.{Bool, true, false, cond, _&&_}
+use mathlib.Core.Path.{_≡_, refl, sym, ap, ap₂, _∙_, subst}
+use mathlib.Core.Bool.{Bool, true, false, cond}
 use mathlib.Core.List.{List}
 use mathlib.Core.Logic.{_⊎_, inl, inr}
 use Prim.Native.Nat.{ℕ, zero, suc, _+_, _*_, _-_, _^_, _≤_, _<_}
 use native.Mathlib.Omega.{arith}
 use native.Mathlib.Nat.{eq-or-lt-of-le, mul-le-mul-left, lt-of-le-of-lt}
 use lib.Dec.{T, leb, ltb}
-use lib.IntN.{ℤ, natAbs}
-use borrow.Author.Tests.{lt-ltb, le-ltb, le-leb, ltb-true, ltb-false, leb-true}
+use lib.ListN.{length, getD}
+use lib.IntN.{ℤ, pos, natAbs, _*ℤ_}
+use borrow.Author.Tests.{lt-ltb, le-ltb, le-leb, ltb-true, ltb-false, leb-true, leb-false}
 use Rattle.laws.specs.Lists.{all, and-left, and-right}
-use Rattle.laws.specs.Powers.{split, rises, scale-lt, lower, raise}
+use Rattle.laws.specs.Powers.{split, rises, lower, raise}
 use Rattle.laws.specs.Sums.{Each}
 use Rattle.laws.specs.Tests.{both, each-tested}
 use Rattle.numbers.specs.BitLength.{bitLength}
-use Rattle.numbers.specs.Cut.{rescale}
+use Rattle.numbers.specs.Cut.{cut, rescale}
 use Rattle.numbers.proofs.BitLengthLaws.{bit-length-above, bit-length-le}
-use Rattle.numbers.proofs.CutLaws.{rescale-most}
+use Rattle.numbers.proofs.CutLaws.{raise-abs, rescale-most, rescale-shifts}
 use Rattle.steps.specs.Limits.{symbolLimit, gainLimit}
 use Rattle.steps.specs.Settings.{Settings}
-use Rattle.steps.specs.Side.{longest, magnitudes, together}
+use Rattle.steps.specs.Side.{magnitudes, together}
 use Rattle.steps.proofs.LargestLaws.{together-longest}
 use Rattle.steps.proofs.LongestTests.{by-longest}
+use Rattle.block.proofs.ValuesLaws.{values-length, values-at}
+use Rattle.cable_trace.specs.Limits.{zerosLength}
 use Rattle.cable_trace.specs.Cable.{takesGain, greatest, gain, hasGain, sample, gainFits}
-use Rattle.cable_trace.specs.Calls.{Gainable}
+use Rattle.cable_trace.specs.Calls.{Gainable, gainOf, scaleOf, Tables}
 
 -- ---- the greatest number that passes
 
@@ -108,6 +111,62 @@ module _ (r : ℕ) (s : ℤ) where
   unfolding sample
   sample-small e =
       lower (natAbs (rescale s (gain r s) r)) (15 + r) 15 r (omega arith) (lt-of-le-of-lt (rescale-most s (gain r s) r) (ltb-true _ _ e))
+
+-- ---- by tables
+
+pub gain-of-most : (r bits : ℕ) → gainOf r bits ≤ gainLimit
+gain-of-most r bits = go (leb bits r) refl
+  where
+    go : (b : Bool) → leb bits r ≡ b → cond b gainLimit (15 + r - bits) ≤ gainLimit
+    go true e = omega arith
+    go false e = omega (arith, leb-false bits r e)
+
+scaled-below : (a k r g top : ℕ) → k * r ≡ 128 * g → a * g < top → a * k * r < 128 * top
+scaled-below a k r g top e h = omega (arith, ap (λ (n : ℕ). a * n) e)
+
+pub tables-long : (r : ℕ) (gains : List ℕ) (scales : List ℤ) → Tables r gains scales → (length gains ≡ zerosLength) × (length scales ≡ zerosLength)
+tables-long r gains scales t = (ap length (t .gains-are) ∙ values-length _ _, ap length (t .scales-are) ∙ values-length _ _)
+
+pub bits-most : (r : ℕ) (s : ℤ) → Gainable r s → bitLength (natAbs s) ≤ 18
+bits-most r s h = omega (arith, gain-bits r s (h .has), h .r-most)
+
+module _ (r : ℕ) (s : ℤ) (h : Gainable r s) where
+  pub gain-of : gainOf r (bitLength (natAbs s)) ≡ gain r s
+  gain-of = go (leb (bitLength (natAbs s)) r) refl
+    where
+      go : (b : Bool) → leb (bitLength (natAbs s)) r ≡ b → cond b gainLimit (15 + r - bitLength (natAbs s)) ≡ gain r s
+      go true e = gain-few r s (leb-true (bitLength (natAbs s)) r e)
+      go false e = gain-many r s (leb-false (bitLength (natAbs s)) r e) (gain-bits r s (h .has))
+
+  -- back from the leading zeros
+  same-bits : gainOf r (32 - (32 - bitLength (natAbs s))) ≡ gain r s
+  same-bits = let e : 32 - (32 - bitLength (natAbs s)) ≡ bitLength (natAbs s) = omega (arith, bits-most r s h) in ap (gainOf r) e ∙ gain-of
+
+  module _ (gains : List ℕ) (scales : List ℤ) (t : Tables r gains scales) where
+    pub gain-found : getD gains (32 - bitLength (natAbs s)) 0 ≡ gain r s
+    gain-found = ap (λ (l : List ℕ). getD l (32 - bitLength (natAbs s)) 0) (t .gains-are) ∙ values-at (λ z. gainOf r (32 - z)) 0 zerosLength _ (omega arith) ∙ same-bits
+
+    pub scale-found : getD scales (32 - bitLength (natAbs s)) (pos 0) ≡ scaleOf r (gain r s)
+    scale-found =
+        ap (λ (l : List ℤ). getD l (32 - bitLength (natAbs s)) (pos 0)) (t .scales-are) ∙ values-at (λ z. scaleOf r (gainOf r (32 - z))) (pos 0) zerosLength _ (omega arith)
+        ∙ ap (scaleOf r) same-bits
+
+  pub scaled-sample : cut (s *ℤ scaleOf r (gain r s)) 7 ≡ sample r s
+  unfolding sample
+  scaled-sample =
+      let g = gain r s in
+      let up : 7 + g - r - 7 ≡ g - r = omega (arith, h .r-most) in
+      let down : 7 - (7 + g - r) ≡ r - g = omega (arith, h .r-most) in
+      rescale-shifts s (7 + g - r) 7 ∙ ap₂ (rescale s) up down ∙ sym (rescale-shifts s g r)
+
+  pub scaled-small : natAbs (s *ℤ scaleOf r (gain r s)) < 2 ^ 22
+  scaled-small =
+      let g = gain r s in
+      let k = 7 + g - r in
+      let e : 2 ^ k * 2 ^ r ≡ 2 ^ 7 * 2 ^ g = sym (split (7 + g) k r (omega (arith, h .r-most))) ∙ split (7 + g) 7 g (omega arith) in
+      rw (raise-abs s k)
+      (lower (natAbs s * 2 ^ k) (22 + r) 22 r (omega arith)
+      (omega (arith, split (22 + r) 7 (15 + r) (omega arith), scaled-below (natAbs s) (2 ^ k) (2 ^ r) (2 ^ g) (2 ^ (15 + r)) e (ltb-true (natAbs s * 2 ^ g) (2 ^ (15 + r)) (h .has)))))
 
 -- ---- the gains of a list
 

@@ -3,17 +3,17 @@ use mathlib.Core.Path.{_≡_}
 use mathlib.Core.Bool.{Bool, true, cond}
 use mathlib.Core.List.{List, _++_}
 use Prim.Native.Nat.{ℕ, _+_, _*_, _-_, _/_, _%_, _^_, _≤_}
-use lib.Dec.{ltb}
+use lib.Dec.{leb, ltb}
 use lib.ListN.{length, getD, take, drop, replicate}
 use lib.IntN.{ℤ, pos, natAbs}
 use Rattle.laws.specs.Lists.{all}
 use Rattle.laws.specs.Sums.{Each, dot}
 use mir.Syntax.{w8}
 use mir.Val.{ofZ}
-use Rattle.steps.specs.Limits.{symbolLimit}
+use Rattle.steps.specs.Limits.{symbolLimit, gainLimit}
 use Rattle.steps.specs.Settings.{Settings}
 use Rattle.block.specs.Block.{values}
-use Rattle.cable_trace.specs.Limits.{responseLimit, tapsLength, sentLimit, lineLength}
+use Rattle.cable_trace.specs.Limits.{responseLimit, tapsLength, sentLimit, lineLength, zerosLength}
 use Rattle.state.specs.Sizes.{settingsNumber}
 use Rattle.trace_text.specs.Trace.{headerLength}
 use Rattle.cable_trace.specs.Cable.{Cable, s, hasGain, sampleCount, traceHeader, sampleBytes, joined, cableTrace, gainFits, listCause}
@@ -85,6 +85,25 @@ pub record Gainable (r : ℕ) (s : ℤ) : Type 0 where
   pub r-most : r ≤ symbolLimit
   pub has : hasGain r s ≡ true
 
+-- the gain by the bit length of |s|
+abbrev pub gainOf : ℕ → ℕ → ℕ
+gainOf r bits = cond (leb bits r) gainLimit (15 + r - bits)
+
+-- what makes of s, by its gain, 2^7 times the sample before its cut
+abbrev pub scaleOf : ℕ → ℕ → ℤ
+scaleOf r g = pos (2 ^ (7 + g - r))
+
+-- gains and scales by the leading zeros of |s| in 32 bits
+abbrev pub gainsOf : ℕ → List ℕ
+gainsOf r = values (λ z. gainOf r (32 - z)) zerosLength
+
+abbrev pub scalesOf : ℕ → List ℤ
+scalesOf r = values (λ z. scaleOf r (gainOf r (32 - z))) zerosLength
+
+pub record Tables (r : ℕ) (gains : List ℕ) (scales : List ℤ) : Type 0 where
+  pub gains-are : gains ≡ gainsOf r
+  pub scales-are : scales ≡ scalesOf r
+
 -- ---- the trace
 
 -- with s of each symbol
@@ -98,6 +117,7 @@ pub record Puttable (N r : ℕ) (symbols : List ℤ) (training : ℕ) (sums : Li
   pub N-least : 1 ≤ N
   pub few : length symbols ≤ sentLimit
   pub training-most : training ≤ length symbols
+  pub r-most : r ≤ symbolLimit
   pub same-length : length sums ≡ length symbols
   pub gains : Each (Gainable r) sums
   pub room : length out ≡ headerLength + 4 * length symbols

@@ -23,3 +23,7 @@ sentLimit = (traceLimit - headerLength) / 4
 -- places of a line: those of the symbols, and what was there before the first
 abbrev pub lineLength : ℕ
 lineLength = sentLimit + responseLimit
+
+-- counts of leading zeros in 32 bits
+abbrev pub zerosLength : ℕ
+zerosLength = 33

@@ -9,31 +9,57 @@ ghost use lib.IntN.{pos};
 ghost use mir.Syntax.{w8};
 ghost use mir.Val.{ofZ};
 ghost use Rattle.laws.specs.Sums.{Each};
+ghost use Rattle.steps.specs.Limits.{symbolLimit, gainLimit};
 ghost use Rattle.block.specs.Block.{values};
 ghost use Rattle.state.specs.Sizes.{given};
 ghost use Rattle.image.specs.Image.{header};
-ghost use Rattle.cable_trace.specs.Limits.{countLimit};
+ghost use Rattle.cable_trace.specs.Limits.{countLimit, zerosLength};
 ghost use Rattle.cable_trace.specs.Cable.{gain, sample, sampleBytes, joined, traceHeader};
-ghost use Rattle.cable_trace.specs.Calls.{Gainable, Puttable, traceBytes};
+ghost use Rattle.cable_trace.specs.Calls.{Gainable, gainOf, scaleOf, Tables, Puttable, traceBytes};
+use super::limits;
 use state::equaliser::Equaliser;
 use steps::limits::PLACES;
 use trace_text::limits::HEADER;
 
-// The largest gain that s takes.
-fn gain(r: u32, s: i32) -> u32
-    requires { ⌜ Gainable r s ⌝ }
-    ensures { λ g. ⌜ g ≡ gain r s ⌝ }
+// The gain by the bit length of |s|.
+fn gain(r: u32, bits: u32) -> u32
+    requires { ⌜ r ≤ symbolLimit ⌝ }
+    ensures { λ g. ⌜ g ≡ gainOf r bits ⌝ }
 {
-    let bits = numbers::bit_length::signed_bit_length(s as i64);
-    if bits <= r { 15 } else { 15 + r - bits }
+    if bits <= r {
+        return 15;
+    }
+    if bits <= 15 + r { 15 + r - bits } else { 0 }
 }
 
-// m = T(s·2^(g−r)).
-fn sample(r: u32, s: i32, g: u32) -> i16
-    requires { ⌜ (Gainable r s) × (g ≡ gain r s) ⌝ }
+// 2^(7 + g − r).
+fn scale(r: u32, g: u32) -> i32
+    requires { ⌜ (r ≤ symbolLimit) × (g ≤ gainLimit) ⌝ }
+    ensures { λ k. ⌜ k ≡ scaleOf r g ⌝ }
+{
+    numbers::cut::raise32(1, 7 + g - r)
+}
+
+// Gains and scales by leading zeros.
+fn tables(r: u32, gains: &mut [u8], scales: &mut [i32])
+    requires { ⌜ (r ≤ symbolLimit) × (length (now gains) ≡ zerosLength) × (length (now scales) ≡ zerosLength) ⌝ }
+    ensures { λ _. ⌜ Tables r (now (gains .exit)) (now (scales .exit)) ⌝ }
+{
+    let mut i: usize = 0;
+    while i < limits::ZEROS {
+        let g = gain(r, 32 - (i as u32));
+        gains[i] = g as u8;
+        scales[i] = scale(r, g);
+        i += 1;
+    }
+}
+
+// m = T(s·2^(g−r)), by the scale of s.
+fn sample(r: u32, s: i32, by: i32) -> i16
+    requires { ⌜ (Gainable r s) × (by ≡ scaleOf r (gain r s)) ⌝ }
     ensures { λ m. ⌜ m ≡ sample r s ⌝ }
 {
-    numbers::cut::cut32(numbers::cut::raise32(s, g), r) as i16
+    numbers::cut::cut32(s * by, 7) as i16
 }
 
 // The bytes of a sample.
@@ -43,33 +69,45 @@ pub struct SampleBytes {
     pub gain: u8,
 }
 
-fn sample_bytes(r: u32, s: i32) -> SampleBytes
-    requires { ⌜ Gainable r s ⌝ }
+// By the tables of r, which take the place of two shifts by a count that changes with s.
+fn sample_bytes(r: u32, gains: &[u8], scales: &[i32], s: i32) -> SampleBytes
+    requires { ⌜ (Tables r (now gains) (now scales)) × (Gainable r s) ⌝ }
     ensures { λ b. ⌜ b .low ∷ b .high ∷ b .gain ∷ [] ≡ sampleBytes r s ⌝ }
 {
-    let g = gain(r, s);
-    let m = image::save::word(sample(r, s, g));
+    let zeros = (32 - numbers::bit_length::signed_bit_length(s as i64)) as usize;
+    let m = image::save::word(sample(r, s, scales[zeros]));
     SampleBytes {
         low: (m % 256) as u8,
         high: (m / 256) as u8,
-        gain: g as u8,
+        gain: gains[zeros],
     }
 }
 
-// The samples of every s.
-pub fn samples(r: u32, sums: &[i32], out: &mut [u8])
-    requires { ⌜ (Each (Gainable r) (now sums)) × (length (now out) ≡ 3 * length (now sums)) ⌝ }
+// The same of every s.
+fn table_samples(r: u32, gains: &[u8], scales: &[i32], sums: &[i32], out: &mut [u8])
+    requires { ⌜ (Tables r (now gains) (now scales)) × (Each (Gainable r) (now sums)) × (length (now out) ≡ 3 * length (now sums)) ⌝ }
     ensures { λ _. ⌜ now (out .exit) ≡ joined (λ n. sampleBytes r (getD (now (sums .entry)) n (pos 0))) (length (now (sums .entry))) ⌝ }
 {
     let mut i: usize = 0;
     while i < sums.len() {
-        let b = sample_bytes(r, sums[i]);
+        let b = sample_bytes(r, gains, scales, sums[i]);
         let at = 3 * i;
         out[at] = b.low;
         out[at + 1] = b.high;
         out[at + 2] = b.gain;
         i += 1;
     }
+}
+
+// The samples of every s.
+pub fn samples(r: u32, sums: &[i32], out: &mut [u8])
+    requires { ⌜ (r ≤ symbolLimit) × (Each (Gainable r) (now sums)) × (length (now out) ≡ 3 * length (now sums)) ⌝ }
+    ensures { λ _. ⌜ now (out .exit) ≡ joined (λ n. sampleBytes r (getD (now (sums .entry)) n (pos 0))) (length (now (sums .entry))) ⌝ }
+{
+    let mut gains = [0u8; limits::ZEROS];
+    let mut scales = [0i32; limits::ZEROS];
+    tables(r, &mut gains, &mut scales);
+    table_samples(r, &gains, &scales, sums, out);
 }
 
 // The byte of a training entry: the symbol, or 0.

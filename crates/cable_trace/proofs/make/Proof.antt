@@ -126,6 +126,7 @@ trace-requires c κs =
       N-least = within b .N-least;
       few = fitting b .few;
       training-most = fitting b .training-most;
+      r-most = within b .r-most;
       same-length = values-length (s k) (sampleCount k);
       gains = gains-each (k .settings) (values (s k) (sampleCount k)) (within b .r-most) (gains (c .before .before .before));
       room = fitting b .room-is;

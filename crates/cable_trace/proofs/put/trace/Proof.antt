@@ -46,7 +46,7 @@ samples-long c =
     ∙ omega (arith, s .pre .same-length)
 
 samples-requires : tie.Need-samples-requires
-samples-requires c κs = let h = c .before .before .before in (start h .pre .gains, samples-long h)
+samples-requires c κs = let h = c .before .before .before in (start h .pre .r-most, start h .pre .gains, samples-long h)
 
 returns : tie.Need-returns
 returns c =

@@ -11,24 +11,24 @@ use Rattle.laws.specs.Sums.{each-at}
 use Rattle.cable_trace.specs.Cable.{sampleBytes}
 use Rattle.cable_trace.specs.Calls.{Gainable}
 use Rattle.cable_trace.proofs.PutLaws.{Joined, joined-none, joined-next, joined-all}
-use Rattle.cable_trace.proofs.put.samples.Statement.{statement}
-use Rattle.cable_trace.proofs.put.samples.Tie as tie
+use Rattle.cable_trace.proofs.put.table_samples.Statement.{statement}
+use Rattle.cable_trace.proofs.put.table_samples.Tie as tie
 
 abbrev Inv-loop : tie.InvT-loop
-Inv-loop r sums out₀ i₀ out i = (length out₀ ≡ 3 * length sums) × Joined (λ n. sampleBytes r (getD sums n (pos 0))) (length sums) i out
+Inv-loop r gains scales sums out₀ i₀ out i = (length out₀ ≡ 3 * length sums) × Joined (λ n. sampleBytes r (getD sums n (pos 0))) (length sums) i out
 
 abbrev μ-loop : tie.MeasureT-loop
-μ-loop r sums out₀ i₀ out i = length sums - i
+μ-loop r gains scales sums out₀ i₀ out i = length sums - i
 
 loop-holds : tie.Need-loop-holds Inv-loop μ-loop
-loop-holds c = let s = c .before in (s .pre .1, joined-none _ _ (s .args .out .now) (s .pre .1))
+loop-holds c = let s = c .before .before in (s .pre .2, joined-none _ _ (s .args .out .now) (s .pre .2))
 
 -- all three places of a sample
 within : (c : tie.In-loop Inv-loop μ-loop) → 3 * c .before .loop .i + 2 < length (c .before .loop .out)
 within c = omega (arith, c .loop-test .taken, c .before .loop .inv .1 .long)
 
 room : (c : tie.In-loop Inv-loop μ-loop) → 3 * c .before .loop .i + 2 < 2 ^ 63
-room c = omega (arith, within c, c .before .loop .inv .0, c .before .loop .inv .1 .long, c .before .before .before .good .1 .0)
+room c = omega (arith, within c, c .before .loop .inv .0, c .before .loop .inv .1 .long, c .before .before .before .before .good .1 .1 .1 .0)
 
 abbrev turn : tie.After-sample-bytes Inv-loop μ-loop → tie.In-loop Inv-loop μ-loop
 turn c = c .before .before
@@ -41,9 +41,10 @@ shared-slice-copy-out-sample-bytes c = c .loop-test .taken
 
 sample-bytes-requires : tie.Need-sample-bytes-requires Inv-loop μ-loop
 sample-bytes-requires c κs =
-    let s = c .before .before .before .before in
+    let s = c .before .before .before .before .before in
     let l = c .before .before .loop in
-    rw (kept w32 (getD (s .args .sums .now) (l .i) (pos 0)) (c .sample-bytes-arg .given)) (each-at (Gainable (s .args .r)) (s .args .sums .now) (l .i) (pos 0) (s .pre .0) (c .before .loop-test .taken))
+    rw (kept w32 (getD (s .args .sums .now) (l .i) (pos 0)) (c .sample-bytes-arg .given))
+    (s .pre .0, each-at (Gainable (s .args .r)) (s .args .sums .now) (l .i) (pos 0) (s .pre .1) (c .before .loop-test .taken))
 
 mul-at : tie.Need-mul-at Inv-loop μ-loop
 mul-at c = record { fits = omega (arith, room (turn c)) }
@@ -72,7 +73,7 @@ loop-less c = omega (arith, turn c .loop-test .taken)
 loop-again : tie.Need-loop-again Inv-loop μ-loop
 loop-again c =
     let l = turn c .before .loop in
-    let a = turn c .before .before .before .args in
+    let a = turn c .before .before .before .before .args in
     let b = c .sample-bytes .result in (
       l .inv .0,
       joined-next (l .inv .1) (b .low) (b .high) (b .gain) (turn c .loop-test .taken)
@@ -85,8 +86,8 @@ same-length c = c .before .loop .inv .1 .long ∙ sym (c .before .loop .inv .0)
 returns : tie.Need-returns Inv-loop μ-loop
 returns c = joined-all (c .before .loop .inv .1) (c .loop-test .left)
 
-pub samples-spec : {M : Type 1} → statement M
-samples-spec =
+pub table-samples-spec : {M : Type 1} → statement M
+table-samples-spec =
     tie.close
     (tie.spec
     Inv-loop μ-loop loop-holds mul-sample-bytes shared-slice-copy-out-sample-bytes sample-bytes-requires
