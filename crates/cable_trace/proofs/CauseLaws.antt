@@ -2,14 +2,14 @@
 use mathlib.Core.Path.{_≡_, refl, sym, ap, _∙_}
 use mathlib.Core.Bool.{Bool, true, false, cond, _&&_}
 use mathlib.Core.List.{List}
-use Prim.Native.Nat.{ℕ, _+_, _*_, _/_, _%_, _≤_, _<_}
+use Prim.Native.Nat.{ℕ, _/_, _%_, _≤_, _<_}
 use native.Mathlib.Omega.{arith}
 use lib.Dec.{leb, eqb}
 use lib.ListN.{length}
 use lib.IntN.{ℤ}
 use borrow.Author.Tests.{le-leb, lt-leb, leb-true, eq-eqb, ne-eqb, eqb-true, eqb-false}
-use Rattle.laws.specs.Lists.{all, and-left, and-right}
-use Rattle.laws.specs.Tests.{last-le, last-eq}
+use Rattle.laws.specs.Lists.{all}
+use Rattle.laws.specs.Tests.{last-le}
 use Rattle.steps.specs.Settings.{isSymbol}
 use Rattle.block.specs.Block.{values}
 use Rattle.state.specs.Sizes.{settingsNumber}

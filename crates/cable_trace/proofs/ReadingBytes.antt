@@ -1,9 +1,8 @@
 -- The bytes of a cable's trace at their places.
 use mathlib.Core.Path.{_≡_, refl, sym, ap, ap₂, _∙_}
-use mathlib.Core.Bool.{Bool, true, false}
 use mathlib.Core.List.{List, [], _∷_, _++_}
 use mathlib.Core.Logic.{_⊎_, inl, inr}
-use Prim.Native.Nat.{ℕ, zero, suc, _+_, _*_, _/_, _%_, _^_, _≤_, _<_}
+use Prim.Native.Nat.{ℕ, zero, suc, _+_, _*_, _/_, _%_, _^_, _<_}
 use native.Mathlib.Omega.{arith}
 use native.Mathlib.Nat.{eq-or-lt-of-le, suc-inj}
 use lib.ListN.{length, getD, length-append, List·getD-append}
@@ -13,11 +12,10 @@ use mir.Syntax.{w8, w16}
 use mir.Val.{ofZ, toZ}
 use mir.Facts.{toZ-ofZ, fits-ofZ}
 use Rattle.laws.specs.Machine.{fits-abs}
-use Rattle.block.specs.Block.{values}
 use Rattle.block.proofs.ValuesLaws.{values-length, values-at}
 use Rattle.image.proofs.ByteLaws.{two-bytes, four-bytes}
 use Rattle.trace_text.specs.Trace.{headerLength, byteAt, number16, sampleStart}
-use Rattle.cable_trace.specs.Cable.{Cable, s, gain, sample, entry, sampleCount, blockCount, traceHeader, sampleBytes, joined, samplePart, entryPart, cableTrace}
+use Rattle.cable_trace.specs.Cable.{Cable, s, gain, sample, entry, sampleCount, blockCount, sampleBytes, joined, samplePart, entryPart, cableTrace}
 
 -- ---- lists of three, one after another
 

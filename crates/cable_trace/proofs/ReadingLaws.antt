@@ -1,5 +1,5 @@
 -- The trace of an accepted cable is read as such: its settings, samples, gains and entries, and no block is refused but with 6.
-use mathlib.Core.Path.{_≡_, refl, sym, ap, ap₂, _∙_, subst}
+use mathlib.Core.Path.{_≡_, refl, sym, ap, _∙_, subst}
 use mathlib.Core.Bool.{Bool, true, false, cond}
 use mathlib.Core.List.{List}
 use mathlib.Core.Logic.{_⊎_, inl, inr}
@@ -14,7 +14,6 @@ use mir.Val.{toZ}
 use borrow.Author.Tests.{lt-ltb, le-ltb, le-leb, leb-true, eq-eqb}
 use Rattle.laws.specs.Lists.{all, all-at, and-left, and-right}
 use Rattle.laws.specs.Powers.{rises}
-use Rattle.laws.specs.Sums.{Each}
 use Rattle.laws.specs.Tests.{both}
 use Rattle.steps.specs.Limits.{gainLimit}
 use Rattle.steps.specs.Settings.{Settings, Within, isSymbol, isEntry}
@@ -38,13 +37,13 @@ use Rattle.station.specs.Answers.{runNumber, runState}
 use Rattle.station.specs.Calls.{goesOn}
 use Rattle.station.proofs.AnswerLaws.{number-is}
 use Rattle.station.proofs.NumberLaws.{run-settings, run-accepted}
-use Rattle.trace_text.specs.Trace.{headerLength, traceLimit, byteAt, settingsIn, countIn, samplesIn, wellFormed, sampleStart, lentAt}
+use Rattle.trace_text.specs.Trace.{headerLength, byteAt, settingsIn, countIn, samplesIn, wellFormed, sampleStart, lentAt}
 use Rattle.trace_text.specs.Text.{textFrom, traceText}
 use Rattle.trace_text.proofs.ReadLaws.{well-tested}
 use Rattle.trace_text.proofs.LentLaws.{lent-long, lent-samples, lent-gains, lent-entries}
 use Rattle.trace_text.proofs.TraceLaws.{state-is, accepted-text}
-use Rattle.cable_trace.specs.Limits.{sentLimit, countLimit}
-use Rattle.cable_trace.specs.Cable.{Cable, s, gain, hasGain, sample, entry, sampleCount, blockCount, cableTrace, gainFits, cableNumber}
+use Rattle.cable_trace.specs.Limits.{countLimit}
+use Rattle.cable_trace.specs.Cable.{Cable, s, gain, hasGain, entry, sampleCount, blockCount, cableTrace, gainFits, cableNumber}
 use Rattle.cable_trace.specs.Reading.{ReadsSample, Runs, Reads}
 use Rattle.cable_trace.proofs.CauseLaws.{Listed, listed, cause-tests, number-tests}
 use Rattle.cable_trace.proofs.GainLaws.{gain-most, sample-small}

@@ -1,5 +1,5 @@
 -- s of each symbol, and the trace that is made of them.
-use mathlib.Core.Path.{_≡_, refl, sym, ap, ap₂, _∙_}
+use mathlib.Core.Path.{_≡_, refl, ap, ap₂, _∙_}
 use mathlib.Core.Bool.{true}
 use mathlib.Core.List.{List, _++_}
 use Prim.Native.Nat.{ℕ, zero, suc, _+_, _^_, _≤_, _<_}
@@ -18,7 +18,7 @@ use Rattle.block.proofs.ValuesLaws.{values-length, values-at}
 use Rattle.checks.specs.Calls.{Sampled}
 use Rattle.cable_trace.specs.Limits.{responseLimit, sentLimit}
 use Rattle.cable_trace.specs.Cable.{Cable, s, sampleCount, blockCount, traceHeader, sampleBytes, joined, entryPart, cableTrace}
-use Rattle.cable_trace.specs.Calls.{placed, lineOf, window, sums, Sumsable, traceBytes}
+use Rattle.cable_trace.specs.Calls.{placed, lineOf, sums, Sumsable, traceBytes}
 use Rattle.cable_trace.specs.Limits.{lineLength}
 use Rattle.cable_trace.proofs.LineLaws.{values-same, line-small, window-is}
 

@@ -1,9 +1,9 @@
 -- The specification's worked cable, computed by the definitions, and a gain at each end.
 use mathlib.Core.Path.{_≡_, refl}
 use mathlib.Core.Bool.{true, false}
-use mathlib.Core.List.{List, [], _∷_, map}
-use Prim.Native.Nat.{ℕ, _-_, _^_}
-use lib.IntN.{ℤ, pos, negsuc}
+use mathlib.Core.List.{[], _∷_, map}
+use Prim.Native.Nat.{_-_, _^_}
+use lib.IntN.{pos, negsuc}
 use Rattle.laws.specs.Sums.{dot}
 use Rattle.numbers.specs.Cut.{cut}
 use Rattle.block.specs.Block.{values}

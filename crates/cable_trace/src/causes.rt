@@ -4,7 +4,6 @@ ghost use Prim.Native.Nat.{_≤_};
 ghost use Rattle.laws.specs.Lists.{all};
 ghost use Rattle.steps.specs.Limits.{symbolLimit};
 ghost use Rattle.steps.specs.Settings.{isSymbol};
-ghost use Rattle.state.specs.Sizes.{given};
 ghost use Rattle.cable_trace.specs.Cable.{responseFits, blocksFit, lengthCause, listCause};
 ghost use Rattle.cable_trace.specs.Answers.{cableOf};
 use super::limits;

@@ -1,7 +1,7 @@
 -- An entry that is not 0.
 use mathlib.Core.Path.{_≡_, ap₂, _∙_}
 use mathlib.Core.Bool.{Bool, _&&_, not}
-use mir.Syntax.{w8, w16}
+use mir.Syntax.{w16}
 use mir.Facts.{toZ-ofZ, sfits-widen}
 use borrow.Author.Needs.{needs}
 use Rattle.laws.specs.Tests.{zero-test}
