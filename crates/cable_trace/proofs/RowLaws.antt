@@ -10,7 +10,7 @@ use lib.IntN.{ℤ, pos, natAbs, _+ℤ_, _*ℤ_, zero-*ℤ, +ℤ-idr}
 use Rattle.laws.specs.Sums.{each-of, each-take, each-drop, dot, dot-next, dot-bound}
 use Rattle.block.proofs.ValuesLaws.{values-length, values-at}
 use Rattle.cable_trace.specs.Limits.{responseLimit, tapsLength}
-use Rattle.cable_trace.specs.Calls.{place, window, sums, Sumsable, twice, row, rowSums, RowsSummable, Summable}
+use Rattle.cable_trace.specs.Calls.{place, window, sums, LineSummable, twice, row, rowSums, RowsSummable, Summable}
 use Rattle.cable_trace.proofs.LineLaws.{values-same, each-default, window-long}
 
 -- ---- one sum
@@ -85,7 +85,7 @@ module _ (h : List ℤ) where
         sym (ap₂ dot (take-all (length h + (responseLimit - length h)) (row (twice h) n) (omega (arith, row-long n))) (take-all (length h + (responseLimit - length h)) v (omega arith)))
         ∙ more (responseLimit - length h) (omega arith)
 
-module _ (h line : List ℤ) (n : ℕ) (s : Sumsable h line n) where
+module _ (h line : List ℤ) (n : ℕ) (s : LineSummable h line n) where
   pub rows-summable : RowsSummable (twice h) line n
   rows-summable = record {
     taps-long = twice-long h;

@@ -18,7 +18,7 @@ use Rattle.block.proofs.ValuesLaws.{values-length, values-at}
 use Rattle.checks.specs.Calls.{Sampled}
 use Rattle.cable_trace.specs.Limits.{responseLimit, sentLimit}
 use Rattle.cable_trace.specs.Cable.{Cable, s, sampleCount, blockCount, traceHeader, sampleBytes, joined, entryPart, cableTrace}
-use Rattle.cable_trace.specs.Calls.{placed, lineOf, sums, Sumsable, traceBytes}
+use Rattle.cable_trace.specs.Calls.{placed, lineOf, sums, LineSummable, traceBytes}
 use Rattle.cable_trace.specs.Limits.{lineLength}
 use Rattle.cable_trace.proofs.LineLaws.{values-same, line-small, window-is}
 
@@ -33,7 +33,7 @@ module _ (c : Cable) (few : sampleCount c ≤ sentLimit) (response : length (c .
       values-same (pos 0) _ (s c) (sampleCount c)
       (λ n h. ap (dot (c .response)) (window-is (c .symbols) (length (c .response)) n response (omega arith)))
 
-  pub line-summable : c .settings .r ≤ symbolLimit → all (isSymbol (c .settings .r)) (c .symbols) ≡ true → Sampled (c .response) → Sumsable (c .response) (lineOf (c .symbols)) (sampleCount c)
+  pub line-summable : c .settings .r ≤ symbolLimit → all (isSymbol (c .settings .r)) (c .symbols) ≡ true → Sampled (c .response) → LineSummable (c .response) (lineOf (c .symbols)) (sampleCount c)
   line-summable h e m = record {
     few = response;
     h-small = m;

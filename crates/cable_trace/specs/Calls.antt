@@ -46,7 +46,7 @@ window line k n = take k (drop (place n) line)
 abbrev pub sums : List ℤ → List ℤ → ℕ → List ℤ
 sums h line n = values (λ i. dot h (window line (length h) i)) n
 
-pub record Sumsable (h line : List ℤ) (n : ℕ) : Type 0 where
+pub record LineSummable (h line : List ℤ) (n : ℕ) : Type 0 where
   pub few : length h ≤ responseLimit
   pub h-small : Each (λ (x : ℤ). natAbs x ≤ 2 ^ 15) h
   pub line-long : length line ≡ lineLength

@@ -6,7 +6,7 @@ ghost use lib.IntN.{pos};
 ghost use Rattle.laws.specs.Sums.{dot};
 ghost use Rattle.steps.specs.Side.{magnitudes, together};
 ghost use Rattle.cable_trace.specs.Limits.{sentLimit, tapsLength};
-ghost use Rattle.cable_trace.specs.Calls.{lineOf, emptyLine, emptySums, sums, Sumsable, twice, rowSums, RowsSummable, Summable};
+ghost use Rattle.cable_trace.specs.Calls.{lineOf, emptyLine, emptySums, sums, LineSummable, twice, rowSums, RowsSummable, Summable};
 use super::limits;
 
 pub fn empty_line() -> [i16; limits::LINE]
@@ -89,7 +89,7 @@ fn row_sums(taps: &[i16], line: &[i16], out: &mut [i32]) -> u32
 
 // The same of a response.
 pub fn sums(h: &[i16], line: &[i16], out: &mut [i32]) -> u32
-    requires { ⌜ Sumsable (now h) (now line) (length (now out)) ⌝ }
+    requires { ⌜ LineSummable (now h) (now line) (length (now out)) ⌝ }
     ensures { λ r. ⌜ (now (out .exit) ≡ sums (now (h .entry)) (now (line .entry)) (length (now (out .entry)))) × (r ≡ together (magnitudes (now (out .exit)))) ⌝ }
 {
     let mut taps = [0i16; limits::TAPS];

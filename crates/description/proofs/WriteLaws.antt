@@ -25,7 +25,8 @@ use Rattle.cable_trace.specs.Answers.{cableOf, Simulation}
 use Rattle.cable_trace.specs.declared.Simulated.{Simulated}
 use Rattle.cable_trace.proofs.CauseLaws.{too-long, cause-same, number-same, number-settings}
 use Rattle.description.specs.Description.{headerLength, responseIn, symbolsIn, trainingIn, symbolsPlace, wellDescribed, cableIn, malformedLine, refusalLine, cableOutput, described}
-use Rattle.description.specs.Calls.{traceEnd, Described}
+use Rattle.description.specs.Calls.{traceEnd}
+use Rattle.description.specs.Answers.{Described}
 
 -- a part that begins at 0
 pub from-zero : {A : Type 0} (l : List A) (n : ℕ) → take (n - 0) l ≡ take n l

@@ -1,4 +1,5 @@
 pub mod Texts
 pub mod Description
 pub mod Calls
+pub mod Answers
 pub mod Piped

@@ -1,5 +1,5 @@
 // What the program `cable` writes for a description.
-ghost use Rattle.description.specs.Calls.{Described};
+ghost use Rattle.description.specs.Answers.{Described};
 use trace_text::Written;
 use trace_text::limits::TRACE;
 
