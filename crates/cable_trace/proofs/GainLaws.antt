@@ -70,10 +70,18 @@ module _ (r : ℕ) (s : ℤ) where
   unfolding gain
   gain-most = greatest-most (takesGain r s) gainLimit
 
-  -- where there is a gain, none that s takes is larger; where there is none, s takes no gain
+  -- what s takes is no larger, and then there is a gain
   pub gain-largest : (g : ℕ) → g ≤ gainLimit → takesGain r s g ≡ true → (hasGain r s ≡ true) × (g ≤ gain r s)
   unfolding gain
   gain-largest g h e = greatest-from (takesGain r s) gainLimit g h e
+
+  -- where there is none, s takes none
+  pub gain-none : hasGain r s ≡ false → (g : ℕ) → g ≤ gainLimit → takesGain r s g ≡ false
+  gain-none e g h = go (takesGain r s g) refl
+    where
+      go : (b : Bool) → takesGain r s g ≡ b → b ≡ false
+      go true f = absurd (both-ways (sym (gain-largest g h f .0) ∙ e))
+      go false f = refl
 
   gain-is : (g : ℕ) → g ≤ gainLimit → natAbs s * 2 ^ g < 2 ^ (15 + r) → ((j : ℕ) → g < j → j ≤ gainLimit → 2 ^ (15 + r) ≤ natAbs s * 2 ^ j) → gain r s ≡ g
   unfolding gain
