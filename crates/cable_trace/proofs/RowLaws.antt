@@ -3,7 +3,6 @@ use mathlib.Core.Path.{_≡_, sym, ap, ap₂, _∙_}
 use mathlib.Core.List.{List}
 use Prim.Native.Nat.{ℕ, zero, suc, _+_, _*_, _-_, _%_, _^_, _≤_, _<_}
 use native.Mathlib.Omega.{arith}
-use native.Mathlib.Numerals.{add-one}
 use lib.ListN.{length, getD, take, drop, length-take, length-drop, List·getD-eq-default}
 use lib.Seq.{take-all, take-take, length-take-le, getD-take, getD-drop, ext-getD}
 use lib.IntN.{ℤ, pos, natAbs, _+ℤ_, _*ℤ_, zero-*ℤ, +ℤ-idr}
@@ -15,19 +14,10 @@ use Rattle.cable_trace.proofs.LineLaws.{values-same, each-default, wind
 
 -- ---- one sum
 
-pub sum-next : (h v : List ℤ) (i : ℕ) (t : ℤ) → Summable h v → i < responseLimit → t ≡ dot (take i h) (take i v) →
-    t +ℤ getD h i (pos 0) *ℤ getD v i (pos 0) ≡ dot (take (i + 1) h) (take (i + 1) v)
-sum-next h v i t s l e =
-    ap (λ (x : ℤ). x +ℤ getD h i (pos 0) *ℤ getD v i (pos 0)) e ∙ sym (dot-next i h v (omega (arith, s .h-long)) (omega (arith, s .v-long)))
-    ∙ ap (λ (j : ℕ). dot (take j h) (take j v)) (sym (add-one i))
-
 -- each partial sum is below 2^25
 pub sum-bound : (h v : List ℤ) (j : ℕ) → Summable h v → natAbs (dot (take j h) (take j v)) < 2 ^ 25
 sum-bound h v j s =
     omega (arith, dot-bound (2 ^ 15) (2 ^ 4) (take j h) (take j v) (each-take _ j h (s .h-small)) (each-take _ j v (s .v-small)), length-take j h, s .h-long)
-
-pub sum-all : (h v : List ℤ) (i : ℕ) → Summable h v → responseLimit ≤ i → dot (take i h) (take i v) ≡ dot h v
-sum-all h v i s l = ap₂ dot (take-all i h (omega (arith, s .h-long))) (take-all i v (omega (arith, s .v-long)))
 
 -- a row and a window
 pub row-summable : (taps line : List ℤ) (m n : ℕ) → RowsSummable taps line m → Summable (row taps n) (window line responseLimit n)

@@ -10,7 +10,7 @@ use lib.ListN.{length, take, drop, take-append-drop}
 use lib.IntN.{ℤ}
 use mir.Syntax.{w8, w16}
 use mir.Val.{toZ}
-use borrow.Author.Tests.{le-leb, lt-leb, leb-true, eq-eqb, ne-eqb, eqb-false}
+use borrow.Author.Tests.{le-leb, leb-true, eq-eqb, ne-eqb, eqb-false}
 use borrow.Rule.Slice.PartMut.{mid-len}
 use Rattle.steps.specs.Settings.{Settings}
 use Rattle.block.specs.Block.{values}
@@ -26,7 +26,6 @@ use Rattle.cable_trace.specs.declared.Simulated.{Simulated}
 use Rattle.cable_trace.proofs.CauseLaws.{too-long, cause-same, number-same, number-settings}
 use Rattle.description.specs.Description.{headerLength, responseIn, symbolsIn, trainingIn, symbolsPlace, wellDescribed, cableIn, malformedLine, refusalLine, cableOutput, described}
 use Rattle.description.specs.Calls.{traceEnd}
-use Rattle.description.specs.Answers.{Described}
 
 -- a part that begins at 0
 pub from-zero : {A : Type 0} (l : List A) (n : ℕ) → take (n - 0) l ≡ take n l
@@ -160,24 +159,3 @@ module _ (t : List ℕ) where
   pub output-described : wellDescribed t ≡ true → cableOutput (cableIn t) ≡ described t
   unfolding described
   output-described h = simp h
-
-module _ (t before : List ℕ) where
-  pub described-short : length before < traceLimit → Described t before (record { fits = false; length = 0 }) before
-  described-short h =
-      let e = lt-leb traceLimit (length before) h in
-      record {
-        fits = sym e;
-        output-length = sym (ap (λ (b : Bool). cond b (length (described t)) 0) e);
-        contents = sym (ap (λ (b : Bool). cond b (described t ++ drop (length (described t)) before) before) e);
-      }
-
-  pub described-fits : (count : ℕ) (after : List ℕ) → traceLimit ≤ length before → TextAt 0 (described t) before count after →
-      Described t before (record { fits = true; length = count }) after
-  described-fits count after h f =
-      let e = le-leb traceLimit (length before) h in
-      let none : 0 + length (described t) ≡ length (described t) = omega arith in
-      record {
-        fits = sym e;
-        output-length = f .end-is ∙ none ∙ sym (ap (λ (b : Bool). cond b (length (described t)) 0) e);
-        contents = f .contents ∙ ap (λ (n : ℕ). described t ++ drop n before) none ∙ sym (ap (λ (b : Bool). cond b (described t ++ drop (length (described t)) before) before) e);
-      }

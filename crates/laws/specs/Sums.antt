@@ -1,10 +1,12 @@
 -- The sum of the products of two lists, and facts that hold of each element.
 use mathlib.Core.Path.{_≡_, refl, sym, ap, ap₂, _∙_}
 use mathlib.Core.List.{List, [], _∷_, _++_, map}
-use Prim.Native.Nat.{ℕ, zero, suc, _*_, _≤_, _<_}
+use Prim.Native.Nat.{ℕ, zero, suc, _+_, _*_, _≤_, _<_}
 use native.Mathlib.Omega.{arith}
 use native.Mathlib.Nat.{le-of-suc-le-suc, not-suc-le-zero, mul-le-mul}
+use native.Mathlib.Numerals.{add-one}
 use lib.ListN.{length, getD, take, drop}
+use lib.Seq.{take-all}
 use lib.IntN.{ℤ, pos, natAbs, _+ℤ_, _*ℤ_, zero-*ℤ, +ℤ-idl, +ℤ-idr, +ℤ-assoc}
 use Rattle.laws.specs.Integers.{add-*ℤ, *ℤ-assoc, abs-mul, abs-add}
 
@@ -77,6 +79,15 @@ dot-next (suc i) (w ∷ ws) [] h k = absurd (not-suc-le-zero k)
 dot-next (suc i) (w ∷ ws) (a ∷ b) h k =
     ap (λ (x : ℤ). w *ℤ a +ℤ x) (dot-next i ws b (le-of-suc-le-suc h) (le-of-suc-le-suc k))
     ∙ sym (+ℤ-assoc (w *ℤ a) (dot (take i ws) (take i b)) (getD ws i (pos 0) *ℤ getD b i (pos 0)))
+
+-- the sum in a loop from the front: one pair more, and all of them
+pub dot-turn : (w a : List ℤ) (i : ℕ) (t : ℤ) → i < length w → i < length a → t ≡ dot (take i w) (take i a) →
+    t +ℤ getD w i (pos 0) *ℤ getD a i (pos 0) ≡ dot (take (i + 1) w) (take (i + 1) a)
+dot-turn w a i t h k e =
+    ap (λ (x : ℤ). x +ℤ getD w i (pos 0) *ℤ getD a i (pos 0)) e ∙ sym (dot-next i w a h k) ∙ ap (λ (j : ℕ). dot (take j w) (take j a)) (sym (add-one i))
+
+pub dot-all : (w a : List ℤ) (i : ℕ) → length w ≤ i → length a ≤ i → dot (take i w) (take i a) ≡ dot w a
+dot-all w a i h k = ap₂ dot (take-all i w h) (take-all i a k)
 
 -- the sum of n products of magnitudes at most s and t
 pub dot-bound : (s t : ℕ) (w a : List ℤ) → Each (λ (x : ℤ). natAbs x ≤ s) w → Each (λ (x : ℤ). natAbs x ≤ t) a → natAbs (dot w a) ≤ length w * (s * t)

@@ -4,17 +4,16 @@ use mathlib.Core.List.{List, [], _∷_, map}
 use Prim.Native.Nat.{ℕ, zero, suc, _+_, _*_, _^_, _≤_, _<_}
 use native.Mathlib.Omega.{arith}
 use native.Mathlib.Nat.{le-of-lt, le-of-suc-le-suc, not-suc-le-zero, lt-of-le-of-lt, lt-of-lt-of-le, mul-le-mul-left, mul-le-mul-right, min-le-right}
-use native.Mathlib.Numerals.{add-one}
 use lib.Bits.{bitOr}
 use lib.ListN.{length, getD, take, set, length-take, length-map, List·getD-map}
-use lib.Seq.{take-all, length-take-le, getD-take}
+use lib.Seq.{length-take-le, getD-take}
 use lib.IntN.{ℤ, pos, natAbs, _+ℤ_, _*ℤ_}
 use mir.Syntax.{w16, w32, w64}
 use mir.Val.{SFits}
 use mir.Facts.{sfits-widen}
 use Rattle.laws.specs.Integers.{*ℤ-assoc}
 use Rattle.laws.specs.Lists.{Written, written-none, written-next, written-all}
-use Rattle.laws.specs.Sums.{dot, dot-next, dot-bound, Each, each-at, each-take, each-weaken}
+use Rattle.laws.specs.Sums.{dot, dot-bound, Each, each-at, each-take, each-weaken}
 use Rattle.laws.specs.Powers.{rises}
 use Rattle.numbers.specs.Cut.{cut, raise, rescale}
 use Rattle.numbers.proofs.BitLengthLaws.{bit-length-le}
@@ -34,16 +33,6 @@ pub fits-64 : {z : ℤ} → SFits w16 z → SFits w64 z
 fits-64 f = sfits-widen tt f
 
 -- ---- the sum of the first products
-
-pub sum-all : (w a : List ℤ) (i : ℕ) → Summable w a → length w ≤ i → dot (take i w) (take i a) ≡ dot w a
-sum-all w a i s h = ap₂ dot (take-all i w h) (take-all i a (omega (arith, s .same-length)))
-
-pub sum-next : (w a : List ℤ) (i : ℕ) (t : ℤ) → Summable w a → i < length w → t ≡ dot (take i w) (take i a) →
-    t +ℤ getD w i (pos 0) *ℤ getD a i (pos 0) ≡ dot (take (i + 1) w) (take (i + 1) a)
-sum-next w a i t s h e =
-    ap (λ (x : ℤ). x +ℤ getD w i (pos 0) *ℤ getD a i (pos 0)) e
-    ∙ sym (dot-next i w a h (omega (arith, s .same-length)))
-    ∙ ap (λ (j : ℕ). dot (take j w) (take j a)) (sym (add-one i))
 
 -- each partial sum fits 32 bits
 pub sum-bound : (w a : List ℤ) (j : ℕ) → Summable w a → natAbs (dot (take j w) (take j a)) < 2 ^ 31

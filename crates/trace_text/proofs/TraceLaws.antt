@@ -1,11 +1,11 @@
 -- The text of a whole trace, in its four cases.
 use mathlib.Core.Path.{_≡_, sym, ap, _∙_}
 use mathlib.Core.Bool.{Bool, true, false, cond}
-use mathlib.Core.List.{List, _++_}
-use Prim.Native.Nat.{ℕ, _+_, _≤_, _<_}
+use mathlib.Core.List.{List}
+use Prim.Native.Nat.{ℕ, _≤_}
 use native.Mathlib.Omega.{arith}
-use lib.ListN.{length, drop}
-use borrow.Author.Tests.{le-leb, lt-leb, eq-eqb, ne-eqb}
+use lib.ListN.{length}
+use borrow.Author.Tests.{eq-eqb, ne-eqb}
 use Rattle.steps.specs.Settings.{Settings}
 use Rattle.state.specs.Sizes.{settingsNumber}
 use Rattle.state.specs.State.{fresh, refused}
@@ -16,31 +16,7 @@ use Rattle.state.proofs.SizesLaws.{settings-tests, fit-within}
 use Rattle.state.proofs.NumberLaws.{fresh-settings}
 use Rattle.trace_text.specs.Trace.{settingsIn, countIn, wellFormed}
 use Rattle.trace_text.specs.Text.{stopLine, textFrom, traceText, textLimit}
-use Rattle.trace_text.specs.TextAt.{TextAt}
-use Rattle.trace_text.specs.Calls.{Traceable, Text-is}
-
--- ---- the answer, from the text at the front of the bytes
-
-module _ (t before : List ℕ) where
-  pub text-short : length before < textLimit → Text-is t before (record { fits = false; length = 0 }) before
-  text-short h =
-      let e = lt-leb textLimit (length before) h in
-      record {
-        fits = sym e;
-        text-length = sym (ap (λ (b : Bool). cond b (length (traceText t)) 0) e);
-        contents = sym (ap (λ (b : Bool). cond b (traceText t ++ drop (length (traceText t)) before) before) e);
-      }
-
-  pub text-fits : (count : ℕ) (after : List ℕ) → textLimit ≤ length before → TextAt 0 (traceText t) before count after →
-      Text-is t before (record { fits = true; length = count }) after
-  text-fits count after h f =
-      let e = le-leb textLimit (length before) h in
-      let none : 0 + length (traceText t) ≡ length (traceText t) = omega arith in
-      record {
-        fits = sym e;
-        text-length = f .end-is ∙ none ∙ sym (ap (λ (b : Bool). cond b (length (traceText t)) 0) e);
-        contents = f .contents ∙ ap (λ (n : ℕ). traceText t ++ drop n before) none ∙ sym (ap (λ (b : Bool). cond b (traceText t ++ drop (length (traceText t)) before) before) e);
-      }
+use Rattle.trace_text.specs.Calls.{Traceable}
 
 -- ---- the text, case by case
 

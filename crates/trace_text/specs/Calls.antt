@@ -1,10 +1,9 @@
 -- What the functions that write text ask and promise.
-use mathlib.Core.Bool.{true, cond}
-use mathlib.Core.List.{List, _++_}
+use mathlib.Core.Bool.{true}
+use mathlib.Core.List.{List}
 use mathlib.Core.Path.{_≡_}
 use Prim.Native.Nat.{ℕ, _+_, _*_, _^_, _≤_, _<_}
-use lib.Dec.{leb}
-use lib.ListN.{length, getD, drop}
+use lib.ListN.{length, getD}
 use lib.IntN.{ℤ, pos, natAbs}
 use Rattle.steps.specs.Limits.{blockLimit, symbolLimit, outputExponentLimit}
 use Rattle.block.specs.Block.{handedY, handedξ, handedDecision}
@@ -15,7 +14,7 @@ use Rattle.checks.specs.Checks.{Lent, block}
 use Rattle.station.specs.Answers.{runNumber, runState, accepted}
 use Rattle.trace_text.specs.Trace.{traceLimit, settingsIn, countIn, samplesIn, wellFormed, samplesFrom, gainsFrom, entriesFrom, lentAt}
 use Rattle.trace_text.specs.Text.{blockText, traceText, lineLimit, textLimit}
-use Rattle.trace_text.specs.TextAt.{TextAt}
+use Rattle.trace_text.specs.TextAt.{TextAt, TextFront}
 use Rattle.trace_text.specs.declared.blocks.Added.{Added}
 use Rattle.trace_text.specs.declared.Written.{Written}
 
@@ -86,8 +85,6 @@ pub record Traceable (t : List ℕ) (e : Equaliser) (out : List ℕ) : Type 0 wh
   pub trace : OfTrace t e
   pub room : textLimit ≤ length out
 
--- the text at the front of lent bytes that have room for any text; else they are as they were
-pub record Text-is (t before : List ℕ) (r : Written) (after : List ℕ) : Type 0 where
-  pub fits : r .fits ≡ leb textLimit (length before)
-  pub text-length : r .length ≡ cond (leb textLimit (length before)) (length (traceText t)) 0
-  pub contents : after ≡ cond (leb textLimit (length before)) (traceText t ++ drop (length (traceText t)) before) before
+-- the text, at the front of lent bytes that have room for any text
+abbrev pub Text-is : List ℕ → List ℕ → Written → List ℕ → Type 0
+Text-is t = TextFront textLimit (traceText t)

@@ -2,20 +2,20 @@
 use mathlib.Core.Path.{sym, _∙_}
 use borrow.Author.Needs.{needs}
 use borrow.Author.Tests.{not-true, not-false}
-use Rattle.trace_text.proofs.TextAtLaws.{text-same}
-use Rattle.description.proofs.WriteLaws.{malformed-described, output-described, described-short, described-fits}
+use Rattle.trace_text.proofs.TextAtLaws.{text-same, front-short, front-fits}
+use Rattle.description.proofs.WriteLaws.{malformed-described, output-described}
 use Rattle.description.proofs.described.Statement.{statement}
 use Rattle.description.proofs.described.Tie as tie
 
 returns : tie.Need-returns
-returns c = described-short _ _ (c .if1 .taken)
+returns c = front-short _ _ _ (c .if1 .taken)
 
 returns-2 : tie.Need-returns-2
 returns-2 c =
     let m = c .before .before in
     let i = m .before .before in
     let w = i .before in
-    described-fits _ _ _ _ (w .before .if1 .left) (text-same (malformed-described _ (sym (w .well-described .ensures) ∙ not-true _ (i .if2 .taken))) (m .malformed .ensures))
+    front-fits _ _ _ _ _ (w .before .if1 .left) (text-same (malformed-described _ (sym (w .well-described .ensures) ∙ not-true _ (i .if2 .taken))) (m .malformed .ensures))
 
 write-requires : tie.Need-write-requires
 write-requires c κs =
@@ -28,7 +28,7 @@ returns-3 c =
     let m = c .before .before in
     let i = m .before .before in
     let w = i .before in
-    described-fits _ _ _ _ (w .before .if1 .left) (text-same (output-described _ (sym (w .well-described .ensures) ∙ not-false _ (i .if2 .left))) (m .write .ensures))
+    front-fits _ _ _ _ _ (w .before .if1 .left) (text-same (output-described _ (sym (w .well-described .ensures) ∙ not-false _ (i .if2 .left))) (m .write .ensures))
 
 pub described-spec : {M : Type 1} → statement M
 described-spec =

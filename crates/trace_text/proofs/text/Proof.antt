@@ -13,8 +13,8 @@ use Rattle.state.proofs.NumberLaws.{settings-most}
 use Rattle.trace_text.specs.Trace.{headerLength, settingsIn, wellFormed}
 use Rattle.trace_text.specs.Text.{textLimit}
 use Rattle.trace_text.proofs.ReadLaws.{well-long}
-use Rattle.trace_text.proofs.TextAtLaws.{text-same}
-use Rattle.trace_text.proofs.TraceLaws.{text-short, text-fits, not-well-formed, refused-text, accepted-text, traceable}
+use Rattle.trace_text.proofs.TextAtLaws.{text-same, front-short, front-fits}
+use Rattle.trace_text.proofs.TraceLaws.{not-well-formed, refused-text, accepted-text, traceable}
 use Rattle.trace_text.proofs.text.Statement.{statement}
 use Rattle.trace_text.proofs.text.Tie as tie
 
@@ -26,7 +26,7 @@ bytes c = c .before .before .before .args .trace .now
 -- ---- little room
 
 returns : tie.Need-returns
-returns c = text-short _ _ (c .if1 .taken)
+returns c = front-short _ _ _ (c .if1 .taken)
 
 -- ---- not well formed
 
@@ -35,7 +35,7 @@ returns-2 c =
     let s = c .before .before in
     let w = s .before .before .before in
     let refused = sym (w .well-formed .ensures) ∙ not-true _ (s .before .before .if2 .taken) in
-    text-fits _ _ _ _ (w .before .if1 .left) (text-same (not-well-formed _ refused) (s .stop-line .ensures))
+    front-fits _ _ _ _ _ (w .before .if1 .left) (text-same (not-well-formed _ refused) (s .stop-line .ensures))
 
 -- ---- the header
 
@@ -95,7 +95,7 @@ returns-3 : tie.Need-returns-3
 returns-3 c =
     let l = c .before .before in
     let s = l .before .before .before in
-    text-fits _ _ _ _ (room s) (text-same (refused-text _ (well (head s)) _ (set-up s) (l .before .before .if3 .taken)) (l .stop-line2 .ensures))
+    front-fits _ _ _ _ _ (room s) (text-same (refused-text _ (well (head s)) _ (set-up s) (l .before .before .if3 .taken)) (l .stop-line2 .ensures))
 
 -- ---- the blocks
 
@@ -109,7 +109,7 @@ returns-4 c =
     let b = c .before .before in
     let f = b .before .before .before in
     let s = f .before in
-    text-fits _ _ _ _ (room s) (text-same (accepted-text _ (well (head s)) _ (set-up s) (f .if3 .left)) (b .all-blocks .ensures))
+    front-fits _ _ _ _ _ (room s) (text-same (accepted-text _ (well (head s)) _ (set-up s) (f .if3 .left)) (b .all-blocks .ensures))
 
 pub text-spec : {M : Type 1} → statement M
 text-spec =

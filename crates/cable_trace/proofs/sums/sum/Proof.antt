@@ -7,10 +7,10 @@ use lib.IntN.{ℤ, pos, natAbs, _+ℤ_, _*ℤ_}
 use mir.Syntax.{w16, w32}
 use mir.Val.{toZ, ofZ}
 use borrow.Author.Needs.{needs}
-use Rattle.laws.specs.Sums.{dot, dot-none}
+use Rattle.laws.specs.Sums.{dot, dot-none, dot-turn, dot-all}
 use Rattle.laws.specs.Machine.{kept}
 use Rattle.cable_trace.specs.Limits.{responseLimit}
-use Rattle.cable_trace.proofs.RowLaws.{sum-next, sum-bound, sum-all}
+use Rattle.cable_trace.proofs.RowLaws.{sum-bound}
 use Rattle.cable_trace.proofs.sums.sum.Statement.{statement}
 use Rattle.cable_trace.proofs.sums.sum.Tie as tie
 
@@ -30,7 +30,7 @@ step c =
     let l = c .before .before .before .loop in
     let s = c .before .before .before .before in
     simp (kept w16 (getD (s .args .h .now) (l .i) (pos 0)) (c .before .mac-arg .given), kept w16 (getD (s .args .v .now) (l .i) (pos 0)) (c .mac-arg2 .given))
-    (sum-next (s .args .h .now) (s .args .v .now) (l .i) (toZ w32 (l .sum)) (s .pre) (c .before .before .loop-test .taken) (l .inv))
+    (dot-turn (s .args .h .now) (s .args .v .now) (l .i) (toZ w32 (l .sum)) (omega (arith, s .pre .h-long, c .before .before .loop-test .taken)) (omega (arith, s .pre .v-long, c .before .before .loop-test .taken)) (l .inv))
 
 mac-requires : tie.Need-mac-requires Inv-loop μ-loop
 mac-requires c κs =
@@ -43,7 +43,7 @@ loop-again c = kept w32 (c .mac .result) (c .mac .ok) ∙ c .mac .ensures ∙ st
 returns : tie.Need-returns Inv-loop μ-loop
 returns c =
     let s = c .before .before in
-    c .before .loop .inv ∙ sum-all (s .args .h .now) (s .args .v .now) (c .before .loop .i) (s .pre) (c .loop-test .left)
+    c .before .loop .inv ∙ dot-all (s .args .h .now) (s .args .v .now) (c .before .loop .i) (omega (arith, s .pre .h-long, c .loop-test .left)) (omega (arith, s .pre .v-long, c .loop-test .left))
 
 pub sum-spec : {M : Type 1} → statement M
 sum-spec =

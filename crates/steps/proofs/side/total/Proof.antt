@@ -7,9 +7,9 @@ use lib.IntN.{ℤ, pos, natAbs, _+ℤ_, _*ℤ_}
 use mir.Syntax.{w16, w32}
 use mir.Val.{toZ, ofZ}
 use borrow.Author.Needs.{needs}
-use Rattle.laws.specs.Sums.{dot, dot-none}
+use Rattle.laws.specs.Sums.{dot, dot-none, dot-turn, dot-all}
 use Rattle.laws.specs.Machine.{kept}
-use Rattle.steps.proofs.SideLaws.{sum-next, sum-bound, sum-all}
+use Rattle.steps.proofs.SideLaws.{sum-bound}
 use Rattle.steps.proofs.side.total.Statement.{statement}
 use Rattle.steps.proofs.side.total.Tie as tie
 
@@ -31,7 +31,7 @@ step c =
     let l = c .before .before .before .loop in
     let s = c .before .before .before .before in
     simp (kept w16 (getD (s .args .w .now) (l .i) (pos 0)) (c .before .mac-arg .given), kept w16 (getD (s .args .a .now) (l .i) (pos 0)) (c .mac-arg2 .given))
-    (sum-next (s .args .w .now) (s .args .a .now) (l .i) (toZ w32 (l .total)) (s .pre) (c .before .before .loop-test .taken) (l .inv))
+    (dot-turn (s .args .w .now) (s .args .a .now) (l .i) (toZ w32 (l .total)) (c .before .before .loop-test .taken) (omega (arith, s .pre .same-length, c .before .before .loop-test .taken)) (l .inv))
 
 mac-requires : tie.Need-mac-requires Inv-loop μ-loop
 mac-requires c κs =
@@ -43,8 +43,8 @@ loop-again c = kept w32 (c .mac .result) (c .mac .ok) ∙ c .mac .ensures ∙ st
 
 returns : tie.Need-returns Inv-loop μ-loop
 returns c =
-    c .before .loop .inv
-    ∙ sum-all (c .before .before .args .w .now) (c .before .before .args .a .now) (c .before .loop .i) (c .before .before .pre) (c .loop-test .left)
+    let s = c .before .before in
+    c .before .loop .inv ∙ dot-all (s .args .w .now) (s .args .a .now) (c .before .loop .i) (c .loop-test .left) (omega (arith, s .pre .same-length, c .loop-test .left))
 
 pub total-spec : {M : Type 1} → statement M
 total-spec =
