@@ -13,7 +13,7 @@ use mir.Val.{ofZ}
 use Rattle.steps.specs.Limits.{symbolLimit, gainLimit}
 use Rattle.steps.specs.Settings.{Settings}
 use Rattle.block.specs.Block.{values}
-use Rattle.cable_trace.specs.Limits.{responseLimit, tapsLength, sentLimit, lineLength, zerosLength}
+use Rattle.cable_trace.specs.Limits.{responseLimit, tapsLength, sentLimit, lineLength, scalePlaces, zerosLength}
 use Rattle.state.specs.Sizes.{settingsNumber}
 use Rattle.trace_text.specs.Trace.{headerLength}
 use Rattle.cable_trace.specs.Cable.{Cable, s, hasGain, sampleCount, traceHeader, sampleBytes, joined, cableTrace, gainFits, listCause}
@@ -89,9 +89,9 @@ pub record Gainable (r : ℕ) (s : ℤ) : Type 0 where
 abbrev pub gainOf : ℕ → ℕ → ℕ
 gainOf r bits = cond (leb bits r) gainLimit (15 + r - bits)
 
--- what makes of s, by its gain, 2^7 times the sample before its cut
+-- by its gain: s times it is the sample before its cut by scalePlaces
 abbrev pub scaleOf : ℕ → ℕ → ℤ
-scaleOf r g = pos (2 ^ (7 + g - r))
+scaleOf r g = pos (2 ^ (scalePlaces + g - r))
 
 -- gains and scales by the leading zeros of |s| in 32 bits
 abbrev pub gainsOf : ℕ → List ℕ

@@ -24,6 +24,10 @@ sentLimit = (traceLimit - headerLength) / 4
 abbrev pub lineLength : ℕ
 lineLength = sentLimit + responseLimit
 
+-- places by which a sample is cut in the code
+abbrev pub scalePlaces : ℕ
+scalePlaces = 7
+
 -- counts of leading zeros in 32 bits
 abbrev pub zerosLength : ℕ
 zerosLength = 33

@@ -16,5 +16,8 @@ pub const SENT: usize = (limits::TRACE - limits::HEADER) / 4;
 // Places of a line: those of the symbols, and what was there before the first.
 pub const LINE: usize = SENT + RESPONSE;
 
+// Places by which a sample is cut.
+pub const SCALE: u32 = 7;
+
 // Counts of leading zeros in 32 bits.
 pub const ZEROS: usize = 33;

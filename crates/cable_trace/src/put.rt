@@ -18,6 +18,7 @@ ghost use Rattle.cable_trace.specs.Cable.{gain, sample, sampleBytes, joi
 ghost use Rattle.cable_trace.specs.Calls.{Gainable, gainOf, scaleOf, Tables, Puttable, traceBytes};
 use super::limits;
 use state::equaliser::Equaliser;
+use steps::limits::GAIN;
 use steps::limits::PLACES;
 use trace_text::limits::HEADER;
 
@@ -27,17 +28,17 @@ fn gain(r: u32, bits: u32) -> u32
     ensures { λ g. ⌜ g ≡ gainOf r bits ⌝ }
 {
     if bits <= r {
-        return 15;
+        return GAIN;
     }
     if bits <= 15 + r { 15 + r - bits } else { 0 }
 }
 
-// 2^(7 + g − r).
+// 2^(SCALE + g − r).
 fn scale(r: u32, g: u32) -> i32
     requires { ⌜ (r ≤ symbolLimit) × (g ≤ gainLimit) ⌝ }
     ensures { λ k. ⌜ k ≡ scaleOf r g ⌝ }
 {
-    numbers::cut::raise32(1, 7 + g - r)
+    numbers::cut::raise32(1, limits::SCALE + g - r)
 }
 
 // Gains and scales by leading zeros.
@@ -59,7 +60,7 @@ fn sample(r: u32, s: i32, by: i32) -> i16
     requires { ⌜ (Gainable r s) × (by ≡ scaleOf r (gain r s)) ⌝ }
     ensures { λ m. ⌜ m ≡ sample r s ⌝ }
 {
-    numbers::cut::cut32(s * by, 7) as i16
+    numbers::cut::cut32(s * by, limits::SCALE) as i16
 }
 
 // The bytes of a sample.

@@ -2,12 +2,16 @@
 use mathlib.Core.Path.{_≡_}
 use mathlib.Core.Bool.{true, cond}
 use mathlib.Core.List.{List}
-use Prim.Native.Nat.{ℕ, _+_, _*_, _≤_}
+use Prim.Native.Nat.{ℕ, _+_, _*_, _/_, _≤_}
 use lib.Dec.{leb}
 use lib.ListN.{length}
 use Rattle.trace_text.specs.Trace.{traceLimit}
 use Rattle.trace_text.specs.Trace as Trace
-use Rattle.description.specs.Description.{wellDescribed}
+use Rattle.description.specs.Description.{descriptionLimit, wellDescribed}
+
+-- no description has as many values of a response
+abbrev pub responseRoom : ℕ
+responseRoom = descriptionLimit / 2
 
 -- a description and one of its counts
 pub record Counted (t : List ℕ) (count n : ℕ) : Type 0 where

@@ -6,7 +6,7 @@ ghost use lib.ListN.{length, take};
 ghost use Rattle.trace_text.specs.TextAt.{TextAt};
 ghost use Rattle.cable_trace.specs.Answers.{Simulation};
 ghost use Rattle.description.specs.Description.{descriptionLimit, responseIn, symbolsIn, wellDescribed, cableIn, cableOutput};
-ghost use Rattle.description.specs.Calls.{traceEnd, Counted, Describable};
+ghost use Rattle.description.specs.Calls.{responseRoom, traceEnd, Counted, Describable};
 use super::limits::DESCRIPTION;
 use super::limits::RESPONSE;
 use super::read;
@@ -15,7 +15,7 @@ use trace_text::limits::HEADER;
 use trace_text::limits::TRACE;
 
 fn response_room() -> [i16; RESPONSE]
-    ensures { λ r. ⌜ length r ≡ 32768 ⌝ }
+    ensures { λ r. ⌜ length r ≡ responseRoom ⌝ }
 {
     [0; RESPONSE]
 }
