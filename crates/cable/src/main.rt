@@ -1,13 +1,6 @@
 // Reads a description of a cable from standard input and writes its trace to standard output.
 use description::limits::DESCRIPTION;
-use libc::STDOUT_FILENO;
 use trace_text::limits::TRACE;
-
-fn write_front(out: &[u8], length: usize) {
-    if length <= out.len() {
-        streams::written(io::write_all(STDOUT_FILENO, &out[0..length]), b"cable");
-    }
-}
 
 // One byte more than a description may have, so that an oversize one is seen.
 fn run() {
@@ -19,7 +12,7 @@ fn run() {
     }
     let w = description::described(&input[..n], &mut out);
     if w.fits {
-        write_front(&out, w.length);
+        streams::write_front(&out, w.length, b"cable");
     }
 }
 

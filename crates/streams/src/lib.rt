@@ -1,6 +1,7 @@
 // Standard input and output of a program, whole or with a line on standard error that says what went wrong.
 ghost use mathlib.Core.Path.{_≡_};
-ghost use lib.Dec.{ltb};
+ghost use lib.Dec.{leb, ltb};
+ghost use lib.ListN.{length};
 ghost use lib.IntN.{pos};
 ghost use lib.Signed.{ltZ};
 ghost use Rattle.io.specs.Counts.{Counts};
@@ -54,6 +55,17 @@ pub fn written(whole: bool, program: &[u8]) -> bool
         tell(program, b"standard output can't be written whole");
     }
     whole
+}
+
+// Writes the front of some bytes to standard output, and answers whether there are as many.
+pub fn write_front(bytes: &[u8], count: usize, program: &[u8]) -> bool
+    ensures { λ r. ⌜ r ≡ leb count (length (now (bytes .entry))) ⌝ }
+{
+    if bytes.len() < count {
+        return false;
+    }
+    written(io::write_all(STDOUT_FILENO, &bytes[0..count]), program);
+    true
 }
 
 // Whether a program has no argument, by the count that its own name is part of. Where it has, its usage is told: on standard

@@ -1,13 +1,6 @@
 // Reads a trace from standard input and writes its text to standard output.
-use libc::STDOUT_FILENO;
 use trace_text::limits::TEXT;
 use trace_text::limits::TRACE;
-
-fn write_front(out: &[u8], length: usize) {
-    if length <= out.len() {
-        streams::written(io::write_all(STDOUT_FILENO, &out[0..length]), b"trace");
-    }
-}
 
 // One byte more than a trace may have, so that an oversize one is seen, and room for the longest text.
 fn run() {
@@ -19,7 +12,7 @@ fn run() {
     }
     let t = trace_text::text(&input[..n], &mut out);
     if t.fits {
-        write_front(&out, t.length);
+        streams::write_front(&out, t.length, b"trace");
     }
 }
 
