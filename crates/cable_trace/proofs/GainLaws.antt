@@ -7,26 +7,24 @@ use Prim.Native.Nat.{ℕ, zero, suc, _+_, _*_, _-_, _^_, _≤_, _<_}
 use native.Mathlib.Omega.{arith}
 use native.Mathlib.Nat.{eq-or-lt-of-le, mul-le-mul-left, lt-of-le-of-lt}
 use lib.Dec.{T, leb, ltb}
-use lib.ListN.{length, getD}
-use lib.IntN.{ℤ, pos, natAbs, _*ℤ_}
+use lib.IntN.{ℤ, natAbs}
 use borrow.Author.Tests.{lt-ltb, le-ltb, le-leb, ltb-true, ltb-false, leb-true, leb-false}
 use Rattle.laws.specs.Lists.{all, and-left, and-right}
-use Rattle.laws.specs.Powers.{split, rises, lower, raise}
+use Rattle.laws.specs.Powers.{rises, lower}
+use Rattle.laws.specs.Powers as Powers
 use Rattle.laws.specs.Sums.{Each}
 use Rattle.laws.specs.Tests.{both, each-tested}
 use Rattle.numbers.specs.BitLength.{bitLength}
-use Rattle.numbers.specs.Cut.{cut, rescale}
-use Rattle.numbers.proofs.BitLengthLaws.{bit-length-above, bit-length-le}
-use Rattle.numbers.proofs.CutLaws.{raise-abs, rescale-most, rescale-shifts}
+use Rattle.numbers.specs.Cut.{raise, rescale}
+use Rattle.numbers.proofs.BitLengthLaws.{bit-length-above, bit-length-zero, bit-length-le, bit-length-lt}
+use Rattle.numbers.proofs.CutLaws.{rescale-most, rescale-up, rescale-shifts}
 use Rattle.steps.specs.Limits.{symbolLimit, gainLimit}
 use Rattle.steps.specs.Settings.{Settings}
 use Rattle.steps.specs.Side.{magnitudes, together}
 use Rattle.steps.proofs.LargestLaws.{together-longest}
 use Rattle.steps.proofs.LongestTests.{by-longest}
-use Rattle.block.proofs.ValuesLaws.{values-length, values-at}
-use Rattle.cable_trace.specs.Limits.{zerosLength}
 use Rattle.cable_trace.specs.Cable.{takesGain, greatest, gain, hasGain, sample, gainFits}
-use Rattle.cable_trace.specs.Calls.{Gainable, gainOf, scaleOf, Tables}
+use Rattle.cable_trace.specs.Calls.{Gainable, gainOf, leading}
 
 -- ---- the greatest number that passes
 
@@ -89,14 +87,14 @@ module _ (r : ℕ) (s : ℤ) where
 
   -- no more digits than r: the largest there is
   pub gain-few : bitLength (natAbs s) ≤ r → 15 ≡ gain r s
-  gain-few h = sym (gain-is 15 (omega arith) (raise (natAbs s) (15 + r) r 15 (omega arith) below) (λ j l m. absurd (omega arith)))
+  gain-few h = sym (gain-is 15 (omega arith) (Powers.raise (natAbs s) (15 + r) r 15 (omega arith) below) (λ j l m. absurd (omega arith)))
     where
       below : natAbs s < 2 ^ r
       below = omega (arith, bit-length-above (natAbs s), rises h)
 
   -- a bit length is the least power that s is below
   pub gain-many : r < bitLength (natAbs s) → bitLength (natAbs s) ≤ 15 + r → 15 + r - bitLength (natAbs s) ≡ gain r s
-  gain-many h k = sym (gain-is (15 + r - n) (omega arith) (raise (natAbs s) (15 + r) n (15 + r - n) (omega arith) (bit-length-above (natAbs s))) larger)
+  gain-many h k = sym (gain-is (15 + r - n) (omega arith) (Powers.raise (natAbs s) (15 + r) n (15 + r - n) (omega arith) (bit-length-above (natAbs s))) larger)
     where
       n : ℕ
       n = bitLength (natAbs s)
@@ -120,25 +118,25 @@ module _ (r : ℕ) (s : ℤ) where
   sample-small e =
       lower (natAbs (rescale s (gain r s) r)) (15 + r) 15 r (omega arith) (lt-of-le-of-lt (rescale-most s (gain r s) r) (ltb-true _ _ e))
 
--- ---- by tables
+-- ---- by the bit length of |s|
 
-pub gain-of-most : (r bits : ℕ) → gainOf r bits ≤ gainLimit
-gain-of-most r bits = go (leb bits r) refl
+pub bits-some : (s : ℤ) → 0 < bitLength (natAbs s) → 0 < natAbs s
+bits-some s h = go (natAbs s) h
   where
-    go : (b : Bool) → leb bits r ≡ b → cond b gainLimit (15 + r - bits) ≤ gainLimit
-    go true e = omega arith
-    go false e = omega (arith, leb-false bits r e)
-
-scaled-below : (a k r g top : ℕ) → k * r ≡ 128 * g → a * g < top → a * k * r < 128 * top
-scaled-below a k r g top e h = omega (arith, ap (λ (n : ℕ). a * n) e)
-
-pub tables-long : (r : ℕ) (gains : List ℕ) (scales : List ℤ) → Tables r gains scales → (length gains ≡ zerosLength) × (length scales ≡ zerosLength)
-tables-long r gains scales t = (ap length (t .gains-are) ∙ values-length _ _, ap length (t .scales-are) ∙ values-length _ _)
-
-pub bits-most : (r : ℕ) (s : ℤ) → Gainable r s → bitLength (natAbs s) ≤ 18
-bits-most r s h = omega (arith, gain-bits r s (h .has), h .r-most)
+    go : (n : ℕ) → 0 < bitLength n → 0 < n
+    go zero l = absurd (omega (arith, bit-length-zero))
+    go (suc n) l = omega arith
 
 module _ (r : ℕ) (s : ℤ) (h : Gainable r s) where
+  pub bits-most : bitLength (natAbs s) ≤ 18
+  bits-most = omega (arith, gain-bits r s (h .has), h .r-most)
+
+  pub small : natAbs s < 2 ^ 24
+  small = omega (arith, bit-length-lt (natAbs s) 18 bits-most)
+
+  pub few-small : bitLength (natAbs s) ≤ r → natAbs s * 2 ^ (15 - r) < 2 ^ 31
+  few-small few = omega (arith, Powers.raise (natAbs s) 15 r (15 - r) (omega (arith, h .r-most)) (bit-length-lt (natAbs s) r few))
+
   pub gain-of : gainOf r (bitLength (natAbs s)) ≡ gain r s
   gain-of = go (leb (bitLength (natAbs s)) r) refl
     where
@@ -146,35 +144,20 @@ module _ (r : ℕ) (s : ℤ) (h : Gainable r s) where
       go true e = gain-few r s (leb-true (bitLength (natAbs s)) r e)
       go false e = gain-many r s (leb-false (bitLength (natAbs s)) r e) (gain-bits r s (h .has))
 
-  -- back from the leading zeros
-  same-bits : gainOf r (32 - (32 - bitLength (natAbs s))) ≡ gain r s
-  same-bits = let e : 32 - (32 - bitLength (natAbs s)) ≡ bitLength (natAbs s) = omega (arith, bits-most r s h) in ap (gainOf r) e ∙ gain-of
-
-  module _ (gains : List ℕ) (scales : List ℤ) (t : Tables r gains scales) where
-    pub gain-found : getD gains (32 - bitLength (natAbs s)) 0 ≡ gain r s
-    gain-found = ap (λ (l : List ℕ). getD l (32 - bitLength (natAbs s)) 0) (t .gains-are) ∙ values-at (λ z. gainOf r (32 - z)) 0 zerosLength _ (omega arith) ∙ same-bits
-
-    pub scale-found : getD scales (32 - bitLength (natAbs s)) (pos 0) ≡ scaleOf r (gain r s)
-    scale-found =
-        ap (λ (l : List ℤ). getD l (32 - bitLength (natAbs s)) (pos 0)) (t .scales-are) ∙ values-at (λ z. scaleOf r (gainOf r (32 - z))) (pos 0) zerosLength _ (omega arith)
-        ∙ ap (scaleOf r) same-bits
-
-  pub scaled-sample : cut (s *ℤ scaleOf r (gain r s)) 7 ≡ sample r s
+  -- no more digits than r: nothing is cut
+  pub sample-few : bitLength (natAbs s) ≤ r → sample r s ≡ raise s (15 - r)
   unfolding sample
-  scaled-sample =
-      let g = gain r s in
-      let up : 7 + g - r - 7 ≡ g - r = omega (arith, h .r-most) in
-      let down : 7 - (7 + g - r) ≡ r - g = omega (arith, h .r-most) in
-      rescale-shifts s (7 + g - r) 7 ∙ ap₂ (rescale s) up down ∙ sym (rescale-shifts s g r)
+  sample-few few = ap (λ (g : ℕ). rescale s g r) (sym (gain-few r s few)) ∙ rescale-up s 15 r (15 - r) (omega (arith, h .r-most))
 
-  pub scaled-small : natAbs (s *ℤ scaleOf r (gain r s)) < 2 ^ 22
-  scaled-small =
-      let g = gain r s in
-      let k = 7 + g - r in
-      let e : 2 ^ k * 2 ^ r ≡ 2 ^ 7 * 2 ^ g = sym (split (7 + g) k r (omega (arith, h .r-most))) ∙ split (7 + g) 7 g (omega arith) in
-      rw (raise-abs s k)
-      (lower (natAbs s * 2 ^ k) (22 + r) 22 r (omega arith)
-      (omega (arith, split (22 + r) 7 (15 + r) (omega arith), scaled-below (natAbs s) (2 ^ k) (2 ^ r) (2 ^ g) (2 ^ (15 + r)) e (ltb-true (natAbs s * 2 ^ g) (2 ^ (15 + r)) (h .has)))))
+  -- more digits: the first 15
+  pub sample-many : r < bitLength (natAbs s) → sample r s ≡ leading s
+  unfolding sample
+  sample-many many =
+      let n = bitLength (natAbs s) in
+      let up : 15 + r - n - r ≡ 24 - n - 9 = omega (arith, gain-bits r s (h .has)) in
+      let down : r - (15 + r - n) ≡ 9 - (24 - n) = omega (arith, gain-bits r s (h .has), bits-most) in
+      ap (λ (g : ℕ). rescale s g r) (sym (gain-many r s many (gain-bits r s (h .has))))
+      ∙ rescale-shifts s (15 + r - n) r ∙ ap₂ (rescale s) up down ∙ sym (rescale-shifts s (24 - n) 9)
 
 -- ---- the gains of a list
 
@@ -187,7 +170,7 @@ module _ (k : Settings) (L-most : k .L ≤ gainLimit) where
 
   below-fits : (s : ℤ) → natAbs s < 2 ^ (15 + k .r - k .L) → gainFits k s ≡ true
   below-fits s h =
-      let t = gain-largest (k .r) s (k .L) L-most (lt-ltb _ _ (raise (natAbs s) (15 + k .r) (15 + k .r - k .L) (k .L) (omega arith) h)) in
+      let t = gain-largest (k .r) s (k .L) L-most (lt-ltb _ _ (Powers.raise (natAbs s) (15 + k .r) (15 + k .r - k .L) (k .L) (omega arith) h)) in
       both (hasGain (k .r) s) (leb (k .L) (gain (k .r) s)) (t .0) (le-leb (k .L) (gain (k .r) s) (t .1))
 
   -- by the bits of every |s| together

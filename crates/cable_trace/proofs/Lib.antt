@@ -1,3 +1,4 @@
+pub mod FloatLaws
 pub mod GainLaws
 pub mod LineLaws
 pub mod RowLaws

@@ -2,12 +2,13 @@
 use mathlib.Core.Path.{_≡_, refl, sym, ap, ap₂, _∙_}
 use mathlib.Core.Bool.{Bool, true, false, cond, _&&_, _||_, not, and-true}
 use mathlib.Core.List.{List, [], _∷_, _++_, append-assoc, append-nil}
-use Prim.Native.Nat.{ℕ, suc, _+_, _*_, _-_, _%_, _^_, _≤_, _<_}
+use Prim.Native.Nat.{ℕ, zero, suc, _+_, _*_, _-_, _/_, _%_, _^_, _≤_, _<_}
 use native.Mathlib.Omega.{arith}
+use native.Mathlib.Nat.{mod-eq-of-lt}
 use native.Mathlib.Numerals.{add-one}
 use lib.Dec.{leb, ltb, eqb}
-use lib.ListN.{length, getD, take, drop, set, length-append, length-drop, drop-of-length-le, List·getD-append}
-use lib.Seq.{sets, sets-eq, length-sets, length-take-le, take-all, take-at, drop-at, getD-take, getD-drop, ext-getD}
+use lib.ListN.{length, getD, take, drop, set, length-append, length-drop, take-append-drop, drop-of-length-le, List·getD-append}
+use lib.Seq.{sets, sets-eq, length-sets, length-take-le, take-append-le, take-append-add, drop-at, getD-take, getD-drop, ext-getD}
 use lib.IntN.{ℤ, pos, negsuc, natAbs}
 use mir.Syntax.{w8, w16}
 use mir.Val.{SFits, ofZ}
@@ -16,44 +17,65 @@ use borrow.Rule.Slice.PartMut.{putMid}
 use Rattle.steps.specs.Settings.{isSymbol, isEntry}
 use Rattle.block.specs.Block.{values}
 use Rattle.block.proofs.ValuesLaws.{values-length, values-at}
-use Rattle.image.proofs.ImageLaws.{next-part}
+use Rattle.image.specs.Image.{bytes}
+use Rattle.image.proofs.ByteLaws.{four-bytes}
+use Rattle.image.proofs.ImageLaws.{word-bytes, next-part}
 use Rattle.cable_trace.specs.Cable.{joined}
+use Rattle.cable_trace.specs.Calls.{wordBytes, stored}
 
--- ---- lists of three bytes, one after another
+-- ---- four bytes of each word, three places apart
 
-pub record Joined (f : ℕ → List ℕ) (n i : ℕ) (out : List ℕ) : Type 0 where
-  pub within : i ≤ n
-  pub long : length out ≡ 3 * n
-  pub front : take (3 * i) out ≡ joined f i
+module _ (words : List ℤ) (out : List ℕ) where
+  pub stored-none : stored words out 0 ≡ out
+  unfolding stored
+  stored-none = refl
 
-pub joined-none : (f : ℕ → List ℕ) (n : ℕ) (out : List ℕ) → length out ≡ 3 * n → Joined f n 0 out
-unfolding joined
-joined-none f n out e = record { within = omega arith; long = e; front = refl }
+  pub stored-long : (n : ℕ) → length (stored words out n) ≡ length out
+  unfolding stored
+  stored-long zero = refl
+  stored-long (suc n) = length-sets (stored words out n) (3 * n) (wordBytes words n) ∙ stored-long n
 
-module _ {f : ℕ → List ℕ} {n i : ℕ} {out : List ℕ} (p : Joined f n i out) where
-  three-stores : (a b c : ℕ) → i < n → take (3 * i + 3) (sets out (3 * i) (a ∷ b ∷ c ∷ [])) ≡ take (3 * i) out ++ (a ∷ b ∷ c ∷ [])
-  three-stores a b c h =
-      ap (take (3 * i + 3)) (sets-eq (a ∷ b ∷ c ∷ []) out (3 * i) (omega (arith, p .long)))
-      ∙ take-at (take (3 * i) out ++ (a ∷ b ∷ c ∷ [])) (drop (3 * i + 3) out) (3 * i + 3)
-      (length-append (take (3 * i) out) (a ∷ b ∷ c ∷ []) ∙ ap (λ (m : ℕ). m + 3) (length-take-le (3 * i) out (omega (arith, p .long))))
-
-  pub joined-next : (a b c : ℕ) → i < n → a ∷ b ∷ c ∷ [] ≡ f i → Joined f n (i + 1) (set (set (set out (3 * i) a) (3 * i + 1) b) (3 * i + 2) c)
-  unfolding joined
-  joined-next a b c h e =
+  pub stored-next : (i w : ℕ) → w ≡ natAbs (getD words i (pos 0)) →
+      set (set (set (set (stored words out i) (3 * i) (w % 256)) (3 * i + 1) (w / 256 % 256)) (3 * i + 2) (w / 256 / 256 % 256)) (3 * i + 3) (w / 256 / 256 / 256 % 256)
+      ≡ stored words out (i + 1)
+  unfolding stored
+  stored-next i w e =
       let one : 3 * i + 1 ≡ suc (3 * i) = omega arith in
       let two : 3 * i + 2 ≡ suc (suc (3 * i)) = omega arith in
-      let next : 3 * (i + 1) ≡ 3 * i + 3 = omega arith in
-      record {
-        within = omega arith;
-        long = rw (one, two) (length-sets out (3 * i) (a ∷ b ∷ c ∷ []) ∙ p .long);
-        front =
-            rw (one, two, next) (three-stores a b c h) ∙ ap₂ (λ (x y : List ℕ). x ++ y) (p .front) e ∙ ap (joined f) (sym (add-one i));
-      }
+      let three : 3 * i + 3 ≡ suc (suc (suc (3 * i))) = omega arith in
+      rw (one, two, three) (ap (sets (stored words out i) (3 * i)) (sym (four-bytes w) ∙ ap (bytes 4) e)) ∙ ap (stored words out) (sym (add-one i))
 
-  pub joined-all : n ≤ i → out ≡ joined f n
-  joined-all h =
-      let all : i ≡ n = omega (arith, p .within) in
-      sym (take-all (3 * i) out (omega (arith, p .long))) ∙ p .front ∙ ap (joined f) all
+  -- what the next word leaves of each
+  pub stored-front : (n : ℕ) → 3 * n < length out → take (3 * n) (stored words out n) ≡ joined (λ i. take 3 (wordBytes words i)) n
+  unfolding stored joined
+  stored-front zero h = refl
+  stored-front (suc n) h =
+      let l = stored words out n in
+      let next : 3 * suc n ≡ 3 * n + 3 = omega arith in
+      ap₂ take next (sets-eq (wordBytes words n) l (3 * n) (omega (arith, stored-long n, four)))
+      ∙ take-append-le (3 * n + 3) (take (3 * n) l ++ wordBytes words n) _ (omega (arith, length-append (take (3 * n) l) (wordBytes words n), before, four))
+      ∙ ap (λ (m : ℕ). take (m + 3) (take (3 * n) l ++ wordBytes words n)) (sym before) ∙ take-append-add (take (3 * n) l) (wordBytes words n) 3
+      ∙ ap (λ (x : List ℕ). x ++ take 3 (wordBytes words n)) (stored-front n (omega arith))
+    where
+      before : length (take (3 * n) (stored words out n)) ≡ 3 * n
+      before = length-take-le (3 * n) (stored words out n) (omega (arith, stored-long n))
+
+      four : length (wordBytes words n) ≡ 4
+      four = ap length (four-bytes (natAbs (getD words n (pos 0))))
+
+-- the lowest byte, and the rest
+lowest : (x a b : ℕ) → x ≡ a + 256 * b → a < 256 → (x % 256 ≡ a) × (x / 256 ≡ b)
+lowest x a b e h = (omega arith, omega arith)
+
+-- the bytes of a sample and its gain
+pub word-is : (w g : ℕ) → w < 65536 → g < 256 → take 3 (bytes 4 (w + 65536 * g)) ≡ bytes 2 w ++ (g ∷ [])
+word-is w g h k =
+    let x = w + 65536 * g in
+    let one = lowest x (w % 256) (w / 256 + 256 * g) (omega arith) (omega arith) in
+    let two = lowest (x / 256) (w / 256) g (one .1) (omega arith) in
+    let three : x / 256 / 256 % 256 ≡ g = ap (λ (y : ℕ). y % 256) (two .1) ∙ mod-eq-of-lt k in
+    ap (take 3) (four-bytes x) ∙ ap₂ (λ (a b : ℕ). a ∷ b ∷ (x / 256 / 256 % 256) ∷ []) (one .0) (two .0)
+    ∙ ap (λ (c : ℕ). (w % 256) ∷ (w / 256) ∷ c ∷ []) three ∙ ap (λ (l : List ℕ). l ++ (g ∷ [])) (sym (word-bytes w h))
 
 -- ---- a byte
 
@@ -71,14 +93,31 @@ entry-symbol r v = go (eqb (natAbs v) 0) refl
     go true e = sym (ap (λ (n : ℕ). eqb (n % 2) 1 && leb n (2 ^ (r + 1) - 1)) (eqb-true (natAbs v) 0 e))
     go false e = and-true (isSymbol r v)
 
--- ---- three parts, one after another, that fill a list
+-- ---- a header, and after it a part over the end of which another is written
 
-pub parts-put : (before h u v : List ℕ) (a b e : ℕ) → length h ≡ a → a + length u ≡ b → b + length v ≡ e → length before ≤ e →
-    putMid b (e - b) (putMid a (b - a) (h ++ drop a before) u) v ≡ h ++ (u ++ v)
-parts-put before h u v a b e long-h long-u long-v short =
-    ap (λ (l : List ℕ). putMid b (e - b) l v) (next-part h u before a b long-h long-u)
-    ∙ next-part (h ++ u) v before b e (length-append h u ∙ omega (arith, long-h, long-u)) long-v
-    ∙ ap (λ (l : List ℕ). ((h ++ u) ++ v) ++ l) (drop-of-length-le before short) ∙ append-nil ((h ++ u) ++ v) ∙ append-assoc h u v
+pub parts-put : (before h u v : List ℕ) (a b e : ℕ) → length h ≡ a → a + length u ≡ e → a ≤ b → b + length v ≡ e → length before ≤ e →
+    putMid b (e - b) (putMid a (e - a) (h ++ drop a before) u) v ≡ h ++ (take (b - a) u ++ v)
+parts-put before h u v a b e long-h long-u l long-v short =
+    ap (λ (x : List ℕ). putMid b (e - b) x v) (next-part h u before a e long-h long-u ∙ none (h ++ u) before short ∙ sym kept)
+    ∙ next-part p v (h ++ u) b e (ap length front ∙ length-take-le b (h ++ u) (omega (arith, whole, long-v))) long-v
+    ∙ none (p ++ v) (h ++ u) (omega (arith, whole)) ∙ append-assoc h (take (b - a) u) v
+  where
+    p : List ℕ
+    p = h ++ take (b - a) u
+
+    whole : length (h ++ u) ≡ e
+    whole = length-append h u ∙ omega (arith, long-h, long-u)
+
+    none : (x y : List ℕ) → length y ≤ e → x ++ drop e y ≡ x
+    none x y k = ap (λ (z : List ℕ). x ++ z) (drop-of-length-le y k) ∙ append-nil x
+
+    front : p ≡ take b (h ++ u)
+    front =
+        let m : length h + (b - a) ≡ b = omega (arith, long-h, l) in
+        sym (take-append-add h u (b - a)) ∙ ap (λ (n : ℕ). take n (h ++ u)) m
+
+    kept : p ++ drop b (h ++ u) ≡ h ++ u
+    kept = ap (λ (x : List ℕ). x ++ drop b (h ++ u)) front ∙ take-append-drop b (h ++ u)
 
 -- ---- the training entries in two parts
 

@@ -4,23 +4,30 @@ use mathlib.Core.Bool.{true}
 use mathlib.Core.List.{List, _++_}
 use Prim.Native.Nat.{ℕ, zero, suc, _+_, _^_, _≤_, _<_}
 use native.Mathlib.Omega.{arith}
-use lib.ListN.{length, getD}
+use lib.ListN.{length, getD, take, length-map}
 use lib.IntN.{ℤ, pos, natAbs}
-use Rattle.laws.specs.Lists.{all}
+use mir.Syntax.{w16}
+use mir.Val.{ofZ}
+use mir.Facts.{fits-ofZ}
+use Rattle.laws.specs.Lists.{all, map-at}
+use Rattle.laws.specs.Machine.{fits-abs}
 use Rattle.laws.specs.Powers.{rises}
-use Rattle.laws.specs.Sums.{Each, dot}
+use Rattle.laws.specs.Sums.{Each, each-at, each-of, dot}
 use Rattle.laws.specs.Tests.{each-tested}
 use Rattle.steps.specs.Limits.{symbolLimit}
 use Rattle.steps.specs.Settings.{isSymbol}
 use Rattle.steps.proofs.SymbolLaws.{symbol-below}
 use Rattle.block.specs.Block.{values}
 use Rattle.block.proofs.ValuesLaws.{values-length, values-at}
+use Rattle.image.specs.Image.{bytes}
 use Rattle.checks.specs.Calls.{Sampled}
 use Rattle.cable_trace.specs.Limits.{responseLimit, sentLimit}
-use Rattle.cable_trace.specs.Cable.{Cable, s, sampleCount, blockCount, traceHeader, sampleBytes, joined, entryPart, cableTrace}
-use Rattle.cable_trace.specs.Calls.{placed, lineOf, sums, LineSummable, traceBytes}
+use Rattle.cable_trace.specs.Cable.{Cable, s, gain, sample, sampleCount, blockCount, traceHeader, sampleBytes, joined, entryPart, cableTrace}
+use Rattle.cable_trace.specs.Calls.{placed, lineOf, sums, LineSummable, Gainable, sampleWord, sampleWords, NotNegative, wordBytes, traceBytes}
 use Rattle.cable_trace.specs.Limits.{lineLength}
 use Rattle.cable_trace.proofs.LineLaws.{values-same, line-small, window-is}
+use Rattle.cable_trace.proofs.GainLaws.{gain-most, sample-small}
+use Rattle.cable_trace.proofs.PutLaws.{word-is}
 
 pub symbols-small : (r : ℕ) (l : List ℤ) → r ≤ symbolLimit → all (isSymbol r) l ≡ true → Each (λ (x : ℤ). natAbs x ≤ 2 ^ 4) l
 symbols-small r l h e =
@@ -49,10 +56,32 @@ unfolding joined
 joined-same f g zero h = refl
 joined-same f g (suc n) h = ap₂ (λ (a b : List ℕ). a ++ b) (joined-same f g n (λ i l. h i (omega arith))) (h n (omega arith))
 
-pub trace-is : (c : Cable) (l : List ℤ) → l ≡ values (s c) (sampleCount c) → traceBytes (c .settings) (c .symbols) (c .training) l ≡ cableTrace c
+pub words-whole : (r : ℕ) (sums : List ℤ) → Each NotNegative (sampleWords r sums)
+words-whole r sums =
+    each-of NotNegative (pos 0) (sampleWords r sums)
+    (λ i h. rw (map-at (λ (x : ℤ). pos (sampleWord r x)) sums i (pos 0) (pos 0) (omega (arith, length-map sums (λ (x : ℤ). pos (sampleWord r x))))) refl)
+
+sample-word : (r : ℕ) (s : ℤ) → Gainable r s → take 3 (bytes 4 (sampleWord r s)) ≡ sampleBytes r s
+sample-word r s h =
+    word-is (ofZ w16 (sample r s)) (gain r s) (fits-ofZ (fits-abs {w = w16} (sample r s) (sample-small r s (h .has))) .fits) (omega (arith, gain-most r s))
+
+pub trace-is : (c : Cable) (words : List ℤ) → words ≡ sampleWords (c .settings .r) (values (s c) (sampleCount c)) → Each (Gainable (c .settings .r)) (values (s c) (sampleCount c)) →
+    traceBytes (c .settings) (c .symbols) (c .training) words ≡ cableTrace c
 unfolding cableTrace
-trace-is c l e =
+trace-is c words e gains =
     ap (λ (b : List ℕ). traceHeader (c .settings) (blockCount c) ++ (b ++ entryPart c))
-    (ap₂ (λ (x : List ℤ) (n : ℕ). joined (λ i. sampleBytes (c .settings .r) (getD x i (pos 0))) n) e (ap length e ∙ values-length (s c) (sampleCount c))
-    ∙ joined-same (λ i. sampleBytes (c .settings .r) (getD (values (s c) (sampleCount c)) i (pos 0))) (λ i. sampleBytes (c .settings .r) (s c i)) (sampleCount c)
-    (λ i h. ap (sampleBytes (c .settings .r)) (values-at (s c) (pos 0) (sampleCount c) i h)))
+    (ap₂ (λ (x : List ℤ) (n : ℕ). joined (λ i. take 3 (wordBytes x i)) n) e (ap length e ∙ length-map sums _ ∙ values-length (s c) (sampleCount c))
+    ∙ joined-same (λ i. take 3 (wordBytes (sampleWords r sums) i)) (λ i. sampleBytes r (s c i)) (sampleCount c) at)
+  where
+    r : ℕ
+    r = c .settings .r
+
+    sums : List ℤ
+    sums = values (s c) (sampleCount c)
+
+    at : (i : ℕ) → i < sampleCount c → take 3 (wordBytes (sampleWords r sums) i) ≡ sampleBytes r (s c i)
+    at i h =
+        let l : i < length sums = omega (arith, values-length (s c) (sampleCount c)) in
+        let g = each-at (Gainable r) sums i (pos 0) gains l in
+        ap (λ (w : ℤ). take 3 (bytes 4 (natAbs w))) (map-at (λ (x : ℤ). pos (sampleWord r x)) sums i (pos 0) (pos 0) l)
+        ∙ sample-word r (getD sums i (pos 0)) g ∙ ap (sampleBytes r) (values-at (s c) (pos 0) (sampleCount c) i h)

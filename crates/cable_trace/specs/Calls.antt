@@ -1,22 +1,26 @@
 -- What the functions of the cable ask of each other.
 use mathlib.Core.Path.{_≡_}
 use mathlib.Core.Bool.{Bool, true, cond}
-use mathlib.Core.List.{List, _++_}
-use Prim.Native.Nat.{ℕ, _+_, _*_, _-_, _/_, _%_, _^_, _≤_}
+use mathlib.Core.List.{List, _++_, map}
+use Prim.Native.Nat.{ℕ, zero, suc, _+_, _*_, _-_, _/_, _%_, _^_, _≤_}
 use lib.Dec.{leb, ltb}
 use lib.ListN.{length, getD, take, drop, replicate}
-use lib.IntN.{ℤ, pos, natAbs}
+use lib.Seq.{sets}
+use lib.IntN.{ℤ, pos, negsuc, natAbs}
 use Rattle.laws.specs.Lists.{all}
 use Rattle.laws.specs.Sums.{Each, dot}
-use mir.Syntax.{w8}
+use mir.Syntax.{w8, w16}
 use mir.Val.{ofZ}
+use Rattle.numbers.specs.BitLength.{bitLength}
+use Rattle.numbers.specs.Cut.{rescale}
 use Rattle.steps.specs.Limits.{symbolLimit, gainLimit}
 use Rattle.steps.specs.Settings.{Settings}
 use Rattle.block.specs.Block.{values}
-use Rattle.cable_trace.specs.Limits.{responseLimit, tapsLength, sentLimit, lineLength, scalePlaces, zerosLength}
+use Rattle.cable_trace.specs.Limits.{responseLimit, tapsLength, sentLimit, lineLength}
 use Rattle.state.specs.Sizes.{settingsNumber}
+use Rattle.image.specs.Image.{bytes}
 use Rattle.trace_text.specs.Trace.{headerLength}
-use Rattle.cable_trace.specs.Cable.{Cable, s, hasGain, sampleCount, traceHeader, sampleBytes, joined, cableTrace, gainFits, listCause}
+use Rattle.cable_trace.specs.Cable.{Cable, s, gain, hasGain, sample, sampleCount, traceHeader, joined, cableTrace, gainFits, listCause}
 
 -- ---- the symbols in a line, newest first, and 0 from place sentLimit on
 
@@ -89,37 +93,59 @@ pub record Gainable (r : ℕ) (s : ℤ) : Type 0 where
 abbrev pub gainOf : ℕ → ℕ → ℕ
 gainOf r bits = cond (leb bits r) gainLimit (15 + r - bits)
 
--- by its gain: s times it is the sample before its cut by scalePlaces
-abbrev pub scaleOf : ℕ → ℕ → ℤ
-scaleOf r g = pos (2 ^ (scalePlaces + g - r))
+-- the bits of a whole number below 2^24 as a float: 125 more than its bit length, then its 24 digits, the first of which adds one
+abbrev pub magnitudeBits : ℕ → ℕ
+magnitudeBits zero = 0
+magnitudeBits (suc n) = (125 + bitLength (suc n)) * 2 ^ 23 + suc n * 2 ^ (24 - bitLength (suc n))
 
--- gains and scales by the leading zeros of |s| in 32 bits
-abbrev pub gainsOf : ℕ → List ℕ
-gainsOf r = values (λ z. gainOf r (32 - z)) zerosLength
+-- with its sign
+abbrev pub floatBits : ℤ → ℕ
+floatBits (pos n) = magnitudeBits n
+floatBits (negsuc n) = 2 ^ 31 + magnitudeBits (suc n)
 
-abbrev pub scalesOf : ℕ → List ℤ
-scalesOf r = values (λ z. scaleOf r (gainOf r (32 - z))) zerosLength
+-- the bit length in them, and 126 more; 0 for 0
+abbrev pub exponentIn : ℕ → ℕ
+exponentIn b = b / 2 ^ 23 % 256
 
-pub record Tables (r : ℕ) (gains : List ℕ) (scales : List ℤ) : Type 0 where
-  pub gains-are : gains ≡ gainsOf r
-  pub scales-are : scales ≡ scalesOf r
+-- the first 15 of 24 digits
+abbrev pub leading : ℤ → ℤ
+leading s = rescale s (24 - bitLength (natAbs s)) 9
+
+-- a sample and its gain in one word
+abbrev pub sampleWord : ℕ → ℤ → ℕ
+sampleWord r s = ofZ w16 (sample r s) + 65536 * gain r s
+
+abbrev pub sampleWords : ℕ → List ℤ → List ℤ
+sampleWords r sums = map (λ s. pos (sampleWord r s)) sums
 
 -- ---- the trace
 
--- with s of each symbol
+abbrev pub NotNegative : ℤ → Type 0
+NotNegative w = w ≡ pos (natAbs w)
+
+-- the bytes of the word at n
+abbrev pub wordBytes : List ℤ → ℕ → List ℕ
+wordBytes words n = bytes 4 (natAbs (getD words n (pos 0)))
+
+-- those of n words, each three places after the one before
+unfoldable pub stored : List ℤ → List ℕ → ℕ → List ℕ
+stored words out zero = out
+stored words out (suc n) = sets (stored words out n) (3 * n) (wordBytes words n)
+
+-- with the word of each sample
 abbrev pub traceBytes : Settings → List ℤ → ℕ → List ℤ → List ℕ
-traceBytes k symbols training sums =
+traceBytes k symbols training words =
     traceHeader k (length symbols / k .N)
-    ++ (joined (λ n. sampleBytes (k .r) (getD sums n (pos 0))) (length sums)
+    ++ (joined (λ n. take 3 (wordBytes words n)) (length words)
     ++ values (λ n. ofZ w8 (cond (ltb n training) (getD symbols n (pos 0)) (pos 0))) (length symbols))
 
-pub record Puttable (N r : ℕ) (symbols : List ℤ) (training : ℕ) (sums : List ℤ) (out : List ℕ) : Type 0 where
+pub record Puttable (N : ℕ) (symbols : List ℤ) (training : ℕ) (words : List ℤ) (out : List ℕ) : Type 0 where
   pub N-least : 1 ≤ N
+  pub some : 1 ≤ length symbols
   pub few : length symbols ≤ sentLimit
   pub training-most : training ≤ length symbols
-  pub r-most : r ≤ symbolLimit
-  pub same-length : length sums ≡ length symbols
-  pub gains : Each (Gainable r) sums
+  pub same-length : length words ≡ length symbols
+  pub not-negative : Each NotNegative words
   pub room : length out ≡ headerLength + 4 * length symbols
 
 -- ---- a cable whose settings and lists fit

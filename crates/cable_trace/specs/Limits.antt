@@ -23,11 +23,3 @@ sentLimit = (traceLimit - headerLength) / 4
 -- places of a line: those of the symbols, and what was there before the first
 abbrev pub lineLength : ℕ
 lineLength = sentLimit + responseLimit
-
--- places by which a sample is cut in the code
-abbrev pub scalePlaces : ℕ
-scalePlaces = 7
-
--- counts of leading zeros in 32 bits
-abbrev pub zerosLength : ℕ
-zerosLength = 33

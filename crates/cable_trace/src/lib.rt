@@ -7,6 +7,7 @@ pub mod causes;
 pub mod limits;
 pub mod put;
 pub mod sums;
+pub mod word;
 
 // A number, and beside 10 its cause: 1 the response, 2 the blocks, 3 the training count, 4 the length of the trace, 5 an
 // entry, 6 the length of the output, 7 a gain.
@@ -40,7 +41,7 @@ fn make(
     if 15 + (r as u32) - (l as u32) < numbers::bit_length::bit_length(bits as u64) {
         return false;
     }
-    put::trace(p, q, n, r, l, m, symbols, training, &sums[0..k], out);
+    put::trace(p, q, n, r, l, m, symbols, training, &mut sums[0..k], out);
     true
 }
 

@@ -16,8 +16,15 @@ pub const SENT: usize = (limits::TRACE - limits::HEADER) / 4;
 // Places of a line: those of the symbols, and what was there before the first.
 pub const LINE: usize = SENT + RESPONSE;
 
-// Places by which a sample is cut.
-pub const SCALE: u32 = 7;
+// A float of 32 bits: one more than the greatest number of its digits after the first, and of its exponent, which is OFFSET
+// more than a bit length.
+pub const DIGITS: u32 = 8388608;
 
-// Counts of leading zeros in 32 bits.
-pub const ZEROS: usize = 33;
+pub const EXPONENTS: u32 = 256;
+
+pub const OFFSET: u32 = 126;
+
+// What the first of 15 digits counts, and what the last of them counts in a float.
+pub const FIRST: u32 = 16384;
+
+pub const LAST: u32 = 512;

@@ -1,114 +1,40 @@
 // The bytes of a trace: its samples and its training entries.
 ghost use mathlib.Core.Path.{_≡_};
 ghost use mathlib.Core.Bool.{cond};
-ghost use mathlib.Core.List.{[], _∷_};
-ghost use Prim.Native.Nat.{_*_, _≤_};
+ghost use Prim.Native.Nat.{_*_, _≤_, _<_};
 ghost use lib.Dec.{ltb};
 ghost use lib.ListN.{length, getD};
 ghost use lib.IntN.{pos};
 ghost use mir.Syntax.{w8};
 ghost use mir.Val.{ofZ};
 ghost use Rattle.laws.specs.Sums.{Each};
-ghost use Rattle.steps.specs.Limits.{symbolLimit, gainLimit};
 ghost use Rattle.block.specs.Block.{values};
 ghost use Rattle.state.specs.Sizes.{given};
 ghost use Rattle.image.specs.Image.{header};
-ghost use Rattle.cable_trace.specs.Limits.{countLimit, zerosLength};
-ghost use Rattle.cable_trace.specs.Cable.{gain, sample, sampleBytes, joined, traceHeader};
-ghost use Rattle.cable_trace.specs.Calls.{Gainable, gainOf, scaleOf, Tables, Puttable, traceBytes};
-use super::limits;
+ghost use Rattle.cable_trace.specs.Limits.{countLimit};
+ghost use Rattle.cable_trace.specs.Cable.{traceHeader};
+ghost use Rattle.cable_trace.specs.Calls.{Gainable, sampleWords, NotNegative, stored, Puttable, traceBytes};
 use state::equaliser::Equaliser;
-use steps::limits::GAIN;
 use steps::limits::PLACES;
 use trace_text::limits::HEADER;
 
-// The gain by the bit length of |s|.
-fn gain(r: u32, bits: u32) -> u32
-    requires { ⌜ r ≤ symbolLimit ⌝ }
-    ensures { λ g. ⌜ g ≡ gainOf r bits ⌝ }
-{
-    if bits <= r {
-        return GAIN;
-    }
-    if bits <= 15 + r { 15 + r - bits } else { 0 }
-}
-
-// 2^(SCALE + g − r).
-fn scale(r: u32, g: u32) -> i32
-    requires { ⌜ (r ≤ symbolLimit) × (g ≤ gainLimit) ⌝ }
-    ensures { λ k. ⌜ k ≡ scaleOf r g ⌝ }
-{
-    numbers::cut::raise32(1, limits::SCALE + g - r)
-}
-
-// Gains and scales by leading zeros.
-fn tables(r: u32, gains: &mut [u8], scales: &mut [i32])
-    requires { ⌜ (r ≤ symbolLimit) × (length (now gains) ≡ zerosLength) × (length (now scales) ≡ zerosLength) ⌝ }
-    ensures { λ _. ⌜ Tables r (now (gains .exit)) (now (scales .exit)) ⌝ }
+// Three bytes of each word, and a fourth over which the next one is written: a store of four bytes is one.
+fn samples(words: &[i32], out: &mut [u8])
+    requires { ⌜ (Each NotNegative (now words)) × (3 * length (now words) < length (now out)) ⌝ }
+    ensures { λ _. ⌜ now (out .exit) ≡ stored (now (words .entry)) (now (out .entry)) (length (now (words .entry))) ⌝ }
 {
     let mut i: usize = 0;
-    while i < limits::ZEROS {
-        let g = gain(r, 32 - (i as u32));
-        gains[i] = g as u8;
-        scales[i] = scale(r, g);
-        i += 1;
-    }
-}
-
-// m = T(s·2^(g−r)), by the scale of s.
-fn sample(r: u32, s: i32, by: i32) -> i16
-    requires { ⌜ (Gainable r s) × (by ≡ scaleOf r (gain r s)) ⌝ }
-    ensures { λ m. ⌜ m ≡ sample r s ⌝ }
-{
-    numbers::cut::cut32(s * by, limits::SCALE) as i16
-}
-
-// The bytes of a sample.
-pub struct SampleBytes {
-    pub low: u8,
-    pub high: u8,
-    pub gain: u8,
-}
-
-// By the tables of r, which take the place of two shifts by a count that changes with s.
-fn sample_bytes(r: u32, gains: &[u8], scales: &[i32], s: i32) -> SampleBytes
-    requires { ⌜ (Tables r (now gains) (now scales)) × (Gainable r s) ⌝ }
-    ensures { λ b. ⌜ b .low ∷ b .high ∷ b .gain ∷ [] ≡ sampleBytes r s ⌝ }
-{
-    let zeros = (32 - numbers::bit_length::signed_bit_length(s as i64)) as usize;
-    let m = image::save::word(sample(r, s, scales[zeros]));
-    SampleBytes {
-        low: (m % 256) as u8,
-        high: (m / 256) as u8,
-        gain: gains[zeros],
-    }
-}
-
-// The same of every s.
-fn table_samples(r: u32, gains: &[u8], scales: &[i32], sums: &[i32], out: &mut [u8])
-    requires { ⌜ (Tables r (now gains) (now scales)) × (Each (Gainable r) (now sums)) × (length (now out) ≡ 3 * length (now sums)) ⌝ }
-    ensures { λ _. ⌜ now (out .exit) ≡ joined (λ n. sampleBytes r (getD (now (sums .entry)) n (pos 0))) (length (now (sums .entry))) ⌝ }
-{
-    let mut i: usize = 0;
-    while i < sums.len() {
-        let b = sample_bytes(r, gains, scales, sums[i]);
+    while i < words.len() {
+        let w = words[i] as u32;
+        let w1 = w / 256;
+        let w2 = w1 / 256;
         let at = 3 * i;
-        out[at] = b.low;
-        out[at + 1] = b.high;
-        out[at + 2] = b.gain;
+        out[at] = (w % 256) as u8;
+        out[at + 1] = (w1 % 256) as u8;
+        out[at + 2] = (w2 % 256) as u8;
+        out[at + 3] = (w2 / 256 % 256) as u8;
         i += 1;
     }
-}
-
-// The samples of every s.
-pub fn samples(r: u32, sums: &[i32], out: &mut [u8])
-    requires { ⌜ (r ≤ symbolLimit) × (Each (Gainable r) (now sums)) × (length (now out) ≡ 3 * length (now sums)) ⌝ }
-    ensures { λ _. ⌜ now (out .exit) ≡ joined (λ n. sampleBytes r (getD (now (sums .entry)) n (pos 0))) (length (now (sums .entry))) ⌝ }
-{
-    let mut gains = [0u8; limits::ZEROS];
-    let mut scales = [0i32; limits::ZEROS];
-    tables(r, &mut gains, &mut scales);
-    table_samples(r, &gains, &scales, sums, out);
 }
 
 // The byte of a training entry: the symbol, or 0.
@@ -164,7 +90,32 @@ fn header(p: u8, q: u8, n: u8, r: u8, l: u8, m: u32, count: usize) -> Equaliser
     }
 }
 
-// The whole trace, from s of each symbol.
+// The whole trace, from the word of each sample.
+fn word_trace(
+    p: u8,
+    q: u8,
+    n: u8,
+    r: u8,
+    l: u8,
+    m: u32,
+    symbols: &[i8],
+    training: usize,
+    words: &[i32],
+    out: &mut [u8],
+)
+    requires { ⌜ Puttable n (now symbols) training (now words) (now out) ⌝ }
+    ensures { λ _. ⌜ now (out .exit) ≡ traceBytes (given p q n r l m) (now (symbols .entry)) training (now (words .entry)) ⌝ }
+{
+    let k = symbols.len();
+    let mid = HEADER + 3 * k;
+    let end = mid + k;
+    let e = header(p, q, n, r, l, m, k / (n as usize));
+    image::save::put_header(e, &mut out[0..HEADER]);
+    samples(words, &mut out[HEADER..end]);
+    entries(symbols, training, &mut out[mid..end]);
+}
+
+// The same from s of each symbol, which is replaced by the word of its sample.
 pub fn trace(
     p: u8,
     q: u8,
@@ -174,17 +125,12 @@ pub fn trace(
     m: u32,
     symbols: &[i8],
     training: usize,
-    sums: &[i32],
+    sums: &mut [i32],
     out: &mut [u8],
 )
-    requires { ⌜ Puttable n r (now symbols) training (now sums) (now out) ⌝ }
-    ensures { λ _. ⌜ now (out .exit) ≡ traceBytes (given p q n r l m) (now (symbols .entry)) training (now (sums .entry)) ⌝ }
+    requires { ⌜ (Each (Gainable r) (now sums)) × (Puttable n (now symbols) training (sampleWords r (now sums)) (now out)) ⌝ }
+    ensures { λ _. ⌜ (now (sums .exit) ≡ sampleWords r (now (sums .entry))) × (now (out .exit) ≡ traceBytes (given p q n r l m) (now (symbols .entry)) training (now (sums .exit))) ⌝ }
 {
-    let k = symbols.len();
-    let mid = HEADER + 3 * k;
-    let end = mid + k;
-    let e = header(p, q, n, r, l, m, k / (n as usize));
-    image::save::put_header(e, &mut out[0..HEADER]);
-    samples(r as u32, sums, &mut out[HEADER..mid]);
-    entries(symbols, training, &mut out[mid..end]);
+    super::word::words(r as u32, sums);
+    word_trace(p, q, n, r, l, m, symbols, training, sums, out);
 }

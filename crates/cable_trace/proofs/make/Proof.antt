@@ -1,17 +1,18 @@
 -- The symbols in a line, s of each, and the trace where every gain fits.
 use mathlib.Core.Path.{_≡_, refl, sym, ap, ap₂, _∙_}
-use mathlib.Core.Bool.{true}
 use mathlib.Core.List.{List, _++_}
 use Prim.Native.Nat.{ℕ, _+_, _-_, _≤_}
 use native.Mathlib.Omega.{arith}
+use native.Mathlib.Nat.{div-le-self}
 use lib.Dec.{leb}
-use lib.ListN.{length, take, length-append}
+use lib.ListN.{length, take, length-append, length-map}
 use lib.Seq.{take-at}
 use lib.IntN.{ℤ}
 use borrow.Author.Needs.{needs}
 use borrow.Author.Tests.{le-leb, lt-leb}
 use borrow.Rule.Slice.PartMut.{midOf, postOf, mid-len}
 use Rattle.laws.specs.Lists.{all}
+use Rattle.laws.specs.Sums.{Each}
 use Rattle.numbers.specs.BitLength.{bitLength}
 use Rattle.steps.specs.Settings.{Within}
 use Rattle.steps.specs.Side.{magnitudes, together}
@@ -20,11 +21,11 @@ use Rattle.block.proofs.ValuesLaws.{values-length}
 use Rattle.state.proofs.SizesLaws.{settings-tests, fit-within}
 use Rattle.cable_trace.specs.Cable.{Cable, s, sampleCount, gainFits}
 use Rattle.cable_trace.specs.Answers.{cableOf}
-use Rattle.cable_trace.specs.Calls.{sums}
+use Rattle.cable_trace.specs.Calls.{sums, Gainable, sampleWords}
 use Rattle.cable_trace.proofs.CauseLaws.{Listed, listed}
 use Rattle.cable_trace.proofs.GainLaws.{gains-fit, gains-each}
 use Rattle.cable_trace.proofs.LineLaws.{empty-sums}
-use Rattle.cable_trace.proofs.SumLaws.{sums-are, line-summable, trace-is}
+use Rattle.cable_trace.proofs.SumLaws.{sums-are, line-summable, words-whole, trace-is}
 use Rattle.cable_trace.proofs.make.Statement.{statement}
 use Rattle.cable_trace.proofs.make.Tie as tie
 
@@ -97,9 +98,6 @@ returns c = record { fit-is = sym (lt-leb _ _ (c .if1 .taken)) ∙ fit (c .befor
 
 -- ---- the trace
 
-abbrev measured : tie.After-trace-arg2 → tie.After-bit-length
-measured c = c .before .before .before .before
-
 -- the sums that were written stand in front of the work area
 written : (c : tie.After-bit-length) → let k = cable (begin (c .before .before .before)) in
     take (sampleCount k - 0) (c .before .before .sums2 .last .1 .1 .0 ++ postOf 0 (sampleCount k - 0) (areas (placed (c .before .before .before)) .empty-sums .result)) ≡ values (s k) (sampleCount k)
@@ -108,34 +106,45 @@ written c =
     let k = cable (begin (m .before)) in
     take-at (m .sums2 .last .1 .1 .0) _ (sampleCount k - 0) (ap length (summed m) ∙ values-length (s k) (sampleCount k) ∙ omega arith) ∙ summed m
 
-part-trace-end : tie.Need-part-trace-end
-part-trace-end c =
-    let m = c .before .before .before .before in
+part-sums-end-2 : tie.Need-part-sums-end-2
+part-sums-end-2 c =
+    let m = c .before .before .before in
     let k = cable (begin (m .before)) in
     omega (arith, length-append (m .sums2 .last .1 .1 .0) (postOf 0 (sampleCount k - 0) (areas (placed (m .before)) .empty-sums .result)), ap length (summed m) ∙ values-length (s k) (sampleCount k))
 
-gains : (c : tie.Else1) → let k = cable (begin (c .before .before .before .before)) in all (gainFits (k .settings)) (values (s k) (sampleCount k)) ≡ true
-gains c = sym (fit (c .before)) ∙ le-leb _ _ (c .if1 .left)
+gains : (c : tie.Else1) → let k = cable (begin (c .before .before .before .before)) in Each (Gainable (k .settings .r)) (values (s k) (sampleCount k))
+gains c =
+    let b = begin (c .before .before .before .before) in
+    let k = cable b in
+    gains-each (k .settings) (values (s k) (sampleCount k)) (within b .r-most) (sym (fit (c .before)) ∙ le-leb _ _ (c .if1 .left))
 
 trace-requires : tie.Need-trace-requires
 trace-requires c κs =
-    let b = begin (measured c .before .before .before) in
+    let e = c .before .before in
+    let b = begin (e .before .before .before .before) in
     let k = cable b in
-    rw (written (measured c))
-    (record {
-      N-least = within b .N-least;
-      few = fitting b .few;
-      training-most = fitting b .training-most;
-      r-most = within b .r-most;
-      same-length = values-length (s k) (sampleCount k);
-      gains = gains-each (k .settings) (values (s k) (sampleCount k)) (within b .r-most) (gains (c .before .before .before));
-      room = fitting b .room-is;
-    })
+    rw (written (e .before)) (
+      gains e,
+      record {
+        N-least = within b .N-least;
+        some = omega (arith, fitting b .blocks-least, div-le-self (sampleCount k) (k .settings .N));
+        few = fitting b .few;
+        training-most = fitting b .training-most;
+        same-length = length-map (values (s k) (sampleCount k)) _ ∙ values-length (s k) (sampleCount k);
+        not-negative = words-whole (k .settings .r) (values (s k) (sampleCount k));
+        room = fitting b .room-is;
+      },
+    )
 
 returns-2 : tie.Need-returns-2
 returns-2 c =
-    let a = c .before .before .before in
-    record { fit-is = sym (gains (a .before .before .before)); contents = c .before .before .trace .ensures ∙ trace-is (cable (begin (measured a .before .before .before))) _ (written (measured a)) }
+    let t = c .before .before .before in
+    let e = t .before .before .before in
+    let k = cable (begin (e .before .before .before .before)) in
+    record {
+      fit-is = sym (sym (fit (e .before)) ∙ le-leb _ _ (e .if1 .left));
+      contents = t .trace .ensures .1 ∙ trace-is k _ (t .trace .ensures .0 ∙ ap (sampleWords (k .settings .r)) (written (e .before))) (gains e);
+    }
 
 pub make-spec : {M : Type 1} → statement M
 make-spec =
@@ -143,4 +152,4 @@ make-spec =
     (tie.spec
     (λ c κs. search needs) (λ c κs. search needs) (λ c κs. search needs) (λ c. search needs) line-requires (λ c. search needs) (λ c. search needs) (λ c. search needs)
     part-sums-end sums-requires (λ c. search needs) sub-if1 (λ c. search needs) (λ c κs. search needs) returns
-    (λ c. search needs) (λ c. search needs) part-trace-end trace-requires (λ c. search needs) returns-2)
+    (λ c. search needs) (λ c. search needs) part-sums-end-2 trace-requires (λ c. search needs) returns-2)

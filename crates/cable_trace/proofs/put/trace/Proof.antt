@@ -1,72 +1,16 @@
--- The header, the samples and the entries, each in its part of the output.
-use mathlib.Core.Path.{_≡_, ap, ap₂, _∙_}
-use mathlib.Core.List.{List, _++_}
-use Prim.Native.Nat.{ℕ, _+_, _*_, _-_}
-use native.Mathlib.Omega.{arith}
-use native.Mathlib.Nat.{div-le-self}
-use lib.ListN.{length, drop}
-use lib.Seq.{length-front, length-take-le}
+-- The words, and the trace that is made of them.
 use borrow.Author.Needs.{needs}
-use borrow.Rule.Slice.PartMut.{midOf, mid-len}
-use Rattle.block.proofs.ValuesLaws.{values-length}
-use Rattle.trace_text.specs.Trace.{headerLength}
-use Rattle.state.specs.Sizes.{given}
-use Rattle.cable_trace.specs.Cable.{traceHeader}
-use Rattle.cable_trace.proofs.PutLaws.{parts-put}
 use Rattle.cable_trace.proofs.put.trace.Statement.{statement}
 use Rattle.cable_trace.proofs.put.trace.Tie as tie
 
--- ---- the places from the last call back to the start
+words-requires : tie.Need-words-requires
+words-requires c κs = c .before .before .pre .0
 
-abbrev sampled : tie.After-entries → tie.After-samples
-sampled c = c .before .before .before .before
-
-abbrev headed : tie.After-samples → tie.After-put-header
-headed c = c .before .before .before .before
-
-abbrev start : tie.After-put-header → tie.Start
-start c = c .before .before .before .before
-
--- where the entries begin
-abbrev mid : tie.Start → ℕ
-mid s = headerLength + 3 * length (s .args .symbols .now)
-
--- the output is as long when the header is back
-headed-long : (c : tie.After-put-header) → let b = start c .args .out .now in length (c .put-header .last .1 .0 ++ drop headerLength b) ≡ length b
-headed-long c = length-front (start c .args .out .now) (c .put-header .last .1 .0) headerLength (c .put-header .kept .1 .0)
-
-header-requires : tie.Need-header-requires
-header-requires c κs = let s = c .before in omega (arith, div-le-self (length (s .args .symbols .now)) (s .args .n), s .pre .few)
-
-samples-long : (c : tie.After-put-header) → let s = start c in
-    length (midOf headerLength (mid s - headerLength) (c .put-header .last .1 .0 ++ drop headerLength (s .args .out .now))) ≡ 3 * length (s .args .sums .now)
-samples-long c =
-    let s = start c in
-    mid-len headerLength (mid s) (c .put-header .last .1 .0 ++ drop headerLength (s .args .out .now)) (omega (arith, headed-long c, s .pre .room))
-    ∙ omega (arith, s .pre .same-length)
-
-samples-requires : tie.Need-samples-requires
-samples-requires c κs = let h = c .before .before .before in (start h .pre .r-most, start h .pre .gains, samples-long h)
+word-trace-requires : tie.Need-word-trace-requires
+word-trace-requires c κs = rw (c .before .before .before .words .ensures) (c .before .before .before .before .before .before .pre .1)
 
 returns : tie.Need-returns
-returns c =
-    let v = c .before .before in
-    let u = sampled v in
-    let h = headed u in
-    let s = start h in
-    let k = length (s .args .symbols .now) in
-    let e : h .put-header .last .1 .0 ≡ traceHeader (given (s .args .p) (s .args .q) (s .args .n) (s .args .r) (s .args .l) (s .args .m)) _ = h .put-header .ensures ∙ h .before .before .header .ensures in
-    parts-put (s .args .out .now) (h .put-header .last .1 .0) (u .samples .last .1 .1 .0) (v .entries .last .1 .1 .0) headerLength (mid s) (mid s + k)
-    (h .put-header .kept .1 .0 ∙ length-take-le headerLength (s .args .out .now) (omega (arith, s .pre .room)))
-    (omega (arith, u .samples .kept .1 .1 .0, samples-long h, s .pre .same-length))
-    (ap (λ (n : ℕ). mid s + n) (ap length (v .entries .ensures) ∙ values-length _ k)) (omega (arith, s .pre .room))
-    ∙ ap₂ (λ (a b : List ℕ). a ++ b) e (ap₂ (λ (a b : List ℕ). a ++ b) (u .samples .ensures) (v .entries .ensures))
+returns c = (c .before .before .before .before .before .before .words .ensures, c .before .before .word-trace .ensures)
 
 pub trace-spec : {M : Type 1} → statement M
-trace-spec =
-    tie.close
-    (tie.spec
-    (λ c. search needs) (λ c. search needs) (λ c. search needs) (λ c. search needs) header-requires
-    (λ c. search needs) (λ c. search needs) (λ c. search needs) (λ c κs. search needs) (λ c. search needs)
-    (λ c. search needs) (λ c. search needs) samples-requires (λ c. search needs) (λ c. search needs)
-    (λ c. search needs) (λ c κs. search needs) (λ c. search needs) returns)
+trace-spec = tie.close (tie.spec words-requires word-trace-requires (λ c. search needs) (λ c. search needs) returns)
