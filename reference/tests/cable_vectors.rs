@@ -303,15 +303,21 @@ fn cables_have_every_kind_of_value_and_training() {
     assert!(accepted.iter().filter(long).any(ends));
 }
 
+/// A length and so many bytes after it, where there are so many.
+fn part<'a>(reader: &mut Reader<'a>) -> Option<&'a [u8]> {
+    let has_length = reader.0.len() >= 4;
+    let length = has_length.then(|| reader.long() as usize)?;
+    (length <= reader.0.len()).then(|| reader.take(length))
+}
+
 /// Replays descriptions from their bytes, as [`replay`] does.
 fn replay_descriptions(bytes: &[u8]) -> Result<usize, usize> {
     let mut reader = Reader(bytes);
     let mut count = 0;
     while !reader.0.is_empty() {
-        let length = reader.long() as usize;
-        let written = description(reader.take(length));
-        let length = reader.long() as usize;
-        if length > reader.0.len() || written != reader.take(length) {
+        let written = part(&mut reader).map(description).ok_or(count)?;
+        let text = trace(&written);
+        if part(&mut reader) != Some(&written) || part(&mut reader) != Some(text.as_bytes()) {
             return Err(count);
         }
         count += 1;
@@ -323,7 +329,7 @@ fn replay_descriptions(bytes: &[u8]) -> Result<usize, usize> {
 fn descriptions_replay() {
     let vectors = description_vectors();
     let bytes = bytes_of(&vectors, DescriptionVector::bytes);
-    assert!(bytes.len() < 400_000);
+    assert!(bytes.len() < 800_000);
     assert_eq!(replay_descriptions(&bytes), Ok(vectors.len()));
     assert!(vectors.len() >= 60);
 }
@@ -403,11 +409,13 @@ fn descriptions_tell_the_first_line() {
             let mut trace = vec![0; 12 + 4 * described.symbols.len()];
             assert_eq!(wrong_cable(&described.cable(), &mut trace, ""), 0);
             assert!(vector.written == trace, "{vector:?}");
+            assert_eq!(vector.text.lines().count(), described.symbols.len());
             *seen.entry(9).or_insert(0) += 1;
             continue;
         };
         let line = format!("cable: {}\n", LINES[first]);
         assert_eq!(vector.written, line.as_bytes(), "{vector:?}");
+        assert_eq!(vector.text, "stop 8 0\n");
         *seen.entry(first).or_insert(0) += 1;
         pairs.extend(lines.iter().skip(1).map(|&other| (first, other)));
     }

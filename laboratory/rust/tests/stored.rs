@@ -43,8 +43,8 @@ fn the_descriptions() {
     let lines = all.iter().filter(|one| line(&one.written)).count();
     let (count, traces) = (all.len(), all.len() - lines);
     let mut text = format!("descriptions {count}: traces {traces}, lines {lines}\n");
-    // Three other outputs of cable and seven other texts of trace.
-    let changes = 10 * count;
+    // Four other outputs of cable and five other texts of trace.
+    let changes = 9 * count;
     text += &format!("changed expectations told apart: {changes} of {changes}\n");
     text += "no difference\n";
     assert_eq!(text, include_str!("../../descriptions.out"));

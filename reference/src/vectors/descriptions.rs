@@ -1,25 +1,28 @@
-//! Descriptions with what the program writes.
+//! Descriptions with what the program writes, and the text of that as a trace.
 
 use crate::cable::Cause;
 use crate::description::description;
 use crate::random::Random;
+use crate::trace::trace;
 use crate::vectors::spoiled::{self, Spoiler};
 
-/// A description, well formed or not, and what the program writes.
+/// A description, well formed or not, what the program `cable` writes, and what
+/// the program `trace` writes for that.
 #[derive(Clone, Debug)]
 pub struct DescriptionVector {
     /// What the description is about.
     pub about: &'static str,
     pub input: Vec<u8>,
     pub written: Vec<u8>,
+    pub text: String,
 }
 
 impl DescriptionVector {
-    /// The description's length (u32), the description, the length of what is
-    /// written (u32), and that.
+    /// The description, what is written, and the text, each after its length
+    /// (u32).
     pub fn bytes(&self) -> Vec<u8> {
         let mut bytes = Vec::new();
-        for part in [&self.input, &self.written] {
+        for part in [&self.input, &self.written, self.text.as_bytes()] {
             bytes.extend((part.len() as u32).to_le_bytes());
             bytes.extend(part);
         }
@@ -34,10 +37,12 @@ struct Collection {
 impl Collection {
     fn put(&mut self, about: &'static str, input: Vec<u8>) {
         let written = description(&input);
+        let text = trace(&written);
         self.list.push(DescriptionVector {
             about,
             input,
             written,
+            text,
         });
     }
 

@@ -10,10 +10,12 @@ use std::process::{Command, ExitCode, Stdio};
 
 const USAGE: &str = "usage: descriptions CABLE TRACE FILE";
 
-/// An input of the program `cable`, and what it writes.
+/// An input of the program `cable`, what it writes, and what the program
+/// `trace` writes for that.
 struct Described<'a> {
     input: &'a [u8],
     written: &'a [u8],
+    text: &'a [u8],
 }
 
 impl Described<'_> {
@@ -36,9 +38,15 @@ fn part<'a>(file: &mut &'a [u8]) -> Option<&'a [u8]> {
 fn described(mut file: &[u8]) -> Result<Vec<Described<'_>>, String> {
     let mut all = Vec::new();
     while !file.is_empty() {
-        let parts = part(&mut file).zip(part(&mut file));
-        let (input, written) = parts.ok_or(format!("input {} breaks off", all.len()))?;
-        all.push(Described { input, written });
+        let parts = [(); 3].map(|()| part(&mut file));
+        let [Some(input), Some(written), Some(text)] = parts else {
+            return Err(format!("input {} breaks off", all.len()));
+        };
+        all.push(Described {
+            input,
+            written,
+            text,
+        });
     }
     match all.len() {
         0 => Err("it has no input".to_string()),
@@ -65,23 +73,29 @@ fn piped(program: &str, input: &[u8]) -> Result<Vec<u8>, String> {
     }
 }
 
-/// The number of a trace's text that ends in `stop n k`.
-fn stop(text: &[u8]) -> Option<u8> {
-    let text = std::str::from_utf8(text).ok()?;
-    let last = text.lines().last()?.strip_prefix("stop ")?;
-    last.split(' ').next()?.parse().ok()
+/// The place of the first byte in which two lists differ, if they do.
+fn apart(one: &[u8], other: &[u8]) -> Option<usize> {
+    let same = one.iter().zip(other).take_while(|(a, b)| a == b).count();
+    (one != other).then_some(same)
 }
 
 /// What is wrong with what the two programs wrote, if anything is.
-fn wrong(expected: &[u8], is_line: bool, written: &[u8], text: &[u8]) -> Option<&'static str> {
-    if written != expected {
-        return Some("cable writes something else");
-    }
-    match (is_line, stop(text)) {
-        (true, _) if text != b"stop 8 0\n" => Some("trace takes a line of text"),
-        (false, Some(number)) if number != 6 => Some("trace stops at what cable wrote"),
-        _ => None,
-    }
+fn wrong(expected: [&[u8]; 2], written: [&[u8]; 2]) -> Option<String> {
+    let parts = ["cable", "trace"].into_iter().zip(expected).zip(written);
+    let mut faults = parts.filter_map(|((program, expected), written)| {
+        let place = apart(expected, written)?;
+        Some(format!("{program} writes something else from byte {place}"))
+    });
+    faults.next()
+}
+
+/// Others than these bytes: none, one less, one more, a bit changed.
+fn others(bytes: &[u8], place: usize) -> [Vec<u8>; 4] {
+    let mut bit = bytes.to_vec();
+    let at = place * 7919 % bytes.len().max(1);
+    bit.iter_mut().skip(at).take(1).for_each(|byte| *byte ^= 1);
+    let less = &bytes[..bytes.len().saturating_sub(1)];
+    [Vec::new(), less.to_vec(), [bytes, b"\0"].concat(), bit]
 }
 
 /// What was seen.
@@ -94,24 +108,15 @@ struct Tally {
 }
 
 impl Tally {
-    fn changed(&mut self, wrong: Option<&str>) {
-        self.tried += 1;
-        self.told += usize::from(wrong.is_some());
-    }
-
-    /// Changed expectations: a bit, a byte less, a byte more, and a trace's
-    /// text that stops.
-    fn try_changed(&mut self, place: usize, written: &[u8], text: &[u8], is_line: bool) {
-        let mut bit = written.to_vec();
-        let at = place * 7919 % bit.len();
-        bit[at] ^= 1;
-        let more = [written, b"\0"].concat();
-        for other in [&bit[..], &more, &written[..written.len() - 1]] {
-            self.changed(wrong(other, is_line, written, text));
-        }
-        for number in [8, 1, 2, 3, 4, 5, 9] {
-            let stopped = format!("0 0 1 1\nstop {number} 1\n");
-            self.changed(wrong(written, is_line, written, stopped.as_bytes()));
+    /// Changed expectations of each program, and a trace that stops.
+    fn try_changed(&mut self, place: usize, seen: [&[u8]; 2]) {
+        let [written, text] = seen;
+        let of_cable = others(written, place).map(|other| wrong([&other, text], seen));
+        let of_trace = others(text, place).map(|other| wrong([written, &other], seen));
+        let stopped = wrong([written, &[text, b"stop 6 1\n"].concat()], seen);
+        for wrong in of_cable.into_iter().chain(of_trace).chain([stopped]) {
+            self.tried += 1;
+            self.told += usize::from(wrong.is_some());
         }
     }
 
@@ -135,14 +140,14 @@ fn try_one(
 ) -> Result<(), String> {
     let written = piped(programs[0], one.input)?;
     let text = piped(programs[1], &written)?;
-    if let Some(wrong) = wrong(one.written, one.is_line(), &written, &text) {
-        return Err(wrong.to_string());
+    if let Some(wrong) = wrong([one.written, one.text], [&written, &text]) {
+        return Err(wrong);
     }
     match one.is_line() {
         true => tally.lines += 1,
         false => tally.traces += 1,
     }
-    tally.try_changed(place, &written, &text, one.is_line());
+    tally.try_changed(place, [&written, &text]);
     Ok(())
 }
 
