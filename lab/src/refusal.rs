@@ -134,27 +134,31 @@ pub fn gain_of(level: i32, r: u8) -> Option<u8> {
     (0..=MOST_GAIN).rev().find(fits)
 }
 
+/// The sum of magnitudes of a response that always fits.
+fn safe(given: &Given) -> String {
+    let below = 1 << (15 + given.r.value - given.l.value);
+    let sum = (below - 1) / most(given);
+    let thousandths = sum * 1000 / 32768;
+    let sum = format!("{sum} units of 1/32768, about 0.{thousandths:03},");
+    format!("magnitudes of the response that sum to at most {sum} always fit")
+}
+
 fn gain(given: &Given) -> Cause {
     let (response, symbols) = (given.response.plain(), given.symbols.plain());
     let (r, l) = (given.r.value, given.l.value);
     let mut levels = (0..symbols.len()).map(|place| (place, level(&response, &symbols, place)));
     let (place, level) = levels.find(|(_, s)| gain_of(*s, r).is_none_or(|gain| gain < l))?;
-    let below = 1 << (15 + r - l);
-    let sum = (below - 1) / most(given);
-    let safe = format!("magnitudes of the response that sum to at most {sum} always fit");
+    let found = format!("symbol {place} (from 0) has s = {level}");
+    let safe = safe(given);
     Some(match gain_of(level, r) {
         Some(gain) => {
-            let line = given.l.line;
-            let found = format!("symbol {place} (from 0) has s = {level}, so a gain of {gain}");
-            (line, format!("L = {l}, but {found} ({safe})"))
+            let sentence = format!("L = {l}, but {found}, so a gain of {gain} ({safe})");
+            (given.l.line, sentence)
         }
         None => {
             let wanted = format!("only |s| below 2^(15+r) = {} has a gain", 1 << (15 + r));
-            let line = given.response.line;
-            (
-                line,
-                format!("symbol {place} (from 0) has s = {level}, but {wanted} ({safe})"),
-            )
+            let sentence = format!("{found}, but {wanted} ({safe})");
+            (given.response.line, sentence)
         }
     })
 }

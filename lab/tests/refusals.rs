@@ -112,7 +112,7 @@ fn a_level_without_a_gain_has_its_place() {
     let text = with_line(WORKED, 6, "response = 20000 -20000");
     let text = with_line(&text, 7, "symbols = 1 1 -1");
     let wanted = "line 6: symbol 2 (from 0) has s = -40000, but only |s| below 2^(15+r) = 32768 has a gain \
-                  (magnitudes of the response that sum to at most 32767 always fit); turned down with 10";
+                  (magnitudes of the response that sum to at most 32767 units of 1/32768, about 0.999, always fit); turned down with 10";
     assert_eq!(told(&text), wanted);
 }
 
@@ -120,21 +120,38 @@ fn a_level_without_a_gain_has_its_place() {
 fn a_gain_below_l_is_told_at_l() {
     let text = with_line(WORKED, 5, "L = 2");
     let wanted = "line 5: L = 2, but symbol 0 (from 0) has s = 16384, so a gain of 0 \
-                  (magnitudes of the response that sum to at most 8191 always fit); turned down with 10";
+                  (magnitudes of the response that sum to at most 8191 units of 1/32768, about 0.249, always fit); turned down with 10";
     assert_eq!(told(&text), wanted);
     let text = with_line(&text, 6, "response = 8191");
     assert!(traces(&given(&text)).is_ok());
 }
 
+/// The worked text with a response that never fits.
+fn too_loud(r: u8, l: u8, most: i8) -> String {
+    let lines = [
+        (4, format!("r = {r}")),
+        (5, format!("L = {l}")),
+        (6, "response = 32767 32767".to_string()),
+        (7, format!("symbols = {most} {most}")),
+        (9, "M = 0".to_string()),
+    ];
+    lines
+        .iter()
+        .fold(WORKED.to_string(), |text, (number, line)| {
+            with_line(&text, *number, line)
+        })
+}
+
 /// The advice in the message: such a response fits, and one more doesn't.
 #[test]
 fn the_sum_that_always_fits_is_the_greatest() {
-    for (r, l, sum) in [
-        (0u8, 0u8, 32767),
-        (1, 0, 21845),
-        (2, 0, 18724),
-        (3, 0, 17476),
-        (3, 5, 546),
+    for (r, l, sum, fraction) in [
+        (0u8, 0u8, 32767, "0.999"),
+        (1, 0, 21845, "0.666"),
+        (2, 0, 18724, "0.571"),
+        (3, 0, 17476, "0.533"),
+        (3, 5, 546, "0.016"),
+        (3, 15, 0, "0.000"),
     ] {
         let most = (2i8 << r) - 1;
         let answer = |h: i16| {
@@ -153,6 +170,9 @@ fn the_sum_that_always_fits_is_the_greatest() {
             };
             cable(&described, &mut trace)
         };
+        let advice = format!("at most {sum} units of 1/32768, about {fraction}, always fit");
+        let told = told(&too_loud(r, l, most));
+        assert!(told.contains(&advice), "{told}");
         assert_eq!(answer(sum), 0, "r = {r}, L = {l}");
         assert!(sum == 32767 || answer(sum + 1) == 10, "r = {r}, L = {l}");
     }
