@@ -1,16 +1,18 @@
 //! `lab FILE OUTDIR`: see USAGE.
 
 use lab::cable::traces;
-use lab::run::{run, Run};
-use lab::text::{read, Given};
-use lab::{page, script, summary, table};
+use lab::page::page;
+use lab::run::run;
+use lab::script::script;
+use lab::text::read;
+use lab::{summary, table};
 use std::ffi::OsString;
 use std::io::Write;
 use std::path::Path;
 use std::process::ExitCode;
 use traces::trace::Trace;
 use traces::Problem;
-use years::files::{remove, Part};
+use years::files::{is_same, remove, Part};
 
 const USAGE: &str = "\
 usage: lab FILE OUTDIR
@@ -18,14 +20,15 @@ Runs the cable that the text FILE describes with each of its step sizes and writ
   lab.csv       a row for each step size and block
   summary.txt   what came of them
   lab.gnuplot   the page; gnuplot writes its picture to standard output
+  lab-cable.txt a copy of FILE, where that isn't this file itself
 Those of an earlier run are replaced, and its picture removed. The script lab/run draws the picture too.
 ";
 
 /// The most problems that are told.
 const MOST_TOLD: usize = 20;
 
-/// What an earlier run may have left, the table apart.
-const BESIDE: [&str; 3] = ["lab.png", "lab.gnuplot", "summary.txt"];
+/// The copy of the text.
+const COPY: &str = "lab-cable.txt";
 
 /// An exit status and the lines for standard error.
 type Failure = (u8, String);
@@ -92,7 +95,8 @@ fn text(file: &Path) -> Result<String, Failure> {
 }
 
 fn lab(file: &Path, outdir: &Path) -> Result<String, Failure> {
-    let given = read(&text(file)?).map_err(|problems| told(file, problems))?;
+    let text = text(file)?;
+    let given = read(&text).map_err(|problems| told(file, problems))?;
     let made = traces(&given).map_err(|problem| told(file, vec![problem]))?;
     let sent = given.symbols.plain();
     let steps = made.len();
@@ -102,32 +106,35 @@ fn lab(file: &Path, outdir: &Path) -> Result<String, Failure> {
         let trace = Trace::of_bytes(&bytes).map_err(|wrong| (1, wrong.join("\n")))?;
         runs.push(run(step, &trace, &sent, given.training.value));
     }
-    write(file, &given, &runs, outdir).map_err(|message| (1, message))
+    let summary = summary::summary(&given, &runs);
+    let name = file.file_name().unwrap_or_default().to_string_lossy();
+    let mut texts = vec![
+        ("lab.csv", table::csv(&given, &runs)),
+        ("summary.txt", summary.clone()),
+        ("lab.gnuplot", script(&page(&given, &runs, &name))),
+    ];
+    if !is_same(file, &outdir.join(COPY)) {
+        texts.push((COPY, text));
+    }
+    write(&texts, outdir).map_err(|message| (1, message))?;
+    Ok(summary)
 }
 
-/// Writes every file in full first. Then what an earlier run left goes, and
-/// the new files take their names.
-fn write(file: &Path, given: &Given, runs: &[Run], outdir: &Path) -> Result<String, String> {
+/// Writes every file in full first. Then what an earlier run left beside its
+/// table goes, and the new files take their names, the table first.
+fn write(texts: &[(&str, String)], outdir: &Path) -> Result<(), String> {
     if outdir.exists() && !outdir.is_dir() {
         return Err(format!("{}: is not a folder", outdir.display()));
     }
     std::fs::create_dir_all(outdir)
         .map_err(|error| format!("{}: can't be made: {error}", outdir.display()))?;
-    let name = file.file_name().unwrap_or_default().to_string_lossy();
-    let summary = summary::summary(given, runs);
-    let page = script::script(&page::page(given, runs, &name));
-    let texts = [
-        ("lab.csv", &table::csv(given, runs)),
-        ("summary.txt", &summary),
-        ("lab.gnuplot", &page),
-    ];
-    let part = |(name, text): (&str, &String)| {
+    let part = |(name, text): &(&str, String)| {
         Part::write(outdir.join(name), |out| out.write_all(text.as_bytes()))
     };
-    let parts: Vec<Part> = texts.into_iter().map(part).collect::<Result<_, _>>()?;
-    for name in BESIDE {
+    let parts: Vec<Part> = texts.iter().map(part).collect::<Result<_, _>>()?;
+    remove(&outdir.join("lab.png"))?;
+    for (name, _) in &texts[1..] {
         remove(&outdir.join(name))?;
     }
-    parts.into_iter().try_for_each(Part::put_in_place)?;
-    Ok(summary)
+    parts.into_iter().try_for_each(Part::put_in_place)
 }

@@ -40,7 +40,8 @@ fn told(output: &Output) -> String {
     String::from_utf8_lossy(&output.stderr).into_owned()
 }
 
-const WRITTEN: [&str; 3] = ["lab.csv", "lab.gnuplot", "summary.txt"];
+const COPY: &str = "lab-cable.txt";
+const WRITTEN: [&str; 4] = [COPY, "lab.csv", "lab.gnuplot", "summary.txt"];
 
 #[test]
 fn two_runs_write_the_same_bytes_and_tell_their_progress() {
@@ -66,8 +67,37 @@ fn two_runs_write_the_same_bytes_and_tell_their_progress() {
     );
     assert_ne!(
         std::fs::read(other.join("lab.csv")).expect("read"),
-        written[0][0]
+        written[0][1]
     );
+}
+
+#[test]
+fn the_text_is_kept_as_it_was_given() {
+    let outdir = folder("copy");
+    let copy = || std::fs::read_to_string(outdir.join(COPY)).expect("read");
+    let text = format!("\u{FEFF}# mine\r\n{WORKED}").replace("training", "\ttraining");
+    assert!(run(&outdir, text.as_bytes()).status.success());
+    assert_eq!(copy(), text);
+    assert!(run(&outdir, WORKED.as_bytes()).status.success());
+    assert_eq!(copy(), WORKED);
+}
+
+/// By its name, and by another one.
+#[test]
+fn a_copy_that_is_given_itself_stays() {
+    let outdir = folder("own-copy");
+    let (copy, link) = (outdir.join(COPY), outdir.join("../own-copy-link.txt"));
+    let _ = std::fs::remove_file(&link);
+    std::os::unix::fs::symlink(&copy, &link).expect("a link");
+    std::fs::write(&copy, WORKED).expect("written");
+    let before = std::fs::metadata(&copy).expect("a file");
+    for file in [&copy, &link] {
+        let output = lab(&[file, &outdir]);
+        assert!(output.status.success(), "{}", told(&output));
+        assert_eq!(names(&outdir), WRITTEN);
+        let after = std::fs::metadata(&copy).expect("a file");
+        assert_eq!(after.modified().ok(), before.modified().ok());
+    }
 }
 
 #[test]
@@ -152,7 +182,8 @@ fn a_new_table_never_stands_beside_an_earlier_picture() {
 fn a_run_that_cannot_write_leaves_the_earlier_one_whole() {
     let outdir = folder("in-the-way");
     assert!(run(&outdir, WORKED.as_bytes()).status.success());
-    let before = std::fs::read(outdir.join("lab.csv")).expect("read");
+    let both = || ["lab.csv", COPY].map(|name| std::fs::read(outdir.join(name)).expect("read"));
+    let before = both();
     std::fs::create_dir(outdir.join("lab.gnuplot.part")).expect("a folder in the way");
     let output = run(&outdir, EXAMPLE.as_bytes());
     assert_eq!(output.status.code(), Some(1));
@@ -161,10 +192,16 @@ fn a_run_that_cannot_write_leaves_the_earlier_one_whole() {
         "{}",
         told(&output)
     );
-    assert_eq!(std::fs::read(outdir.join("lab.csv")).expect("read"), before);
+    assert_eq!(both(), before);
     assert_eq!(
         names(&outdir),
-        ["lab.csv", "lab.gnuplot", "lab.gnuplot.part", "summary.txt"]
+        [
+            COPY,
+            "lab.csv",
+            "lab.gnuplot",
+            "lab.gnuplot.part",
+            "summary.txt"
+        ]
     );
 }
 
