@@ -8,9 +8,10 @@
 //! * [`refusal`]: why the library turned a cable down.
 //! * [`run`]: a trace through the station, block by block.
 //! * [`table`], [`summary`]: what came of it, in rows and in sentences.
-//! * [`page`], [`script`]: the picture.
+//! * [`counts`], [`page`], [`script`]: the picture.
 
 pub mod cable;
+pub mod counts;
 pub mod page;
 pub mod refusal;
 pub mod run;

@@ -1,13 +1,14 @@
 //! What stands on the page: its words and its panels, a curve in each for
 //! every step size.
 
+use crate::counts::Counts;
 use crate::run::{decibels, mean_power, Ran, Run};
 use crate::summary::{cable, in_decibels, last_blocks, named, stop, wrong};
 use crate::text::{Given, MOST_STEPS};
 use crate::words::shown;
 use years::axis::Axis;
 use years::curve::{Curve, Rows, GREY};
-use years::words::percent;
+use years::words::{count, percent};
 
 pub struct Page {
     pub title: String,
@@ -27,6 +28,8 @@ pub struct Panel {
     pub up: Axis,
     /// What is across; none where the next panel has the same axis.
     pub below: Option<&'static str>,
+    /// The same in other words, above the panel.
+    pub above: Option<(Axis, String)>,
     /// Where training ends.
     pub mark: Option<f64>,
     pub curves: Vec<Curve>,
@@ -125,6 +128,19 @@ fn over_samples(given: &Given) -> Axis {
     Axis::between(0.0, samples(given), 10, 1.0)
 }
 
+/// The same axis with its labels in blocks, and what they are.
+fn over_blocks(given: &Given) -> (Axis, String) {
+    let n = f64::from(given.n.value);
+    let blocks = Axis::between(0.0, samples(given) / n, 10, 1.0);
+    let in_samples = |(at, word): (f64, String)| (at * n, word);
+    let axis = Axis {
+        labels: blocks.labels.into_iter().map(in_samples).collect(),
+        ..over_samples(given)
+    };
+    let words = format!("blocks of {}", count(given.n.value.into(), "sample"));
+    (axis, words)
+}
+
 /// The end of training, where it is within the page.
 fn end_of_training(given: &Given) -> Option<f64> {
     let end = given.training.value as f64;
@@ -132,12 +148,16 @@ fn end_of_training(given: &Given) -> Option<f64> {
 }
 
 /// A curve for each step size, with a title of its own.
-fn curves(runs: &[Run], rows: impl Fn(&Run) -> Rows, title: impl Fn(&Run) -> String) -> Vec<Curve> {
-    let looks = runs.iter().zip(LOOKS);
+fn curves(
+    runs: &[Run],
+    rows: impl Fn(usize, &Run) -> Rows,
+    title: impl Fn(&Run) -> String,
+) -> Vec<Curve> {
+    let looks = runs.iter().zip(LOOKS).enumerate();
     looks
-        .map(|(run, look)| {
+        .map(|(place, (run, look))| {
             let style = format!("with lines {look}");
-            Curve::new(rows(run), style, Some(&title(run)))
+            Curve::new(rows(place, run), style, Some(&title(run)))
         })
         .collect()
 }
@@ -217,7 +237,7 @@ fn error_power(given: &Given, runs: &[Run]) -> Panel {
         format!("{}{end}", named(&run.step))
     };
     let mut drawn = vec![guessing(given)];
-    drawn.extend(curves(runs, |run| in_rows(&powers(given, run)), title));
+    drawn.extend(curves(runs, |_, run| in_rows(&powers(given, run)), title));
     Panel {
         least_height: 330.0,
         label: "error power, dB",
@@ -226,6 +246,7 @@ fn error_power(given: &Given, runs: &[Run]) -> Panel {
         across: over_samples(given),
         up: Axis::around(low, high, 7, 1.0),
         below: None,
+        above: Some(over_blocks(given)),
         mark: end_of_training(given),
         curves: drawn,
     }
@@ -249,48 +270,61 @@ fn changes(given: &Given, run: &Run, mut value: impl FnMut(&Ran) -> f64) -> Vec<
     points
 }
 
-/// Wrong decisions so far; nothing before the first.
-fn wrong_so_far(given: &Given, run: &Run) -> Vec<(f64, f64)> {
+/// Wrong decisions after each block, from the end of training on; nothing
+/// where no decision came after it.
+fn wrong_so_far(given: &Given, run: &Run) -> Vec<(f64, usize)> {
+    if run.decided() == 0 {
+        return Vec::new();
+    }
+    let n = f64::from(given.n.value);
     let mut sum = 0;
-    let mut points = changes(given, run, |block| {
+    let mut points = vec![(given.training.value as f64, sum)];
+    let with_wrong = |(_, block): &(usize, &Ran)| block.wrong > 0;
+    for (place, block) in run.blocks.iter().enumerate().filter(with_wrong) {
+        let end = (place + 1) as f64 * n;
+        points.extend([(end, sum), (end, sum + block.wrong)]);
         sum += block.wrong;
-        sum as f64
-    });
-    points.retain(|(_, sum)| *sum > 0.0);
+    }
+    points.push((run.blocks.len() as f64 * n, sum));
     points
 }
 
-/// Counts from 1 on, by powers of ten.
-fn counts(greatest: usize) -> Axis {
-    let powers = (0..=7).map(|power| 10f64.powi(power));
-    let high = (greatest as f64 * 1.5).max(15.0);
-    let labels = powers.filter(|at| *at <= high);
-    Axis {
-        low: 0.7,
-        high,
-        labels: labels.map(|at| (at, format!("{at:.0}"))).collect(),
-        logarithmic: true,
-    }
+fn wrong_notes(steps: usize) -> Vec<String> {
+    let notes = match steps {
+        1 => &["after each block; 0 is at the foot"][..],
+        _ => &[
+            "after each block; 0 is at the foot, where",
+            "each step size has a line of its own",
+        ],
+    };
+    notes.iter().map(|note| note.to_string()).collect()
 }
 
 fn wrong_decisions(given: &Given, runs: &[Run]) -> Panel {
     let title = |run: &Run| format!("{}: {}", run.step.name, wrong(run));
     let most = runs.iter().map(Run::wrong).max();
+    let counts = Counts::new(most.unwrap_or(0), runs.len());
+    let rows = |place: usize, run: &Run| {
+        let points = wrong_so_far(given, run).into_iter();
+        let drawn = points.map(|(at, count)| (at, counts.height(place, count)));
+        in_rows(&drawn.collect::<Vec<_>>())
+    };
     Panel {
-        least_height: 190.0,
+        least_height: 210.0,
         label: "wrong so far",
         name: "wrong decisions after training, so far",
-        notes: vec!["after each block, from the first wrong one on".to_string()],
+        notes: wrong_notes(runs.len()),
         across: over_samples(given),
-        up: counts(most.unwrap_or(0)),
+        curves: curves(runs, rows, title),
+        up: counts.up,
         below: None,
+        above: None,
         mark: end_of_training(given),
-        curves: curves(runs, |run| in_rows(&wrong_so_far(given, run)), title),
     }
 }
 
 fn exponent(given: &Given, runs: &[Run]) -> Panel {
-    let psi = |run: &Run| in_rows(&changes(given, run, |block| block.psi.into()));
+    let psi = |_, run: &Run| in_rows(&changes(given, run, |block| block.psi.into()));
     let last = |run: &Run| run.blocks.last().map_or(0, |block| block.psi);
     let title = |run: &Run| format!("{}: {} at the end", run.step.name, last(run));
     let most = runs.iter().map(last).max().unwrap_or(0);
@@ -302,6 +336,7 @@ fn exponent(given: &Given, runs: &[Run]) -> Panel {
         across: over_samples(given),
         up: Axis::counts(most.into(), 5),
         below: Some("samples received, one for each symbol"),
+        above: None,
         mark: end_of_training(given),
         curves: curves(runs, psi, title),
     }
@@ -383,6 +418,7 @@ fn weights(filter: &Filter, runs: &[Run]) -> Panel {
         },
         up: Axis::around(low, high, 5, 0.0001),
         below: Some("tap"),
+        above: None,
         mark: None,
         curves: drawn.chain(marks).collect(),
     }

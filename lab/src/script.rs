@@ -13,6 +13,8 @@ const LEGEND: f64 = 856.0;
 /// Between panels with the same axis, and below one with words of its own.
 const GAP: f64 = 30.0;
 const WORDS: f64 = 84.0;
+/// Above a panel with an axis of its own there.
+const ABOVE: f64 = 52.0;
 const SMALL: &str = "font ',13' textcolor '#555555'";
 
 fn quoted(text: &str) -> String {
@@ -37,11 +39,18 @@ fn gap(panel: &Panel) -> f64 {
     }
 }
 
+fn lead(panel: &Panel) -> f64 {
+    panel.above.as_ref().map_or(0.0, |_| ABOVE)
+}
+
 /// The whole script: rows first, then the look that all pages share.
 pub fn script(page: &Page) -> String {
     let first = 92.0 + 22.0 * page.lines.len() as f64;
-    let panels = page.panels.iter();
-    let height = first + panels.map(|panel| panel.height() + gap(panel)).sum::<f64>();
+    let heights = page
+        .panels
+        .iter()
+        .map(|panel| lead(panel) + panel.height() + gap(panel));
+    let height = first + heights.sum::<f64>();
     let mut text = rows(page);
     text.push_str(include_str!("../../years/page.gnuplot"));
     text.push_str(&format!(
@@ -53,6 +62,7 @@ pub fn script(page: &Page) -> String {
     text.push_str(&head(page, height));
     let mut top = first;
     for (place, panel) in page.panels.iter().enumerate() {
+        top += lead(panel);
         text.push_str(&axes(panel, top, height));
         text.push_str(&words(panel, top, height));
         text.push_str(&format!("plot {}\n", plots(place, panel)));
@@ -102,6 +112,19 @@ fn ticks(axis: &Axis, with_words: bool) -> String {
     format!("({})", ticks.join(", "))
 }
 
+/// The axis above a panel, or none.
+fn axis_above(panel: &Panel) -> String {
+    match &panel.above {
+        Some((axis, _)) => format!(
+            "set border 7\nset x2range [{:e}:{:e}]\nset x2tics nomirror textcolor rgb '#000000' {}\n",
+            axis.low,
+            axis.high,
+            ticks(axis, true)
+        ),
+        None => "set border 3\nunset x2tics\n".to_string(),
+    }
+}
+
 /// The panel's place, its ranges and the mark of the end of training.
 fn axes(panel: &Panel, top: f64, height: f64) -> String {
     let share = |down: f64| 1.0 - down / height;
@@ -110,10 +133,11 @@ fn axes(panel: &Panel, top: f64, height: f64) -> String {
         format!("set arrow from first {mark}, graph 0 to first {mark}, graph 1 nohead back dt 2 lw 2 lc rgb '{GREY}'\n")
     });
     format!(
-        "set tmargin at screen {:.5}\nset bmargin at screen {:.5}\nunset logscale y\n\
+        "set tmargin at screen {:.5}\nset bmargin at screen {:.5}\nunset logscale y\n{}\
          set xrange [{:e}:{:e}]\nset yrange [{:e}:{:e}]\n{}set xtics nomirror {}\nset ytics nomirror textcolor rgb '#000000' {}\n{mark}",
         share(top),
         share(top + panel.height()),
+        axis_above(panel),
         across.low,
         across.high,
         up.low,
@@ -129,6 +153,10 @@ fn words(panel: &Panel, top: f64, height: f64) -> String {
     let bottom = top + panel.height();
     let middle = at(18.0, (top + bottom) / 2.0, height);
     let mut text = label(panel.label, &middle, "center rotate by 90");
+    if let Some((_, words)) = &panel.above {
+        let place = at((LEFT + RIGHT) / 2.0, top - 44.0, height);
+        text.push_str(&label(words, &place, "center"));
+    }
     if let Some(words) = panel.below {
         let place = at((LEFT + RIGHT) / 2.0, bottom + 50.0, height);
         text.push_str(&label(words, &place, "center"));

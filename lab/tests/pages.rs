@@ -59,6 +59,9 @@ fn the_example_has_its_five_panels_and_words() {
         "'share 1: 94 of 6400 (1.5 %)'",
         "'share 1/4: 3 at the end'",
         "'samples received, one for each symbol'",
+        "'blocks of 32 samples'",
+        "'250' 8e3, '300' 9.6e3)",
+        "'after each block; 0 is at the foot, where'",
         "'W·2^(ψ−15); 1 is the newest symbol''s'",
     ] {
         assert!(text.contains(words), "{words}");
@@ -106,21 +109,73 @@ fn error_powers_are_means_of_blocks_in_a_row() {
     assert_eq!((rows[0].0, rows[151].0), (0.0, 9600.0));
 }
 
+/// The height at which a panel has the word 0.
+fn zero(panel: &Panel) -> f64 {
+    let mut labels = panel.up.labels.iter();
+    labels.find(|(_, word)| word == "0").expect("a 0").0
+}
+
 #[test]
-fn the_curve_of_wrong_decisions_ends_at_their_count() {
+fn the_curve_of_wrong_decisions_goes_from_0_to_their_count() {
     let page = page_of(EXAMPLE);
     let panel = panel(&page, "wrong decisions");
-    for (title, count) in [("share 1/16", 3763.0), ("share 1:", 94.0)] {
+    let counts = [("share 1/16", 3763.0), ("share 1:", 94.0)];
+    for (title, count) in counts {
         let rows = rows(panel, title);
         assert_eq!(rows.last(), Some(&(9600.0, count)));
-        assert!(rows
-            .iter()
-            .all(|(at, wrong)| *at >= 3200.0 && panel.up.holds(*wrong)));
+        assert!(rows[0].0 == 3200.0 && rows[0].1 < 1.0);
+        assert!(rows.iter().all(|(_, wrong)| panel.up.holds(*wrong)));
+        assert!(rows.windows(2).all(|two| two[0].0 <= two[1].0));
         assert!(rows.windows(2).all(|two| two[0].1 <= two[1].1));
     }
-    assert!(rows(panel, "share 1/4").is_empty());
+    let none = zero(panel);
+    for (at, height) in rows(panel, "share 1/4") {
+        assert!(at == 3200.0 || at == 9600.0);
+        assert!((height - none).abs() < 1e-6);
+    }
+    assert!(!script(&page).contains("keyentry with lines lw 3"));
+}
+
+/// Those of six step sizes without a wrong decision, from the first down.
+#[test]
+fn each_step_size_has_a_line_of_its_own_at_0() {
+    let text = EXAMPLE.replace("1/16 1/4 1", "1/6 1/5 1/4 1/3 2/5 1/2");
+    let page = page_of(&text.replace(" 0 0 0 0.04", ""));
+    let panel = panel(&page, "wrong decisions");
+    let heights: Vec<f64> = panel
+        .curves
+        .iter()
+        .map(|curve| rows(panel, curve.title.as_deref().expect("a title")))
+        .inspect(|rows| assert_eq!((rows[0].0, rows[1].0, rows.len()), (3200.0, 9600.0, 2)))
+        .inspect(|rows| assert_eq!(rows[0].1, rows[1].1))
+        .map(|rows| rows[0].1)
+        .collect();
+    assert_eq!(heights.len(), 6);
+    assert!(heights.windows(2).all(|two| two[0] > 1.1 * two[1]));
+    assert!(heights[2] > zero(panel) && zero(panel) > heights[3]);
+    assert!(heights[0] < 0.9 && panel.up.holds(heights[5]));
+}
+
+#[test]
+fn wrong_decisions_within_a_block_of_training_begin_with_it() {
+    let text = EXAMPLE.replace("training = 3200", "training = 10");
+    let page = page_of(&text.replace("random_symbols = 9600", "random_symbols = 32"));
+    let rows = rows(panel(&page, "wrong decisions"), "share 1:");
+    let ends: Vec<f64> = rows.iter().map(|(at, _)| *at).collect();
+    assert_eq!(ends, [10.0, 32.0, 32.0, 32.0]);
+    assert!(rows[0].1 < 1.0 && rows[1].1 < 1.0 && rows[2].1 == 17.0);
+}
+
+#[test]
+fn a_run_without_a_decision_has_its_line_of_the_legend_alone() {
+    let given = given(EXAMPLE);
+    let mut runs = runs(&given);
+    runs[1].blocks.truncate(100);
+    runs[1].stopped = Some(6);
+    let page = page(&given, &runs, "a");
+    assert!(rows(panel(&page, "wrong decisions"), "share 1/4").is_empty());
     assert!(script(&page)
-        .contains("keyentry with lines lw 3 lc rgb '#4a86c5' title 'share 1/4: 0 of 6400 (0 %)'"));
+        .contains("keyentry with lines lw 3 lc rgb '#4a86c5' title 'share 1/4: 0 of 0 (0 %)'"));
 }
 
 #[test]
