@@ -66,33 +66,43 @@ fn sum(h: &[i16], v: &[i16]) -> i32
     sum
 }
 
-// s of each symbol, and the bits of every |s| together. The two rows are equal: as their place changes, a compiler
-// multiplies words of 16 bits as they are, and does not widen them before the loop.
-fn row_sums(taps: &[i16], line: &[i16], out: &mut [i32]) -> u32
+// s of each symbol. The two rows are equal: as their place changes, a compiler multiplies words of 16 bits as they are, and
+// does not widen them before the loop.
+fn row_sums(taps: &[i16], line: &[i16], out: &mut [i32])
     requires { ⌜ RowsSummable (now taps) (now line) (length (now out)) ⌝ }
-    ensures { λ r. ⌜ (now (out .exit) ≡ rowSums (now (taps .entry)) (now (line .entry)) (length (now (out .entry)))) × (r ≡ together (magnitudes (now (out .exit)))) ⌝ }
+    ensures { λ _. ⌜ now (out .exit) ≡ rowSums (now (taps .entry)) (now (line .entry)) (length (now (out .entry))) ⌝ }
 {
-    let mut seen: u32 = 0;
     let mut i: usize = 0;
     while i < out.len() {
         let row = limits::RESPONSE * (i % 2);
         let last = row + limits::RESPONSE;
         let at = limits::SENT - 1 - i;
         let end = at + limits::RESPONSE;
-        let s = sum(&taps[row..last], &line[at..end]);
-        out[i] = s;
-        seen |= numbers::bit_length::magnitude32(s);
+        out[i] = sum(&taps[row..last], &line[at..end]);
+        i += 1;
+    }
+}
+
+// The bits of every |s| together.
+fn bits(sums: &[i32]) -> u32
+    ensures { λ r. ⌜ r ≡ together (magnitudes (now (sums .entry))) ⌝ }
+{
+    let mut seen: u32 = 0;
+    let mut i: usize = 0;
+    while i < sums.len() {
+        seen |= numbers::bit_length::magnitude32(sums[i]);
         i += 1;
     }
     seen
 }
 
-// The same of a response.
+// s of each symbol from a response, and the bits of every |s| together.
 pub fn sums(h: &[i16], line: &[i16], out: &mut [i32]) -> u32
     requires { ⌜ LineSummable (now h) (now line) (length (now out)) ⌝ }
     ensures { λ r. ⌜ (now (out .exit) ≡ sums (now (h .entry)) (now (line .entry)) (length (now (out .entry)))) × (r ≡ together (magnitudes (now (out .exit)))) ⌝ }
 {
     let mut taps = [0i16; limits::TAPS];
     twice(h, &mut taps);
-    row_sums(&taps, line, out)
+    row_sums(&taps, line, out);
+    bits(out)
 }

@@ -22,14 +22,15 @@ row-sums-requires c κs =
 
 returns : tie.Need-returns
 returns c =
-    let r = rows (c .before .before) in
+    let o = c .before .before .before in
+    let r = rows (o .before) in
     let s = start r in
     let n = length (s .args .out .now) in (
-      c .before .row-sums .ensures .0 ∙ ap (λ (l : List ℤ). rowSums l (s .args .line .now) n) (r .twice .ensures) ∙ row-sums-are (s .args .h .now) (s .args .line .now) n (s .pre),
-      c .before .row-sums .ensures .1,
+      o .row-sums .ensures ∙ ap (λ (l : List ℤ). rowSums l (s .args .line .now) n) (r .twice .ensures) ∙ row-sums-are (s .args .h .now) (s .args .line .now) n (s .pre),
+      c .bits .ensures,
     )
 
 pub sums-spec : {M : Type 1} → statement M
 sums-spec =
     tie.close
-    (tie.spec (λ c. search needs) (λ c κs. search needs) (λ c. search needs) row-sums-requires (λ c. search needs) returns)
+    (tie.spec (λ c. search needs) (λ c κs. search needs) (λ c. search needs) row-sums-requires (λ c κs. search needs) (λ c. search needs) returns)
