@@ -17,7 +17,7 @@ use Rattle.laws.specs.Powers.{split, raise, positive, exponent-lt}
 use Rattle.numbers.specs.BitLength.{bitLength}
 use Rattle.numbers.proofs.BitLengthLaws.{bit-length-above, bit-length-least, bit-length-zero, bit-length-le}
 use Rattle.numbers.proofs.CutLaws.{unlike, cut-alike, cut-unlike}
-use Rattle.cable_trace.specs.Calls.{magnitudeBits, floatBits, exponentIn, leading}
+use Rattle.cable_trace.specs.Calls.{floatDigits, floatOffset, magnitudeBits, floatBits, exponentIn, leading}
 
 -- ---- the digits of n·2^k
 
@@ -45,7 +45,7 @@ size-raised n k h = le-antisymm upper lower
 abbrev written : ℕ → ℕ
 written n = (size n - 24) * 2 ^ 23 + n / 2 ^ (size n - 24)
 
-written-is : (a : ℕ) → a < 2 ^ 24 → written (a * 2 ^ 149) ≡ magnitudeBits a
+written-is : (a : ℕ) → a < 2 ^ floatDigits → written (a * 2 ^ 149) ≡ magnitudeBits a
 unfolding size
 written-is zero h = ap written (zero-mul (2 ^ 149))
 written-is (suc n) h = go
@@ -68,7 +68,7 @@ written-is (suc n) h = go
     go : written (suc n * 2 ^ 149) ≡ magnitudeBits (suc n)
     go = ap (λ (k : ℕ). k * 2 ^ 23 + suc n * 2 ^ 149 / 2 ^ k) places ∙ ap (λ (x : ℕ). (125 + b) * 2 ^ 23 + x) kept
 
-bits-of : (x : Float) (s : Bool) (a : ℕ) → HasValue x s a 1 → a < 2 ^ 24 → toBits binary32 x ≡ cond s (2 ^ 31) 0 + magnitudeBits a
+bits-of : (x : Float) (s : Bool) (a : ℕ) → HasValue x s a 1 → a < 2 ^ floatDigits → toBits binary32 x ≡ cond s (2 ^ 31) 0 + magnitudeBits a
 unfolding toBits
 bits-of (fin t m e) s a v h =
     ap (λ (n : ℕ). cond t (2 ^ 31) 0 + (size n - 24) * 2 ^ 23 + n / 2 ^ (size n - 24)) units
@@ -81,21 +81,21 @@ bits-of (fin t m e) s a v h =
 
 -- ---- a whole number
 
-pub float-whole : (z : ℤ) → natAbs z < 2 ^ 24 → T (inFloat binary32 z)
+pub float-whole : (z : ℤ) → natAbs z < 2 ^ floatDigits → T (inFloat binary32 z)
 unfolding inFloat
-float-whole (pos n) h = le→leb n (2 ^ 24) (omega arith)
-float-whole (negsuc n) h = lt→ltb n (2 ^ 24) (omega arith)
+float-whole (pos n) h = le→leb n (2 ^ floatDigits) (omega arith)
+float-whole (negsuc n) h = lt→ltb n (2 ^ floatDigits) (omega arith)
 
 no-nan : (x : Float) (s : Bool) (a : ℕ) → HasValue x s a 1 → T (not (isNan x))
 unfolding isNan
 no-nan (fin t m e) s a v = tt
 
-pub float-number : (z : ℤ) → natAbs z < 2 ^ 24 → T (not (isNan (ofInt binary32 z)))
+pub float-number : (z : ℤ) → natAbs z < 2 ^ floatDigits → T (not (isNan (ofInt binary32 z)))
 unfolding ofInt
 float-number (pos n) h = no-nan (round binary32 false n 1) false n (round-whole binary32 false n (omega arith))
 float-number (negsuc n) h = no-nan (round binary32 true (suc n) 1) true (suc n) (round-whole binary32 true (suc n) (omega arith))
 
-pub float-bits : (z : ℤ) → natAbs z < 2 ^ 24 → toBits binary32 (ofInt binary32 z) ≡ floatBits z
+pub float-bits : (z : ℤ) → natAbs z < 2 ^ floatDigits → toBits binary32 (ofInt binary32 z) ≡ floatBits z
 unfolding ofInt
 float-bits (pos n) h = bits-of (round binary32 false n 1) false n (round-whole binary32 false n (omega arith)) h ∙ zero-add (magnitudeBits n)
 float-bits (negsuc n) h = bits-of (round binary32 true (suc n) 1) true (suc n) (round-whole binary32 true (suc n) (omega arith)) h
@@ -104,28 +104,28 @@ float-bits (negsuc n) h = bits-of (round binary32 true (suc n) 1) true (suc n) (
 
 -- the 24 digits
 abbrev digits : ℕ → ℕ
-digits a = a * 2 ^ (24 - bitLength a)
+digits a = a * 2 ^ (floatDigits - bitLength a)
 
-digits-between : (a : ℕ) → 0 < a → a < 2 ^ 24 → (2 ^ 23 ≤ digits a) × (digits a < 2 ^ 24)
+digits-between : (a : ℕ) → 0 < a → a < 2 ^ floatDigits → (2 ^ 23 ≤ digits a) × (digits a < 2 ^ floatDigits)
 digits-between a h l =
     let b = bitLength a in
     let e : 24 ≡ b + (24 - b) = omega (arith, bit-length-le a 24 l) in
     (omega (arith, split 24 b (24 - b) e, mul-le-mul-right (2 ^ (24 - b)) (bit-length-least a h)), raise a 24 b (24 - b) e (bit-length-above a))
 
 -- below the sign
-signed-bits : (z : ℤ) → 0 < natAbs z → natAbs z < 2 ^ 24 → floatBits z % 2 ^ 31 ≡ (125 + bitLength (natAbs z)) * 2 ^ 23 + digits (natAbs z)
+signed-bits : (z : ℤ) → 0 < natAbs z → natAbs z < 2 ^ floatDigits → floatBits z % 2 ^ 31 ≡ (125 + bitLength (natAbs z)) * 2 ^ 23 + digits (natAbs z)
 signed-bits (pos zero) p h = absurd (omega arith)
 signed-bits (pos (suc n)) p h = omega (arith, bit-length-le (suc n) 24 h, digits-between (suc n) p h .1)
 signed-bits (negsuc n) p h = omega (arith, bit-length-le (suc n) 24 h, digits-between (suc n) p h .1)
 
-exponent-of : (m b d : ℕ) → b ≤ 24 → 2 ^ 23 ≤ d → d < 2 ^ 24 → m % 2 ^ 31 ≡ (125 + b) * 2 ^ 23 + d → exponentIn m ≡ 126 + b
+exponent-of : (m b d : ℕ) → b ≤ 24 → 2 ^ 23 ≤ d → d < 2 ^ floatDigits → m % 2 ^ 31 ≡ (125 + b) * 2 ^ 23 + d → exponentIn m ≡ floatOffset + b
 exponent-of m b d h l k e = omega arith
 
-first-of : (m b d : ℕ) → b ≤ 24 → 2 ^ 23 ≤ d → d < 2 ^ 24 → m % 2 ^ 31 ≡ (125 + b) * 2 ^ 23 + d → 2 ^ 14 + m / 2 ^ 9 % 2 ^ 14 ≡ d / 2 ^ 9
+first-of : (m b d : ℕ) → b ≤ 24 → 2 ^ 23 ≤ d → d < 2 ^ floatDigits → m % 2 ^ 31 ≡ (125 + b) * 2 ^ 23 + d → 2 ^ 14 + m / 2 ^ 9 % 2 ^ 14 ≡ d / 2 ^ 9
 first-of m b d h l k e = omega arith
 
-module _ (z : ℤ) (p : 0 < natAbs z) (h : natAbs z < 2 ^ 24) where
-  exponent-is : exponentIn (floatBits z) ≡ 126 + bitLength (natAbs z)
+module _ (z : ℤ) (p : 0 < natAbs z) (h : natAbs z < 2 ^ floatDigits) where
+  exponent-is : exponentIn (floatBits z) ≡ floatOffset + bitLength (natAbs z)
   exponent-is =
       let b = digits-between (natAbs z) p h in
       exponent-of (floatBits z) (bitLength (natAbs z)) (digits (natAbs z)) (bit-length-le (natAbs z) 24 h) (b .0) (b .1) (signed-bits z p h)
@@ -136,7 +136,7 @@ module _ (z : ℤ) (p : 0 < natAbs z) (h : natAbs z < 2 ^ 24) where
       let b = digits-between (natAbs z) p h in
       first-of (floatBits z) (bitLength (natAbs z)) (digits (natAbs z)) (bit-length-le (natAbs z) 24 h) (b .0) (b .1) (signed-bits z p h)
 
-pub float-exponent : (z : ℤ) → natAbs z < 2 ^ 24 → (exponentIn (floatBits z) - 126 ≡ bitLength (natAbs z)) × (exponentIn (floatBits z) ≤ 126 + bitLength (natAbs z))
+pub float-exponent : (z : ℤ) → natAbs z < 2 ^ floatDigits → (exponentIn (floatBits z) - floatOffset ≡ bitLength (natAbs z)) × (exponentIn (floatBits z) ≤ floatOffset + bitLength (natAbs z))
 float-exponent (pos zero) h = (sym bit-length-zero, omega arith)
 float-exponent (pos (suc n)) h = let e = exponent-is (pos (suc n)) (omega arith) h in (omega (arith, e), omega (arith, e))
 float-exponent (negsuc n) h = let e = exponent-is (negsuc n) (omega arith) h in (omega (arith, e), omega (arith, e))
@@ -150,7 +150,7 @@ alike z n = ap (λ (b : Bool). not (Bool·beq b (ltZ z (pos 0)))) (le-ltb n 0 (o
     go true = refl
     go false = refl
 
-module _ (z : ℤ) (p : 0 < natAbs z) (h : natAbs z < 2 ^ 24) where
+module _ (z : ℤ) (p : 0 < natAbs z) (h : natAbs z < 2 ^ floatDigits) where
   abbrev k : ℕ
   k = 24 - bitLength (natAbs z)
 

@@ -24,7 +24,7 @@ use Rattle.steps.specs.Side.{magnitudes, together}
 use Rattle.steps.proofs.LargestLaws.{together-longest}
 use Rattle.steps.proofs.LongestTests.{by-longest}
 use Rattle.cable_trace.specs.Cable.{takesGain, greatest, gain, hasGain, sample, gainFits}
-use Rattle.cable_trace.specs.Calls.{Gainable, gainOf, leading}
+use Rattle.cable_trace.specs.Calls.{Gainable, gainOf, floatDigits, leading}
 
 -- ---- the greatest number that passes
 
@@ -131,7 +131,7 @@ module _ (r : ℕ) (s : ℤ) (h : Gainable r s) where
   pub bits-most : bitLength (natAbs s) ≤ 18
   bits-most = omega (arith, gain-bits r s (h .has), h .r-most)
 
-  pub small : natAbs s < 2 ^ 24
+  pub small : natAbs s < 2 ^ floatDigits
   small = omega (arith, bit-length-lt (natAbs s) 18 bits-most)
 
   pub few-small : bitLength (natAbs s) ≤ r → natAbs s * 2 ^ (15 - r) < 2 ^ 31
@@ -154,10 +154,10 @@ module _ (r : ℕ) (s : ℤ) (h : Gainable r s) where
   unfolding sample
   sample-many many =
       let n = bitLength (natAbs s) in
-      let up : 15 + r - n - r ≡ 24 - n - 9 = omega (arith, gain-bits r s (h .has)) in
-      let down : r - (15 + r - n) ≡ 9 - (24 - n) = omega (arith, gain-bits r s (h .has), bits-most) in
+      let up : 15 + r - n - r ≡ floatDigits - n - (floatDigits - 15) = omega (arith, gain-bits r s (h .has)) in
+      let down : r - (15 + r - n) ≡ floatDigits - 15 - (floatDigits - n) = omega (arith, gain-bits r s (h .has), bits-most) in
       ap (λ (g : ℕ). rescale s g r) (sym (gain-many r s many (gain-bits r s (h .has))))
-      ∙ rescale-shifts s (15 + r - n) r ∙ ap₂ (rescale s) up down ∙ sym (rescale-shifts s (24 - n) 9)
+      ∙ rescale-shifts s (15 + r - n) r ∙ ap₂ (rescale s) up down ∙ sym (rescale-shifts s (floatDigits - n) (floatDigits - 15))
 
 -- ---- the gains of a list
 

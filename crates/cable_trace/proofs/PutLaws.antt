@@ -21,7 +21,7 @@ use Rattle.image.specs.Image.{bytes}
 use Rattle.image.proofs.ByteLaws.{four-bytes}
 use Rattle.image.proofs.ImageLaws.{word-bytes, next-part}
 use Rattle.cable_trace.specs.Cable.{joined}
-use Rattle.cable_trace.specs.Calls.{wordBytes, stored}
+use Rattle.cable_trace.specs.Calls.{gainUnit, wordBytes, stored}
 
 -- ---- four bytes of each word, three places apart
 
@@ -68,9 +68,9 @@ lowest : (x a b : ℕ) → x ≡ a + 256 * b → a < 256 → (x % 256 ≡ a) × 
 lowest x a b e h = (omega arith, omega arith)
 
 -- the bytes of a sample and its gain
-pub word-is : (w g : ℕ) → w < 65536 → g < 256 → take 3 (bytes 4 (w + 65536 * g)) ≡ bytes 2 w ++ (g ∷ [])
+pub word-is : (w g : ℕ) → w < gainUnit → g < 256 → take 3 (bytes 4 (w + gainUnit * g)) ≡ bytes 2 w ++ (g ∷ [])
 word-is w g h k =
-    let x = w + 65536 * g in
+    let x = w + gainUnit * g in
     let one = lowest x (w % 256) (w / 256 + 256 * g) (omega arith) (omega arith) in
     let two = lowest (x / 256) (w / 256) g (one .1) (omega arith) in
     let three : x / 256 / 256 % 256 ≡ g = ap (λ (y : ℕ). y % 256) (two .1) ∙ mod-eq-of-lt k in

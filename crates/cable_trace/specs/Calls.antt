@@ -93,27 +93,37 @@ pub record Gainable (r : ℕ) (s : ℤ) : Type 0 where
 abbrev pub gainOf : ℕ → ℕ → ℕ
 gainOf r bits = cond (leb bits r) gainLimit (15 + r - bits)
 
--- the bits of a whole number below 2^24 as a float: 125 more than its bit length, then its 24 digits, the first of which adds one
+-- a float of 32 bits: its digits, and what its exponent has more than the bit length of a whole number
+abbrev pub floatDigits : ℕ
+floatDigits = 24
+
+abbrev pub floatOffset : ℕ
+floatOffset = 126
+
+-- the bits of a whole number of no more digits as a float: its exponent, one less, and then its digits, the first of which adds one
 abbrev pub magnitudeBits : ℕ → ℕ
 magnitudeBits zero = 0
-magnitudeBits (suc n) = (125 + bitLength (suc n)) * 2 ^ 23 + suc n * 2 ^ (24 - bitLength (suc n))
+magnitudeBits (suc n) = (floatOffset - 1 + bitLength (suc n)) * 2 ^ (floatDigits - 1) + suc n * 2 ^ (floatDigits - bitLength (suc n))
 
 -- with its sign
 abbrev pub floatBits : ℤ → ℕ
 floatBits (pos n) = magnitudeBits n
 floatBits (negsuc n) = 2 ^ 31 + magnitudeBits (suc n)
 
--- the bit length in them, and 126 more; 0 for 0
+-- the exponent in them; 0 for 0
 abbrev pub exponentIn : ℕ → ℕ
-exponentIn b = b / 2 ^ 23 % 256
+exponentIn b = b / 2 ^ (floatDigits - 1) % 256
 
--- the first 15 of 24 digits
+-- the first 15 of its digits
 abbrev pub leading : ℤ → ℤ
-leading s = rescale s (24 - bitLength (natAbs s)) 9
+leading s = rescale s (floatDigits - bitLength (natAbs s)) (floatDigits - 15)
 
 -- a sample and its gain in one word
+abbrev pub gainUnit : ℕ
+gainUnit = 65536
+
 abbrev pub sampleWord : ℕ → ℤ → ℕ
-sampleWord r s = ofZ w16 (sample r s) + 65536 * gain r s
+sampleWord r s = ofZ w16 (sample r s) + gainUnit * gain r s
 
 abbrev pub sampleWords : ℕ → List ℤ → List ℤ
 sampleWords r sums = map (λ s. pos (sampleWord r s)) sums

@@ -28,3 +28,6 @@ pub const OFFSET: u32 = 126;
 pub const FIRST: u32 = 16384;
 
 pub const LAST: u32 = 512;
+
+// What the gain counts in the word of a sample.
+pub const GAIN_UNIT: u32 = 65536;

@@ -6,12 +6,12 @@ ghost use lib.IntN.{pos, natAbs};
 ghost use Rattle.laws.specs.Sums.{Each};
 ghost use Rattle.steps.specs.Limits.{symbolLimit};
 ghost use Rattle.cable_trace.specs.Cable.{sample};
-ghost use Rattle.cable_trace.specs.Calls.{Gainable, gainOf, floatBits, exponentIn, leading, sampleWord, sampleWords};
+ghost use Rattle.cable_trace.specs.Calls.{Gainable, gainOf, floatDigits, floatOffset, floatBits, exponentIn, leading, sampleWord, sampleWords};
 use super::limits;
 use steps::limits::GAIN;
 
 fn float_bits(s: i32) -> u32
-    requires { ⌜ natAbs s < 2 ^ 24 ⌝ }
+    requires { ⌜ natAbs s < 2 ^ floatDigits ⌝ }
     ensures { λ b. ⌜ b ≡ floatBits s ⌝ }
 {
     f32::to_bits(s as f32)
@@ -19,8 +19,8 @@ fn float_bits(s: i32) -> u32
 
 // The gain by the exponent of s.
 fn gain(r: u32, e: u32) -> u32
-    requires { ⌜ (r ≤ symbolLimit) × (e ≤ 141 + r) ⌝ }
-    ensures { λ g. ⌜ g ≡ gainOf r (e - 126) ⌝ }
+    requires { ⌜ (r ≤ symbolLimit) × (e ≤ floatOffset + 15 + r) ⌝ }
+    ensures { λ g. ⌜ g ≡ gainOf r (e - floatOffset) ⌝ }
 {
     if e <= limits::OFFSET + r {
         GAIN
@@ -31,7 +31,7 @@ fn gain(r: u32, e: u32) -> u32
 
 // The first 15 digits of s, from its bits.
 fn leading(s: i32, b: u32) -> i32
-    requires { ⌜ (0 < natAbs s) × (natAbs s < 2 ^ 24) × (b ≡ floatBits s) ⌝ }
+    requires { ⌜ (0 < natAbs s) × (natAbs s < 2 ^ floatDigits) × (b ≡ floatBits s) ⌝ }
     ensures { λ m. ⌜ m ≡ leading s ⌝ }
 {
     let m = (limits::FIRST + b / limits::LAST % limits::FIRST) as i32;
@@ -57,7 +57,7 @@ fn word(r: u32, s: i32) -> i32
     let b = float_bits(s);
     let e = b / limits::DIGITS % limits::EXPONENTS;
     let m = image::save::word(sample(r, s, b, e) as i16);
-    ((m as u32) + 65536 * gain(r, e)) as i32
+    ((m as u32) + limits::GAIN_UNIT * gain(r, e)) as i32
 }
 
 // Each s replaced by its word.

@@ -9,16 +9,16 @@ use borrow.Author.Needs.{needs}
 use Rattle.laws.specs.Machine.{kept}
 use Rattle.numbers.specs.BitLength.{bitLength}
 use Rattle.numbers.specs.Cut.{raise}
-use Rattle.cable_trace.specs.Calls.{exponentIn, leading}
+use Rattle.cable_trace.specs.Calls.{floatOffset, exponentIn, leading}
 use Rattle.cable_trace.proofs.FloatLaws.{float-exponent}
 use Rattle.cable_trace.proofs.GainLaws.{small, few-small, bits-some, sample-few, sample-many}
 use Rattle.cable_trace.proofs.word.sample.Statement.{statement}
 use Rattle.cable_trace.proofs.word.sample.Tie as tie
 
-bits : (c : tie.Start) → c .args .e - 126 ≡ bitLength (natAbs (c .args .s))
+bits : (c : tie.Start) → c .args .e - floatOffset ≡ bitLength (natAbs (c .args .s))
 bits c =
     let a = c .args in
-    ap (λ (e : ℕ). e - 126) (c .pre .2 ∙ ap exponentIn (c .pre .1)) ∙ float-exponent (a .s) (small (a .r) (a .s) (c .pre .0)) .0
+    ap (λ (e : ℕ). e - floatOffset) (c .pre .2 ∙ ap exponentIn (c .pre .1)) ∙ float-exponent (a .s) (small (a .r) (a .s) (c .pre .0)) .0
 
 few : (c : tie.Then1) → bitLength (natAbs (c .before .args .s)) ≤ c .before .args .r
 few c = omega (arith, bits (c .before), c .if1 .taken)

@@ -10,7 +10,7 @@ use borrow.Author.Needs.{needs}
 use Rattle.laws.specs.Machine.{kept, fits-abs}
 use Rattle.numbers.specs.BitLength.{bitLength}
 use Rattle.cable_trace.specs.Cable.{gain, sample}
-use Rattle.cable_trace.specs.Calls.{floatBits, exponentIn, gainOf}
+use Rattle.cable_trace.specs.Calls.{floatOffset, floatBits, exponentIn, gainUnit, gainOf}
 use Rattle.cable_trace.proofs.FloatLaws.{float-exponent}
 use Rattle.cable_trace.proofs.GainLaws.{small, gain-bits, gain-of, gain-most, sample-small}
 use Rattle.cable_trace.proofs.word.word.Statement.{statement}
@@ -42,7 +42,7 @@ lower c =
 
 -- ---- the gain
 
-bits : (c : tie.After-float-bits) → let s = c .before .args .s in (exponentIn (c .float-bits .result) - 126 ≡ bitLength (natAbs s)) × (exponentIn (c .float-bits .result) ≤ 126 + bitLength (natAbs s))
+bits : (c : tie.After-float-bits) → let s = c .before .args .s in (exponentIn (c .float-bits .result) - floatOffset ≡ bitLength (natAbs s)) × (exponentIn (c .float-bits .result) ≤ floatOffset + bitLength (natAbs s))
 bits c =
     let s = c .before in
     let e : c .float-bits .result ≡ floatBits (s .args .s) = c .float-bits .ensures ∙ simp (toZ-ofZ (s .fits .s)) in
@@ -65,14 +65,14 @@ gained c =
 most : (c : tie.After-gain) → c .gain .result ≤ 15
 most c = let a = c .before .before .before .before .args in omega (arith, gained c, gain-most (a .r) (a .s))
 
-below : (c : tie.After-gain) → c .before .word .result + 65536 * c .gain .result < 2 ^ 31
+below : (c : tie.After-gain) → c .before .word .result + gainUnit * c .gain .result < 2 ^ 31
 below c = omega (arith, most c, c .before .word .ok)
 
 cast-result-2 : tie.Need-cast-result-2
-cast-result-2 c = fits-abs (pos (c .before .word .result + 65536 * c .gain .result)) (below c)
+cast-result-2 c = fits-abs (pos (c .before .word .result + gainUnit * c .gain .result)) (below c)
 
 returns : tie.Need-returns
-returns c = toZ-pos w32 (below c) ∙ ap₂ (λ (m g : ℕ). pos (m + 65536 * g)) (lower (c .before)) (gained c)
+returns c = toZ-pos w32 (below c) ∙ ap₂ (λ (m g : ℕ). pos (m + gainUnit * g)) (lower (c .before)) (gained c)
 
 pub word-spec : {M : Type 1} → statement M
 word-spec =
