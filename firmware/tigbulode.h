@@ -1,4 +1,4 @@
-/* The station equaliser for firmware: set-up, running a block, saving and loading. C99 and later, C++98 and later.
+/* The station equaliser for firmware: set-up, running a block, trying one, saving and loading. C99 and later, C++98 and later.
  *
  * Link target/staticlib/libfirmware.a, which `rt staticlib firmware` writes; firmware/README.md has the lines for C and
  * Rust, docs/EQUALISER.md what the numbers mean.
@@ -17,7 +17,7 @@
  * settings in it, and sets up anew otherwise. firmware/station.c does so.
  *
  * The archive is code for x86-64. docs/CLAIMS.md, "What the proof does not cover", says what a station on another
- * processor would need. The four functions in the archive are proved; the static inline ones below are plain C, and
+ * processor would need. The five functions in the archive are proved; the static inline ones below are plain C, and
  * firmware/check tries them. */
 #ifndef TIGBULODE_H
 #define TIGBULODE_H
@@ -26,9 +26,9 @@
 #include <stdint.h>
 
 /* Of this interface. A larger minor number only adds to it. */
-#define TIGBULODE_VERSION_MAJOR 0
-#define TIGBULODE_VERSION_MINOR 2
-#define TIGBULODE_VERSION "0.2"
+#define TIGBULODE_VERSION_MAJOR 1
+#define TIGBULODE_VERSION_MINOR 0
+#define TIGBULODE_VERSION "1.0"
 
 #ifdef __cplusplus
 extern "C" {
@@ -135,9 +135,24 @@ uint8_t tigbulode_run(tigbulode_equaliser *s,
                       int32_t *z, size_t z_length,
                       uint8_t *theta, size_t theta_length);
 
-/* Writes the image to the front of the buffer and gives its length; later bytes stay. Turned down with 1, 2, 9, 7. */
+/* A trial: answers and hands out what tigbulode_run would, on the record as it is, which is only read; beside the number stands
+ * the state that would follow, or, turned down, the record's own. tigbulode_run on a copy gives the same lists and leaves that
+ * state in the copy. tigbulode_trial_block below is the same call with the lists as named members. */
 TIGBULODE_NUMBER
-tigbulode_saved tigbulode_save(tigbulode_equaliser e, uint8_t *buffer, size_t length);
+tigbulode_answer tigbulode_trial(const tigbulode_equaliser *s,
+                                 const int16_t *samples, size_t samples_length,
+                                 const uint8_t *gains, size_t gains_length,
+                                 const int8_t *entries, size_t entries_length,
+                                 int32_t *y, size_t y_length,
+                                 uint8_t *xi, size_t xi_length,
+                                 int8_t *decision, size_t decision_length,
+                                 int32_t *z, size_t z_length,
+                                 uint8_t *theta, size_t theta_length);
+
+/* Writes the image to the front of the buffer and gives its length; later bytes stay, and the record is only read. Turned
+ * down with 1, 2, 9, 7. */
+TIGBULODE_NUMBER
+tigbulode_saved tigbulode_save(const tigbulode_equaliser *s, uint8_t *buffer, size_t length);
 
 /* The state that an image holds. Turned down with 8 for less than 12 bytes, 1, 8 for any other wrong length, 2, 9, the
  * state is the fresh one with p = q = N = 1 and r = L = M = 0. */

@@ -60,7 +60,14 @@ impl Operations for Refusing {
         self.0
     }
 
-    fn save(&self, _: Equaliser, _: &mut [u8]) -> Saved {
+    fn trial(&self, s: &mut Equaliser, _: Block, _: Outputs) -> Answer {
+        Answer {
+            number: self.0,
+            state: *s,
+        }
+    }
+
+    fn save(&self, _: &mut Equaliser, _: &mut [u8]) -> Saved {
         Saved {
             number: self.0,
             length: 0,
@@ -249,7 +256,7 @@ impl<'a> Bench<'a> {
             }
             (Call::Load(bytes), _) if outcome.number == 0 => {
                 let mut buffer = [0; IMAGE_BYTES];
-                let saved = self.library.save(self.records[0], &mut buffer);
+                let saved = self.library.save(&mut self.records[0], &mut buffer);
                 saved.number == 0 && buffer.get(..saved.length) == Some(bytes)
             }
             _ => true,

@@ -169,11 +169,15 @@ impl Operations for Faulty<'_> {
         number
     }
 
-    fn save(&self, e: Equaliser, buffer: &mut [u8]) -> Saved {
-        let saved = self.side.save(e, buffer);
+    fn trial(&self, s: &mut Equaliser, block: Block, out: Outputs) -> Answer {
+        self.side.trial(s, block, out)
+    }
+
+    fn save(&self, s: &mut Equaliser, buffer: &mut [u8]) -> Saved {
+        let saved = self.side.save(s, buffer);
         match (self.fault, saved.number) {
             (Fault::RefusedBuffer, 7) => flip(buffer.first_mut()),
-            (Fault::Image, 0) if e.weights.iter().any(|&w| w != 0) => flip(buffer.get_mut(12)),
+            (Fault::Image, 0) if s.weights.iter().any(|&w| w != 0) => flip(buffer.get_mut(12)),
             (Fault::AfterImage, 0) => flip(buffer.get_mut(saved.length)),
             _ => (),
         }

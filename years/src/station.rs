@@ -112,7 +112,7 @@ impl<'a> Station<'a> {
     /// Keeps the image of the record, and its check sum beside it.
     pub fn save(&mut self) {
         let mut buffer = [0; IMAGE_BYTES];
-        let saved = tigbulode::save(self.record, &mut buffer);
+        let saved = tigbulode::save(&self.record, &mut buffer);
         self.count(saved.number);
         if saved.number == 0 {
             let image = buffer[..saved.length].to_vec();

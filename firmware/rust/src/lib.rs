@@ -25,7 +25,7 @@ pub mod station;
 pub use number::number_text;
 
 /// The version of the interface, that of `tigbulode.h`.
-pub const VERSION: &str = "0.2";
+pub const VERSION: &str = "1.0";
 /// The most taps of one filter.
 pub const MOST_TAPS: u8 = 16;
 /// The most samples of a block.
@@ -104,6 +104,12 @@ impl Equaliser {
     pub fn settings(&self) -> (u8, u8, u8, u8, u8, u32) {
         (self.p, self.q, self.n, self.r, self.l, self.step)
     }
+
+    /// The largest magnitude of a weight.
+    pub fn largest_weight(&self) -> u16 {
+        let magnitudes = self.weights.iter().map(|weight| weight.unsigned_abs());
+        magnitudes.max().unwrap_or(0)
+    }
 }
 
 #[rustfmt::skip]
@@ -120,7 +126,18 @@ extern "C" {
         z: *mut i32, z_length: usize,
         theta: *mut u8, theta_length: usize,
     ) -> u8;
-    fn tigbulode_save(e: Equaliser, buffer: *mut u8, length: usize) -> Saved;
+    fn tigbulode_trial(
+        s: *const Equaliser,
+        samples: *const i16, samples_length: usize,
+        gains: *const u8, gains_length: usize,
+        entries: *const i8, entries_length: usize,
+        y: *mut i32, y_length: usize,
+        xi: *mut u8, xi_length: usize,
+        decision: *mut i8, decision_length: usize,
+        z: *mut i32, z_length: usize,
+        theta: *mut u8, theta_length: usize,
+    ) -> Answer;
+    fn tigbulode_save(s: *const Equaliser, buffer: *mut u8, length: usize) -> Saved;
     fn tigbulode_load(bytes: *const u8, length: usize) -> Answer;
 }
 
@@ -152,10 +169,31 @@ pub fn run(s: &mut Equaliser, block: Block, out: Outputs) -> u8 {
     }
 }
 
+/// A trial: what [`run`] would answer and hand out, beside the state that would
+/// follow, or turned down the record's own. The record is only read.
+#[rustfmt::skip]
+pub fn trial(s: &Equaliser, block: Block, out: Outputs) -> Answer {
+    // SAFETY: as for `run`, and the record is only read.
+    unsafe {
+        tigbulode_trial(
+            s,
+            block.samples.as_ptr(), block.samples.len(),
+            block.gains.as_ptr(), block.gains.len(),
+            block.entries.as_ptr(), block.entries.len(),
+            out.y.as_mut_ptr(), out.y.len(),
+            out.xi.as_mut_ptr(), out.xi.len(),
+            out.decision.as_mut_ptr(), out.decision.len(),
+            out.z.as_mut_ptr(), out.z.len(),
+            out.theta.as_mut_ptr(), out.theta.len(),
+        )
+    }
+}
+
 /// Writes the image to the front of the buffer and gives its length.
-pub fn save(e: Equaliser, buffer: &mut [u8]) -> Saved {
-    // SAFETY: the pointer is a slice's own, with its length.
-    unsafe { tigbulode_save(e, buffer.as_mut_ptr(), buffer.len()) }
+pub fn save(s: &Equaliser, buffer: &mut [u8]) -> Saved {
+    // SAFETY: both pointers are a reference's or a slice's own, the slice's
+    // with its length; the record is only read.
+    unsafe { tigbulode_save(s, buffer.as_mut_ptr(), buffer.len()) }
 }
 
 /// The state that an image holds.

@@ -176,8 +176,8 @@ pub fn perform(side: &dyn Operations, call: &Call, record: &mut Equaliser) -> Ou
         }
         Call::Block(lists, None) => block(side, lists, record),
         Call::Block(lists, Some(other)) => block(side, lists, &mut other.clone()),
-        Call::Save(room, None) => save(side, *room, *record),
-        Call::Save(room, Some(other)) => save(side, *room, *other),
+        Call::Save(room, None) => save(side, *room, record),
+        Call::Save(room, Some(other)) => save(side, *room, &mut other.clone()),
         Call::Load(bytes) => load(side, bytes, record),
     }
 }
@@ -198,7 +198,7 @@ fn block(side: &dyn Operations, lists: &Lists, record: &mut Equaliser) -> Outcom
     outcome(number, lent.parts(number))
 }
 
-fn save(side: &dyn Operations, room: usize, record: Equaliser) -> Outcome {
+fn save(side: &dyn Operations, room: usize, record: &mut Equaliser) -> Outcome {
     let mut buffer = Lent::filled(room, SENTINEL);
     let saved = side.save(record, buffer.list_mut());
     let image = buffer.list().get(..saved.length).map(<[u8]>::to_vec);

@@ -1,13 +1,15 @@
-//! The four operations by the library and by the second implementation.
+//! The five operations by the library and by the second implementation.
 
 use crate::{Answer, Block, Equaliser, Outputs, Saved};
 use reference::{Inputs, Settings, State};
 
-/// The four operations.
+/// The five operations. A trial and a save only read the record; it is lent to
+/// them so that a side that writes to it is found.
 pub trait Operations {
     fn set_up(&self, settings: Settings) -> Answer;
     fn run(&self, s: &mut Equaliser, block: Block, out: Outputs) -> u8;
-    fn save(&self, e: Equaliser, buffer: &mut [u8]) -> Saved;
+    fn trial(&self, s: &mut Equaliser, block: Block, out: Outputs) -> Answer;
+    fn save(&self, s: &mut Equaliser, buffer: &mut [u8]) -> Saved;
     fn load(&self, bytes: &[u8]) -> Answer;
 }
 
@@ -23,8 +25,12 @@ impl Operations for Library {
         crate::run(s, block, out)
     }
 
-    fn save(&self, e: Equaliser, buffer: &mut [u8]) -> Saved {
-        crate::save(e, buffer)
+    fn trial(&self, s: &mut Equaliser, block: Block, out: Outputs) -> Answer {
+        crate::trial(s, block, out)
+    }
+
+    fn save(&self, s: &mut Equaliser, buffer: &mut [u8]) -> Saved {
+        crate::save(s, buffer)
     }
 
     fn load(&self, bytes: &[u8]) -> Answer {
@@ -45,31 +51,26 @@ impl Operations for Second {
     }
 
     fn run(&self, s: &mut Equaliser, block: Block, out: Outputs) -> u8 {
-        let inputs = Inputs {
-            samples: block.samples,
-            gains: block.gains,
-            training: block.entries,
-        };
-        let mut lists = reference::Outputs {
-            y: out.y.to_vec(),
-            xi: out.xi.to_vec(),
-            decision: out.decision.to_vec(),
-            z: out.z.to_vec(),
-            theta: out.theta.to_vec(),
-        };
         let mut state = state_of(s);
-        let number = reference::run(&mut state, inputs, &mut lists);
+        let number = over_lists(block, out, |inputs, lists| {
+            reference::run(&mut state, inputs, lists)
+        });
         *s = record_of(&state);
-        out.y.copy_from_slice(&lists.y);
-        out.xi.copy_from_slice(&lists.xi);
-        out.decision.copy_from_slice(&lists.decision);
-        out.z.copy_from_slice(&lists.z);
-        out.theta.copy_from_slice(&lists.theta);
         number
     }
 
-    fn save(&self, e: Equaliser, buffer: &mut [u8]) -> Saved {
-        let (number, length) = reference::save(&state_of(&e), buffer);
+    fn trial(&self, s: &mut Equaliser, block: Block, out: Outputs) -> Answer {
+        let (number, state) = over_lists(block, out, |inputs, lists| {
+            reference::trial(&state_of(s), inputs, lists)
+        });
+        Answer {
+            number,
+            state: record_of(&state),
+        }
+    }
+
+    fn save(&self, s: &mut Equaliser, buffer: &mut [u8]) -> Saved {
+        let (number, length) = reference::save(&state_of(s), buffer);
         Saved { number, length }
     }
 
@@ -80,6 +81,33 @@ impl Operations for Second {
             state: record_of(&state),
         }
     }
+}
+
+/// A call of the second implementation over lent lists.
+fn over_lists<T>(
+    block: Block,
+    out: Outputs,
+    call: impl FnOnce(Inputs, &mut reference::Outputs) -> T,
+) -> T {
+    let inputs = Inputs {
+        samples: block.samples,
+        gains: block.gains,
+        training: block.entries,
+    };
+    let mut lists = reference::Outputs {
+        y: out.y.to_vec(),
+        xi: out.xi.to_vec(),
+        decision: out.decision.to_vec(),
+        z: out.z.to_vec(),
+        theta: out.theta.to_vec(),
+    };
+    let answer = call(inputs, &mut lists);
+    out.y.copy_from_slice(&lists.y);
+    out.xi.copy_from_slice(&lists.xi);
+    out.decision.copy_from_slice(&lists.decision);
+    out.z.copy_from_slice(&lists.z);
+    out.theta.copy_from_slice(&lists.theta);
+    answer
 }
 
 /// The sizes and M of a record.

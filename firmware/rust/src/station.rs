@@ -227,7 +227,7 @@ impl Station<'_> {
             }
         }
         let mut image = [0; crate::IMAGE_BYTES];
-        let saved = self.side.save(s, &mut image);
+        let saved = self.side.save(&mut s, &mut image);
         self.line(format!("image{}", hexadecimal(&image[..saved.length])));
     }
 
@@ -266,7 +266,7 @@ impl Station<'_> {
     /// Keeps the record and prints what is kept.
     fn keep_record(&mut self) -> Kept {
         let mut kept = Kept::filled(0);
-        let Saved { number, length } = keep(self.side, self.record, &mut kept);
+        let Saved { number, length } = keep(self.side, &mut self.record, &mut kept);
         let sum = kept.check_sum;
         self.line(format!(
             "kept: answer {number}, length {length}, check sum {sum:08X}"
@@ -331,7 +331,7 @@ impl Station<'_> {
 
     fn refused_save(&mut self) {
         let mut buffer = [0x55; IMAGE - 1];
-        let saved = self.side.save(self.record, &mut buffer);
+        let saved = self.side.save(&mut self.record, &mut buffer);
         let kept = self.unchanged(buffer == [0x55; IMAGE - 1]);
         let (number, length) = (saved.number, saved.length);
         self.line(format!(
@@ -471,9 +471,9 @@ impl Station<'_> {
 
     /// The state of another station, kept as that one would keep it.
     fn recover_from_other(&mut self, about: &str, settings: Settings) {
-        let other = self.side.set_up(settings).state;
+        let mut other = self.side.set_up(settings).state;
         let mut kept = Kept::filled(0);
-        let saved = keep(self.side, other, &mut kept);
+        let saved = keep(self.side, &mut other, &mut kept);
         self.marks += u32::from(saved.number != number::ACCEPTED);
         self.recover_from(about, &kept);
     }

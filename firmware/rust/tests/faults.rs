@@ -58,8 +58,12 @@ impl Operations for Faulty {
         number
     }
 
-    fn save(&self, e: Equaliser, buffer: &mut [u8]) -> Saved {
-        let mut saved = Second.save(e, buffer);
+    fn trial(&self, s: &mut Equaliser, block: Block, out: Outputs) -> Answer {
+        Second.trial(s, block, out)
+    }
+
+    fn save(&self, s: &mut Equaliser, buffer: &mut [u8]) -> Saved {
+        let mut saved = Second.save(s, buffer);
         match self {
             Faulty::Cleared if saved.number == 0 && saved.length < buffer.len() => {
                 buffer[saved.length] = 0;

@@ -66,7 +66,7 @@ fn the_greatest_step_is_the_second_implementations() {
 #[test]
 fn the_image_length_is_the_librarys() {
     for (p, q) in (1..=16).flat_map(|p| (1..=16).map(move |q| (p, q))) {
-        let saved = tigbulode::save(set_up(p, q, 128, 0, 0, 0).state, &mut [0; IMAGE_BYTES]);
+        let saved = tigbulode::save(&set_up(p, q, 128, 0, 0, 0).state, &mut [0; IMAGE_BYTES]);
         assert_eq!((saved.number, saved.length), (0, image_length(p, q)));
         let settings = settings([p, q, 0, 0]);
         assert_eq!(reference::image_length(&settings), image_length(p, q));

@@ -60,7 +60,7 @@ impl Findings {
 }
 
 /// Keeps a state: its image, and the check sum of that.
-pub fn keep(side: &dyn Operations, s: Equaliser, kept: &mut Kept) -> Saved {
+pub fn keep(side: &dyn Operations, s: &mut Equaliser, kept: &mut Kept) -> Saved {
     let saved = side.save(s, &mut kept.image);
     if saved.number == 0 {
         kept.make_right();
