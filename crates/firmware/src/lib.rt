@@ -1,4 +1,5 @@
 // The equaliser for firmware in C.
+ghost use mathlib.Core.Path.{_≡_};
 ghost use Rattle.state.specs.Sizes.{given};
 ghost use Rattle.checks.specs.Calls.{lentOf};
 ghost use Rattle.state.specs.Answers.{SetUp};
@@ -19,10 +20,10 @@ pub extern "C" fn tigbulode_set_up(p: u8, q: u8, n: u8, r: u8, l: u8, m: u32) ->
 
 // The image at the front of a lent buffer, or the number of the refusal and the buffer as it was.
 #[no_mangle]
-pub extern "C" fn tigbulode_save(e: Equaliser, buffer: &mut [u8]) -> Saved
-    ensures { λ s. ⌜ Save e (now (buffer .entry)) s (now (buffer .exit)) ⌝ }
+pub extern "C" fn tigbulode_save(s: &Equaliser, buffer: &mut [u8]) -> Saved
+    ensures { λ a. ⌜ (Save (now (s .entry)) (now (buffer .entry)) a (now (buffer .exit))) × (now (s .exit) ≡ now (s .entry)) ⌝ }
 {
-    image::save::save(e, buffer)
+    image::save::save(*s, buffer)
 }
 
 // The state that bytes hold, or the number of the refusal beside the smallest one.
@@ -51,4 +52,23 @@ pub extern "C" fn tigbulode_run(
     let r = station::run::run(*s, m, gains, entries, y, xi, decision, z, theta);
     *s = r.state;
     r.number
+}
+
+// A trial of a block: the state that would follow and five lists, or the number of the refusal and everything as it was.
+#[no_mangle]
+pub extern "C" fn tigbulode_trial(
+    s: &Equaliser,
+    m: &[i16],
+    gains: &[u8],
+    entries: &[i8],
+    y: &mut [i32],
+    xi: &mut [u8],
+    decision: &mut [i8],
+    z: &mut [i32],
+    theta: &mut [u8],
+) -> Answer
+    ensures { λ a. ⌜ (Run (now (s .entry)) (lentOf (now (m .entry)) (now (gains .entry)) (now (entries .entry)) (now (y .entry)) (now (xi .entry)) (now (decision .entry)) (now (z .entry)) (now (theta .entry))) a (now (y .exit)) (now (xi .exit)) (now (decision .exit)) (now (z .exit)) (now (theta .exit))) × (now (s .exit) ≡ now (s .entry)) ⌝ }
+{
+    let r = station::run::run(*s, m, gains, entries, y, xi, decision, z, theta);
+    r
 }

@@ -31,7 +31,7 @@ use Rattle.image.proofs.LoadLaws.{load-image, load-accepted, image-loaded}
 use Rattle.station.specs.Answers.{runNumber, runState}
 use Rattle.checks.specs.Checks.{Lent, block, checkNumber}
 use Rattle.checks.specs.Calls.{Sampled, Checked}
-use Rattle.station.specs.Claim.{Typed, Call, run, save, load, left, leftBy, Start, set-up, loaded, WithinLimits, StateAccepted, Keeps, KeepsAll, LaterNear, AcceptedBlock, CallHolds, Holds}
+use Rattle.station.specs.Claim.{Typed, Call, run, trial, save, load, left, leftBy, Start, set-up, loaded, WithinLimits, StateAccepted, Keeps, KeepsAll, LaterNear, AcceptedBlock, RunHolds, CallHolds, Holds}
 use Rattle.checks.proofs.CheckLaws.{check-number, checked-is}
 use Rattle.station.proofs.AnswerLaws.{run-tests}
 
@@ -84,6 +84,7 @@ run-within s g l t = go (eqb (runNumber s l) 0) refl
 
 left-within : (s : Equaliser) → WithinLimits s → (c : Call) → WithinLimits (left s c)
 left-within s g (run l t) = run-within s g l t
+left-within s g (trial l t) = g
 left-within s g (save buffer t) = g
 left-within s g (load bytes t) = accepted-within (load-accepted bytes t)
 
@@ -91,6 +92,7 @@ left-within s g (load bytes t) = accepted-within (load-accepted bytes t)
 
 keeps-same : (s : Equaliser) → WithinLimits s → (c : Call) → Keeps s c → left s c ≡ s
 keeps-same s g (run l t) f = refused-same s l f
+keeps-same s g (trial l t) f = refl
 keeps-same s g (save buffer t) f = refl
 keeps-same s g (load bytes t) e = ap loadState e ∙ load-image s (within-accepted g) .1
 
@@ -146,8 +148,12 @@ module _ (s : Equaliser) (sound : examined s ≡ 0) where
 
 -- ---- every call, and every list of calls
 
+run-holds : (s : Equaliser) → WithinLimits s → (l : Lent) → Typed l → RunHolds s l
+run-holds s g l t = record { number = run-accepted s (within-accepted g .number) l; accepted = accepted-block s g l t; refused = refused-same s l }
+
 call-holds : (s : Equaliser) → WithinLimits s → (c : Call) → CallHolds s c
-call-holds s g (run l t) = record { number = run-accepted s (within-accepted g .number) l; accepted = accepted-block s g l t; refused = refused-same s l }
+call-holds s g (run l t) = run-holds s g l t
+call-holds s g (trial l t) = record { as-run = run-holds s g l t; handed-back = run-within s g l t }
 call-holds s g (save buffer t) =
     let back = load-image s (within-accepted g) in
     record { number = save-accepted s (within-accepted g .number) buffer; accepted-back = back .0; state-back = back .1 }

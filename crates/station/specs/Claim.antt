@@ -1,4 +1,4 @@
--- The claim over every list of calls. A station is set up or loaded, and is then given blocks to run, buffers to save to and bytes to load, in any order.
+-- The claim over every list of calls. A station is set up or loaded, and is then given blocks to run or to try, buffers to save to and bytes to load, in any order.
 -- Whatever these hold, every state of the list is within its limits, and what is said here of a call holds of each call.
 use mathlib.Core.Path.{_≡_}
 use mathlib.Core.Bool.{true}
@@ -38,15 +38,17 @@ pub record Typed (l : Lent) : Type 0 where
   pub z : Each (SFits w32) (l .z)
   pub theta : Each Byte (l .theta)
 
--- run a block, save to a buffer, load bytes
+-- run a block, try one, save to a buffer, load bytes
 pub data Call : Type 0 where
   run : (l : Lent) → Typed l → Call
+  trial : (l : Lent) → Typed l → Call
   save : (buffer : List ℕ) → Each Byte buffer → Call
   load : (bytes : List ℕ) → Each Byte bytes → Call
 
 -- the state that the next call gets
 abbrev pub left : Equaliser → Call → Equaliser
 left s (run l t) = runState s l
+left s (trial l t) = s
 left s (save buffer t) = s
 left s (load bytes t) = loadState bytes
 
@@ -82,9 +84,10 @@ pub record StateAccepted (number : ℕ) : Type 0 where
   pub not-step : number ≡ 2 → ⊥
   pub not-state : number ≡ 9 → ⊥
 
--- calls that leave the state as it was: a block that is turned down, a save, a load of this state's image
+-- calls that leave the state as it was: a block that is turned down, a trial, a save, a load of this state's image
 abbrev pub Keeps : Equaliser → Call → Type 0
 Keeps s (run l t) = runNumber s l ≡ 0 → ⊥
+Keeps s (trial l t) = Unit
 Keeps s (save buffer t) = Unit
 Keeps s (load bytes t) = bytes ≡ image s
 
@@ -120,6 +123,11 @@ pub record RunHolds (s : Equaliser) (l : Lent) : Type 0 where
   pub accepted : runNumber s l ≡ 0 → AcceptedBlock s l
   pub refused : (runNumber s l ≡ 0 → ⊥) → runState s l ≡ s
 
+-- a trial is not turned down for its state, what it hands out is what the block would, and the state that it hands back is within its limits too
+pub record TrialHolds (s : Equaliser) (l : Lent) : Type 0 where
+  pub as-run : RunHolds s l
+  pub handed-back : WithinLimits (runState s l)
+
 -- a save is not turned down for its state, and the image loads as the state that was saved
 pub record SaveHolds (s : Equaliser) (buffer : List ℕ) : Type 0 where
   pub number : StateAccepted (saveNumber s buffer)
@@ -132,6 +140,7 @@ pub record LoadHolds (bytes : List ℕ) : Type 0 where
 
 abbrev pub CallHolds : Equaliser → Call → Type 0
 CallHolds s (run l t) = RunHolds s l
+CallHolds s (trial l t) = TrialHolds s l
 CallHolds s (save buffer t) = SaveHolds s buffer
 CallHolds s (load bytes t) = LoadHolds bytes
 

@@ -1,0 +1,49 @@
+-- Trials among calls: a trial is the call in place on a copy, and blocks, saves and loads go on as if there were none.
+use mathlib.Core.Path.{_≡_, refl, sym, ap, _∙_}
+use mathlib.Core.List.{List, [], _∷_}
+use Prim.Native.Nat.{ℕ}
+use Rattle.state.specs.declared.equaliser.Equaliser.{Equaliser}
+use Rattle.state.specs.declared.equaliser.Answer.{Answer}
+use Rattle.checks.specs.Checks.{Lent}
+use Rattle.station.specs.Claim.{Call, run, trial, save, load, left, leftBy}
+use Rattle.station.specs.Trials.{Handed, InPlace, Trial, SameAsRun, Leaves, ran, tried, saved, loaded, Records, end, next, states, without, gets}
+
+-- for every record and all lent lists
+pub trial-is-run : (s : Equaliser) (l : Lent) (a : Answer) (s′ : Equaliser) (h : Handed) (n : ℕ) (c : Equaliser) (k : Handed) → Trial s l a s′ h → InPlace s l n c k → SameAsRun a h n c k
+trial-is-run s l a s′ h n c k (t, e) r = record {
+  number = t .number ∙ sym (r .number);
+  state = t .state ∙ sym (r .state);
+  y-same = t .y-is ∙ sym (r .y-is);
+  xi-same = t .xi-is ∙ sym (r .xi-is);
+  decision-same = t .decision-is ∙ sym (r .decision-is);
+  z-same = t .z-is ∙ sym (r .z-is);
+  theta-same = t .theta-is ∙ sym (r .theta-is);
+}
+
+-- the record after a call, by its contract, is the state that the claim goes on from
+leaves-left : (s : Equaliser) (c : Call) (s′ : Equaliser) → Leaves s c s′ → s′ ≡ left s c
+leaves-left s c s′ (ran l t n s″ h r) = r .state
+leaves-left s c s′ (tried l t a s″ h r) = r .1
+leaves-left s c s′ (saved buffer t a after s″ r e) = e
+leaves-left s c s′ (loaded bytes t a r) = r .state
+
+-- so the records of a list are the states of the claim
+pub records-are : (s : Equaliser) (cs : List Call) (ss : List Equaliser) → Records s cs ss → ss ≡ states s cs
+records-are s cs ss (end s₀) = refl
+records-are s cs ss (next s₀ s′ c cs′ ss′ m r) = ap (λ (l : List Equaliser). s₀ ∷ l) (records-are s′ cs′ ss′ r ∙ ap (λ (x : Equaliser). states x cs′) (leaves-left s₀ c s′ m))
+
+-- blocks, saves and loads get the states of the list without its trials
+pub gets-without : (s : Equaliser) (cs : List Call) → gets s cs ≡ gets s (without cs)
+gets-without s [] = refl
+gets-without s (run l t ∷ cs) = ap (λ (g : List (Equaliser × Call)). (s, run l t) ∷ g) (gets-without (left s (run l t)) cs)
+gets-without s (trial l t ∷ cs) = gets-without s cs
+gets-without s (save buffer t ∷ cs) = ap (λ (g : List (Equaliser × Call)). (s, save buffer t) ∷ g) (gets-without s cs)
+gets-without s (load bytes t ∷ cs) = ap (λ (g : List (Equaliser × Call)). (s, load bytes t) ∷ g) (gets-without (left s (load bytes t)) cs)
+
+-- and so does whoever has the last state
+pub left-without : (s : Equaliser) (cs : List Call) → leftBy s cs ≡ leftBy s (without cs)
+left-without s [] = refl
+left-without s (run l t ∷ cs) = left-without (left s (run l t)) cs
+left-without s (trial l t ∷ cs) = left-without s cs
+left-without s (save buffer t ∷ cs) = left-without s cs
+left-without s (load bytes t ∷ cs) = left-without (left s (load bytes t)) cs

@@ -1,0 +1,77 @@
+-- Trials among calls, by what the operations' contracts say. A trial answers and hands out what running the block in place does, on a record that stays as it was.
+use mathlib.Core.Path.{_≡_}
+use mathlib.Core.List.{List, [], _∷_}
+use Prim.Native.Nat.{ℕ}
+use lib.IntN.{ℤ}
+use Rattle.laws.specs.Sums.{Each}
+use Rattle.image.specs.Image.{Byte, Save}
+use Rattle.image.specs.Load.{Load}
+use Rattle.image.specs.declared.save.Saved.{Saved}
+use Rattle.state.specs.declared.equaliser.Equaliser.{Equaliser}
+use Rattle.state.specs.declared.equaliser.Answer.{Answer}
+use Rattle.checks.specs.Checks.{Lent}
+use Rattle.station.specs.Answers.{Run}
+use Rattle.station.specs.Claim.{Typed, Call, run, trial, save, load, left}
+
+-- ---- one trial beside the call in place
+
+-- five lists
+pub record Handed : Type 0 where
+  pub y : List ℤ
+  pub xi : List ℕ
+  pub decision : List ℤ
+  pub z : List ℤ
+  pub theta : List ℕ
+
+-- the call in place on the record s: its number, the record after it, and the lists after it
+abbrev pub InPlace : Equaliser → Lent → ℕ → Equaliser → Handed → Type 0
+InPlace s l n s′ h = Run s l (record { number = n; state = s′ }) (h .y) (h .xi) (h .decision) (h .z) (h .theta)
+
+-- a trial on the record s: its answer, the record after it, and the lists after it
+abbrev pub Trial : Equaliser → Lent → Answer → Equaliser → Handed → Type 0
+Trial s l a s′ h = Run s l a (h .y) (h .xi) (h .decision) (h .z) (h .theta) × (s′ ≡ s)
+
+-- a trial that answers a and writes h, and the call in place on a copy, which answers n, leaves c in the copy and writes k
+pub record SameAsRun (a : Answer) (h : Handed) (n : ℕ) (c : Equaliser) (k : Handed) : Type 0 where
+  pub number : a .number ≡ n
+  pub state : a .state ≡ c
+  pub y-same : h .y ≡ k .y
+  pub xi-same : h .xi ≡ k .xi
+  pub decision-same : h .decision ≡ k .decision
+  pub z-same : h .z ≡ k .z
+  pub theta-same : h .theta ≡ k .theta
+
+-- ---- trials in a list of calls
+
+-- the record s before a call and s′ after it, by the call's contract. The state that a load answers is the station's from then on
+pub data Leaves (s : Equaliser) : Call → Equaliser → Type 0 where
+  ran : (l : Lent) (t : Typed l) (n : ℕ) (s′ : Equaliser) (h : Handed) → InPlace s l n s′ h → Leaves s (run l t) s′
+  tried : (l : Lent) (t : Typed l) (a : Answer) (s′ : Equaliser) (h : Handed) → Trial s l a s′ h → Leaves s (trial l t) s′
+  saved : (buffer : List ℕ) (t : Each Byte buffer) (a : Saved) (after : List ℕ) (s′ : Equaliser) → Save s buffer a after → s′ ≡ s → Leaves s (save buffer t) s′
+  loaded : (bytes : List ℕ) (t : Each Byte bytes) (a : Answer) → Load bytes a → Leaves s (load bytes t) (a .state)
+
+-- the records of a list of calls, by the contracts: the one that each call gets, and the last
+pub data Records : Equaliser → List Call → List Equaliser → Type 0 where
+  end : (s : Equaliser) → Records s [] (s ∷ [])
+  next : (s s′ : Equaliser) (c : Call) (cs : List Call) (ss : List Equaliser) → Leaves s c s′ → Records s′ cs ss → Records s (c ∷ cs) (s ∷ ss)
+
+-- the states that the claim speaks of
+abbrev pub states : Equaliser → List Call → List Equaliser
+states s [] = s ∷ []
+states s (c ∷ cs) = s ∷ states (left s c) cs
+
+-- the list without its trials
+abbrev pub without : List Call → List Call
+without [] = []
+without (run l t ∷ cs) = run l t ∷ without cs
+without (trial l t ∷ cs) = without cs
+without (save buffer t ∷ cs) = save buffer t ∷ without cs
+without (load bytes t ∷ cs) = load bytes t ∷ without cs
+
+-- the blocks, saves and loads of a list, each with the state that it gets
+abbrev pub gets : Equaliser → List Call → List (Equaliser × Call)
+gets s [] = []
+gets s (run l t ∷ cs) = (s, run l t) ∷ gets (left s (run l t)) cs
+gets s (trial l t ∷ cs) = gets (left s (trial l t)) cs
+gets s (save buffer t ∷ cs) = (s, save buffer t) ∷ gets (left s (save buffer t)) cs
+gets s (load bytes t ∷ cs) = (s, load bytes t) ∷ gets (left s (load bytes t)) cs
