@@ -16,10 +16,9 @@ use prog.Routine.{Routine}
 use prog.Wp.{Heap, Calls, Loops}
 use ghost.Atoms.{Atoms, sem}
 use contract.Lifetimes.{Lfts, Shares, toks}
-use contract.Monad.{Fun, fact}
-use types.Kit.{Given, Item, Post, runs, Sq, ‵, raw, _⊛_, some, later, _$_, _∵_, !, qed, move, drop, use1, use3, split, join, pick, rewrite, fsplit, fjoin, frame, await, done}
-use types.Run.{look, look-raw, init, stop, hop, fld, from, load, addr, of-opd, and-then, no-more, assigns, land}
-use types.Part.{agg, whole, sub, look-in}
+use contract.Monad.{Fun}
+use types.Kit.{Given, Item, Post, runs, Sq, ‵, raw, _$_, _∵_, !, qed, move, use3, join, rewrite, fjoin, frame, done}
+use types.Run.{look, look-raw, init, stop, hop, from, load, of-opd, and-then, no-more, assigns, land}
 use sound.WpLaws.{FmC}
 use denote.RattleType.{RattleType, Denots, Valss, owns, flat}
 use denote.Laws.{Is, Ises, Are, Spells, Tellss, valss, shows}
@@ -28,14 +27,14 @@ use denote.Builtin.{u8, i8, i16, i32}
 use denote.Ref.{RefT, now, ptr}
 use denote.Slice.{slice-vals, sliceVal, shr-slice-tells, mut-slice-tells}
 use denote.Signature.{typesAt}
-use denote.Steps.{only, peeks, heard}
+use denote.Steps.{only, peeks}
 use denote.Struct.Laws as LL
 use denote.Exit.{yes}
 use denote.Triple.End.{all, lastsOf}
 use denote.Triple.Spec.{tripleOf}
 use denote.Triple.Statement.{Contract, Triple}
 use denote.Triple.Call.{calls-at}
-use denote.Triple.Clauses.{Lasts, ensured, lasts}
+use denote.Triple.Clauses.{Lasts}
 use Rattle.station.specs.Answers as answers
 use Rattle.checks.specs.Calls.{lentOf}
 use Rattle.state.specs.declared.equaliser.Equaliser.{Equaliser}
@@ -46,7 +45,7 @@ use Rattle.state.proofs.equaliser.Answer as R
 use Rattle.state.proofs.equaliser.Answer.Laws as R′
 use Rattle.station.proofs.run.run as by-value
 use Rattle.station.proofs.run.run.Symbol.{name as #run·run}
-use Rattle.firmware.proofs.Thin.{rest, pointer, slice, lends, counted, locals, Blocks, env, Typed, unplaced, begun}
+use Rattle.firmware.proofs.Thin.{rest, pointer, slice, lends, counted, lent, answers, locals, Blocks, env, Typed, unplaced, begun}
 
 -- ---- the slices, which `run` takes after the state
 
@@ -150,20 +149,13 @@ module _ {M : Type 1} (𝓤 : URA M) (H : Heap 𝓤) (A : Atoms 𝓤) (W : Given
         move ! (1 ∷ []) $ peeks ! S.the-row (Is S.the-row) (shows 𝓤 H A S.the-row) h (vals h) (λ was. move ! (1 ∷ 0 ∷ []) $
         -- local k is entry 4 + 2 k
         assigns ! (of-opd ! (load ! (from ! (hop ! (look ! 6 refl) (stop !))) (look-raw ! 0 refl))) (from ! (stop !)) (init ! 26 refl (LL.lawful S.the-type S′.the-laws 𝓤 H A W .typed h _ was .0)) $
-        assigns ! (addr ! (from ! (fld ! refl (hop ! (look-in ! 14 (sub ! 0 refl (whole !))) (stop !))))) (from ! (stop !)) (init ! 28 refl (tt, tt)) $
-        assigns ! (agg ! (and-then ! (load ! (from ! (stop !)) (look ! 28 refl)) (and-then ! (load ! (from ! (fld ! refl (stop !))) (look-in ! 14 (sub ! 1 refl (whole !)))) (no-more !)))) (from ! (stop !)) (init ! 30 refl (counted (ok .1 .1 .1 .0 .0 .1 .0))) $
-        assigns ! (addr ! (from ! (fld ! refl (hop ! (look-in ! 16 (sub ! 0 refl (whole !))) (stop !))))) (from ! (stop !)) (init ! 32 refl (tt, tt)) $
-        assigns ! (agg ! (and-then ! (load ! (from ! (stop !)) (look ! 32 refl)) (and-then ! (load ! (from ! (fld ! refl (stop !))) (look-in ! 16 (sub ! 1 refl (whole !)))) (no-more !)))) (from ! (stop !)) (init ! 34 refl (counted (ok .1 .1 .1 .1 .0 .0 .1 .0))) $
-        assigns ! (addr ! (from ! (fld ! refl (hop ! (look-in ! 18 (sub ! 0 refl (whole !))) (stop !))))) (from ! (stop !)) (init ! 36 refl (tt, tt)) $
-        assigns ! (agg ! (and-then ! (load ! (from ! (stop !)) (look ! 36 refl)) (and-then ! (load ! (from ! (fld ! refl (stop !))) (look-in ! 18 (sub ! 1 refl (whole !)))) (no-more !)))) (from ! (stop !)) (init ! 38 refl (counted (ok .1 .1 .1 .1 .1 .0 .0 .1 .0))) $
-        assigns ! (addr ! (from ! (fld ! refl (hop ! (look-in ! 20 (sub ! 0 refl (whole !))) (stop !))))) (from ! (stop !)) (init ! 40 refl (tt, tt)) $
-        assigns ! (agg ! (and-then ! (load ! (from ! (stop !)) (look ! 40 refl)) (and-then ! (load ! (from ! (fld ! refl (stop !))) (look-in ! 20 (sub ! 1 refl (whole !)))) (no-more !)))) (from ! (stop !)) (init ! 42 refl (counted (ok .1 .1 .1 .1 .1 .1 .0 .0 .1 .0))) $
-        assigns ! (addr ! (from ! (fld ! refl (hop ! (look-in ! 22 (sub ! 0 refl (whole !))) (stop !))))) (from ! (stop !)) (init ! 44 refl (tt, tt)) $
-        assigns ! (agg ! (and-then ! (load ! (from ! (stop !)) (look ! 44 refl)) (and-then ! (load ! (from ! (fld ! refl (stop !))) (look-in ! 22 (sub ! 1 refl (whole !)))) (no-more !)))) (from ! (stop !)) (init ! 46 refl (counted (ok .1 .1 .1 .1 .1 .1 .1 .0 .0 .1 .0))) $
+        lent ! 14 28 30 refl refl refl refl refl refl refl refl (ok .1 .1 .1 .0 .0 .1 .0) $
+        lent ! 16 32 34 refl refl refl refl refl refl refl refl (ok .1 .1 .1 .1 .0 .0 .1 .0) $
+        lent ! 18 36 38 refl refl refl refl refl refl refl refl (ok .1 .1 .1 .1 .1 .0 .0 .1 .0) $
+        lent ! 20 40 42 refl refl refl refl refl refl refl refl (ok .1 .1 .1 .1 .1 .1 .0 .0 .1 .0) $
+        lent ! 22 44 46 refl refl refl refl refl refl refl refl (ok .1 .1 .1 .1 .1 .1 .1 .0 .0 .1 .0) $
         move ! (2 ∷ 1 ∷ 3 ∷ []) $ use3 W (raw (Run 𝓤 H A mem run .pre to-run)) goes-run $
         calls-at ! fm (Run 𝓤 H A mem run) known to-run (and-then ! (load ! (from ! (stop !)) (look ! 24 refl)) (and-then ! (load ! (from ! (stop !)) (look ! 6 refl)) (and-then ! (load ! (from ! (stop !)) (look ! 8 refl)) (and-then ! (load ! (from ! (stop !)) (look ! 10 refl)) (and-then ! (load ! (from ! (stop !)) (look ! 28 refl)) (and-then ! (load ! (from ! (stop !)) (look ! 32 refl)) (and-then ! (load ! (from ! (stop !)) (look ! 36 refl)) (and-then ! (load ! (from ! (stop !)) (look ! 40 refl)) (and-then ! (load ! (from ! (stop !)) (look ! 44 refl)) (no-more !)))))))))) (λ v.
-        use1 W (later (some (λ (r : Answer). (raw (toks 𝓤 A 8 κs qs) ⊛ ‵ (R.the-row .own r (v ∷ []))) ⊛ raw (ensured 𝓤 H A by-value.ended (by-value.clauses 𝓤 H A mem run) κs (h, ss) tt r)))) (id⊢ 𝓤 _) $ await ! tt $ pick ! (λ r.
-        split ! $ move ! (1 ∷ []) $ use1 W (some (λ (ws : Lasts by-value.ended κs (h, ss)). ‵ (lasts by-value.ended κs (h, ss) ws) ⊛ raw (fact 𝓤 (Ran r ws)))) (id⊢ 𝓤 _) $ pick ! (λ ws.
-        split ! $ move ! (1 ∷ []) $ heard ! (Ran r ws) (λ e. fsplit ! $ drop ! $ move ! (1 ∷ []) $ split ! $ move ! (1 ∷ []) $ peeks ! R.the-row (Is R.the-row) (shows 𝓤 H A R.the-row) r (v ∷ []) (λ is.
+        answers ! tt (toks 𝓤 A 8 κs qs) (λ (r : Answer). R.the-row .own r (v ∷ [])) last-lists Ran (id⊢ 𝓤 _) (λ r ws e. peeks ! R.the-row (Is R.the-row) (shows 𝓤 H A R.the-row) r (v ∷ []) (λ is.
         land ! (from ! (stop !)) (init ! 24 refl (LL.lawful R.the-type R′.the-laws 𝓤 H A W .typed r _ is .0)) $ rewrite ! 24 (λ (u : Val). ‵ (fat fullShare R′.mir (bs .1 .1 .1 .1 .1 .1 .1 .1 .1 .1 .0) 0 u)) (ap only (LL.tells R.the-type R′.the-laws r (v ∷ []) is)) refl $
-        rewrite ! 0 (λ (us : List Val). ‵ (R.the-row .own r us)) (LL.tells R.the-type R′.the-laws r (v ∷ []) is) refl $ k r ws e (subst (Is R.the-row r) (LL.tells R.the-type R′.the-laws r (v ∷ []) is) is) was))))))
+        rewrite ! 0 (λ (us : List Val). ‵ (R.the-row .own r us)) (LL.tells R.the-type R′.the-laws r (v ∷ []) is) refl $ k r ws e (subst (Is R.the-row r) (LL.tells R.the-type R′.the-laws r (v ∷ []) is) is) was))))

@@ -15,11 +15,10 @@ use prog.Routine.{Routine}
 use prog.Wp.{Heap, Calls, Loops, WpFn, Tables}
 use ghost.Atoms.{Atoms, sem}
 use contract.Lifetimes.{Lfts, Shares, toks}
-use contract.Monad.{Fun, fact}
+use contract.Monad.{Fun}
 use contract.Running.{givenOf, tables, tablesOf}
-use types.Kit.{Given, ‵, raw, _⊛_, some, later, _$_, _∵_, !, qed, by, move, drop, use1, use3, split, join, pick, rewrite, fsplit, fsplit3, fjoin, fjoin3, feqI, suffices, frame, await, done}
-use types.Run.{look, look-raw, init, stop, hop, fld, from, load, addr, of-opd, and-then, no-more, assigns, land, returns}
-use types.Part.{agg, whole, sub, look-in}
+use types.Kit.{Given, ‵, raw, _⊛_, _$_, _∵_, !, qed, by, move, drop, use3, split, join, rewrite, fsplit, fsplit3, fjoin, fjoin3, feqI, suffices, frame, done}
+use types.Run.{look, look-raw, init, stop, hop, from, load, of-opd, and-then, no-more, assigns, land, returns}
 use sound.WpLaws.{FmC, fmOf, WpFn-mono}
 use denote.RattleType.{RattleType, Denots, owns, flat}
 use denote.Laws.{Is, Ises, Are, Spells, valss, shows}
@@ -28,7 +27,7 @@ use denote.Builtin.{u8}
 use denote.Ref.{ShrRef, now, ptr, ptr-vals, shr-tells}
 use denote.Slice.{slice-vals, sliceVal, mut-slice-tells}
 use denote.Signature.{plain, typesAt}
-use denote.Steps.{only, looks, shuts, owned, peeks, heard}
+use denote.Steps.{only, looks, shuts, owned, peeks}
 use denote.Struct.Steps.{spelt}
 use denote.Struct.Laws as LL
 use denote.Exit.{yes}
@@ -37,7 +36,7 @@ use denote.Triple.End.{all, lastsOf}
 use denote.Triple.Spec.{Meets, tripleOf}
 use denote.Triple.Statement.{Contract, Triple}
 use denote.Triple.Call.{calls-at}
-use denote.Triple.Clauses.{Lasts, ensured, lasts}
+use denote.Triple.Clauses.{Lasts}
 use denote.Triple.Table.{entered, cited}
 use denote.Triple.Walked.{says, Stays, stay-none-ref, walkOf, goes-none-ref, Walks, ends-at, walked, walk-meets}
 use Rattle.image.specs.Image.{Save}
@@ -51,7 +50,7 @@ use Rattle.image.proofs.save.save as by-value
 use Rattle.image.proofs.save.save.Symbol as save-def
 use Rattle.image.proofs.save.save.Symbol.{name as #save·save}
 use Rattle.image.proofs.save.save.Met as save-thm
-use Rattle.firmware.proofs.Thin.{all-handed, all-go, rest, range, counted, env, begins, all-freed}
+use Rattle.firmware.proofs.Thin.{all-handed, all-go, rest, range, counted, lent, answers, env, begins, all-freed}
 use Rattle.firmware.proofs.ByValue.{vals}
 use Rattle.firmware.proofs.tigbulode_save.Key.{name as #tigbulode-save}
 use Rattle.firmware.proofs.tigbulode_save as f
@@ -119,20 +118,17 @@ module _ {M : Type 1} (𝓤 : URA M) (H : Heap 𝓤) (A : Atoms 𝓤) (W : Given
         move ! (1 ∷ 0 ∷ 4 ∷ 6 ∷ range 7 12) $ peeks ! T.the-row (Is T.the-row) (shows 𝓤 H A T.the-row) h (vals h) (λ was. move ! (1 ∷ 0 ∷ []) $
         -- local k is entry 4 + 2 k
         assigns ! (of-opd ! (load ! (from ! (hop ! (look ! 6 refl) (stop !))) (look-raw ! 0 refl))) (from ! (stop !)) (init ! 10 refl (LL.lawful T.the-type T′.the-laws 𝓤 H A W .typed h _ was .0)) $
-        assigns ! (addr ! (from ! (fld ! refl (hop ! (look-in ! 8 (sub ! 0 refl (whole !))) (stop !))))) (from ! (stop !)) (init ! 12 refl (tt, tt)) $
-        assigns ! (agg ! (and-then ! (load ! (from ! (stop !)) (look ! 12 refl)) (and-then ! (load ! (from ! (fld ! refl (stop !))) (look-in ! 8 (sub ! 1 refl (whole !)))) (no-more !)))) (from ! (stop !)) (init ! 14 refl (counted (ok .0 .0 .1 .0))) $
+        lent ! 8 12 14 refl refl refl refl refl refl refl refl (ok .0 .0 .1 .0) $
         move ! (2 ∷ 1 ∷ 3 ∷ []) $ use3 W (raw (Saves 𝓤 H A mem run .pre to-save)) goes-save $
         calls-at ! fm (Saves 𝓤 H A mem run) known to-save (and-then ! (load ! (from ! (stop !)) (look ! 8 refl)) (and-then ! (load ! (from ! (stop !)) (look ! 12 refl)) (no-more !))) (λ v.
-        use1 W (later (some (λ (r : Saved). (raw (toks 𝓤 A 1 κs qs) ⊛ ‵ (R.the-row .own r (v ∷ []))) ⊛ raw (ensured 𝓤 H A by-value.ended (by-value.clauses 𝓤 H A mem run) κs (h, ss) tt r)))) (id⊢ 𝓤 _) $ await ! tt $ pick ! (λ r.
-        split ! $ move ! (1 ∷ []) $ use1 W (some (λ (ws : Lasts by-value.ended κs (h, ss)). ‵ (lasts by-value.ended κs (h, ss) ws) ⊛ raw (fact 𝓤 (Kept r ws)))) (id⊢ 𝓤 _) $ pick ! (λ ws.
-        split ! $ move ! (1 ∷ []) $ heard ! (Kept r ws) (λ e. fsplit ! $ drop ! $ move ! (1 ∷ []) $ split ! $ move ! (1 ∷ []) $ peeks ! R.the-row (Is R.the-row) (shows 𝓤 H A R.the-row) r (v ∷ []) (λ is.
+        answers ! tt (toks 𝓤 A 1 κs qs) (λ (r : Saved). R.the-row .own r (v ∷ [])) last-bytes Kept (id⊢ 𝓤 _) (λ r ws e. peeks ! R.the-row (Is R.the-row) (shows 𝓤 H A R.the-row) r (v ∷ []) (λ is.
         land ! (from ! (stop !)) (init ! 4 refl (LL.lawful R.the-type R′.the-laws 𝓤 H A W .typed r _ is .0)) $ rewrite ! 4 (λ (u : Val). ‵ (fat fullShare R′.mir (bs .0) 0 u)) (ap only (LL.tells R.the-type R′.the-laws r (v ∷ []) is)) refl $
         rewrite ! 0 (λ (us : List Val). ‵ (R.the-row .own r us)) (LL.tells R.the-type R′.the-laws r (v ∷ []) is) refl $
         -- the borrow is shut
         owned ! T.the-row (Is T.the-row) (LL.makes T.the-type T′.the-plain 𝓤 H A) h _ was $ move ! (4 ∷ 0 ∷ 17 ∷ []) $ shuts ! tt T.the-row s h (vals h) b o $
         -- [the token; what the answer owns; the buffer's token; its last bytes; the locals; the borrow; res]
         returns ! (look ! 4 refl) $ move ! (range 4 12) $
-        all-freed (env (code.function .locals) bs) (only (answered r) ∷ vptr b o ∷ sliceVal (ptr (ss .0)) (length (now (ss .0))) ∷ only (vals h) ∷ vptr (ptr (ss .0) .0) (ptr (ss .0) .1) ∷ sliceVal (ptr (ss .0)) (length (now (ss .0))) ∷ []) ! $ by ! (exits r ws e)))))))))
+        all-freed (env (code.function .locals) bs) (only (answered r) ∷ vptr b o ∷ sliceVal (ptr (ss .0)) (length (now (ss .0))) ∷ only (vals h) ∷ vptr (ptr (ss .0) .0) (ptr (ss .0) .1) ∷ sliceVal (ptr (ss .0)) (length (now (ss .0))) ∷ []) ! $ by ! (exits r ws e)))))))
 
 module _ {M : Type 1} (𝓤 : URA M) (H : Heap 𝓤) (A : Atoms 𝓤) (W : Given 𝓤 H A) (mem : Memory → SProp 𝓤) (run : Routine → Fun 𝓤) where
   save-walks : (C : Calls 𝓤 H) (Λ : Loops 𝓤 H) → FmC 𝓤 H (W .laws) C → Triple 𝓤 (C #save·save) (Saves 𝓤 H A mem run) → Walks 𝓤 H A f.ended stayed (WpFn 𝓤 H C Λ code.function) (f.clauses 𝓤 H A mem run)
