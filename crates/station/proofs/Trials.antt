@@ -5,7 +5,7 @@ use Prim.Native.Nat.{ℕ}
 use Rattle.state.specs.declared.equaliser.Equaliser.{Equaliser}
 use Rattle.state.specs.declared.equaliser.Answer.{Answer}
 use Rattle.checks.specs.Checks.{Lent}
-use Rattle.station.specs.Claim.{Call, run, trial, save, load, left, leftBy}
+use Rattle.station.specs.Claim.{Call, run, trial, save, load, left, leftBy, Holds}
 use Rattle.station.specs.Trials.{Handed, InPlace, Trial, SameAsRun, Leaves, ran, tried, saved, loaded, Records, end, next, states, without, gets}
 
 -- for every record and all lent lists
@@ -47,3 +47,11 @@ left-without s (run l t ∷ cs) = left-without (left s (run l t)) cs
 left-without s (trial l t ∷ cs) = left-without s cs
 left-without s (save buffer t ∷ cs) = left-without s cs
 left-without s (load bytes t ∷ cs) = left-without (left s (load bytes t)) cs
+
+-- the claim over a list says all that it says of the list without its trials
+pub holds-without : (s : Equaliser) (cs : List Call) → Holds s cs → Holds s (without cs)
+holds-without s [] g = g
+holds-without s (run l t ∷ cs) (g, (c, h)) = (g, (c, holds-without (left s (run l t)) cs h))
+holds-without s (trial l t ∷ cs) (g, (c, h)) = holds-without s cs h
+holds-without s (save buffer t ∷ cs) (g, (c, h)) = (g, (c, holds-without s cs h))
+holds-without s (load bytes t ∷ cs) (g, (c, h)) = (g, (c, holds-without (left s (load bytes t)) cs h))
