@@ -364,3 +364,12 @@ pub fn run(state: &mut State, inputs: Inputs<'_>, outputs: &mut Outputs) -> u8 {
     *state = after;
     ACCEPTED
 }
+
+/// A trial of a block: what running it on a copy of the state answers and
+/// hands out, and the state that would follow. The state itself is only read.
+/// Refused, the state comes back as given and the outputs stay as they are.
+pub fn trial(state: &State, inputs: Inputs<'_>, outputs: &mut Outputs) -> (u8, State) {
+    let mut copy = state.clone();
+    let number = run(&mut copy, inputs, outputs);
+    (number, copy)
+}

@@ -13,7 +13,7 @@
 //! * [`numbers`]: the cut T, the bit length, the scale count S.
 //! * [`settings`]: the limits and the step admission.
 //! * [`state`]: the equaliser record, soundness, set-up.
-//! * [`block`]: running a block.
+//! * [`block`]: running a block, and a trial of one.
 //! * [`image`]: saving and loading.
 //! * [`trace`]: the bytes of a trace to its text.
 //! * [`cable`]: symbols over a described cable to the bytes of a trace.
@@ -36,7 +36,7 @@ pub mod state;
 pub mod trace;
 pub mod vectors;
 
-pub use block::{run, Inputs, Outputs};
+pub use block::{run, trial, Inputs, Outputs};
 pub use image::{image_length, load, save};
 pub use settings::Settings;
 pub use state::{set_up, State};
