@@ -1,0 +1,348 @@
+//! A trial of a block in 64-bit numbers, written a second time for the tests,
+//! which must find each of its faults.
+
+use reference::{Inputs, Outputs, Settings, State};
+
+/// What can be wrong, and who finds it: the tests over any blocks, over
+/// refusals, over lists of calls.
+pub const FAULTS: [(&str, [bool; 3]); 32] = [
+    ("accepted, the given state comes back", [true, false, false]),
+    ("accepted, the given state advances", [true, false, true]),
+    ("accepted, the outputs stay", [true, false, false]),
+    ("accepted, the last sample is missing", [true, false, false]),
+    ("accepted, ψ comes back as given", [true, false, false]),
+    ("accepted, b comes back as given", [true, false, false]),
+    ("accepted, B comes back as given", [true, false, false]),
+    ("accepted, weights come back as given", [true, false, false]),
+    ("accepted, data come back as given", [true, false, false]),
+    ("accepted, a spare place is written", [true, false, false]),
+    ("refused, a fresh state comes back", [true, true, false]),
+    ("refused, spare places come back as 0", [false, true, false]),
+    ("refused, the given state is fresh", [true, true, true]),
+    ("refused, spare places are put to 0", [false, true, true]),
+    ("refused, an output is written", [true, true, false]),
+    ("refused, the outputs are zeros", [true, true, false]),
+    ("3 brings the outputs to N", [false, true, false]),
+    ("6 hands back what was reached", [true, true, false]),
+    ("6 advances the given state", [true, true, true]),
+    ("6 hands out what was reached", [true, true, false]),
+    ("the given b is put to B", [true, true, true]),
+    ("3 looks at no output", [false, true, false]),
+    ("9 looks at no spare place", [false, true, false]),
+    ("6 goes unseen", [true, true, false]),
+    ("6 while ψ can still rise", [true, false, false]),
+    ("2 before 1", [false, true, false]),
+    ("9 before 2", [false, true, false]),
+    ("3 before 9", [false, true, false]),
+    ("4 before 3", [false, true, false]),
+    ("5 before 4", [false, true, false]),
+    ("4 and 5 sample by sample", [false, true, false]),
+    ("5 and 6 sample by sample", [false, true, false]),
+];
+
+/// S(1) to S(16).
+const COUNTS: [i64; 16] = [1, 2, 3, 3, 4, 4, 4, 4, 5, 5, 5, 5, 5, 5, 5, 5];
+
+/// T(a·2^places).
+fn scaled(a: i64, places: i64) -> i64 {
+    if places >= 0 {
+        a * (1 << places)
+    } else {
+        a / (1 << -places)
+    }
+}
+
+fn bits(a: i64) -> i64 {
+    64 - i64::from(a.unsigned_abs().leading_zeros())
+}
+
+fn sizes_fit(s: &Settings) -> bool {
+    let taps = 1..=16;
+    let least = s.p.saturating_sub(1).max(1);
+    let block = (least..=128).contains(&s.n);
+    taps.contains(&s.p) && taps.contains(&s.q) && block && s.r < 4 && s.l < 16
+}
+
+/// M·D is at most 2^30, both sides times 2^L.
+fn admitted(s: &Settings) -> bool {
+    let d = ((8 + 4 * u64::from(s.q)) << s.l) + 4 * u64::from(s.p);
+    u64::from(s.m) * (d << (2 * s.r)) <= 1 << (30 + s.l)
+}
+
+/// Whether `v` is 0 or a symbol.
+fn entry(v: i64, r: u8) -> bool {
+    v == 0 || (v & 1 == 1 && v.abs() < 2 << r)
+}
+
+fn sound(state: &State, fault: &str) -> bool {
+    let (s, p) = (&state.settings, usize::from(state.settings.p));
+    if state.psi > 15 || state.b > state.big_b || state.big_b > 31 - s.l {
+        return false;
+    }
+    let (weights, spare) = state.weights.split_at(s.taps());
+    let (data, more) = state.data.split_at(s.taps());
+    let reach = i64::from(state.big_b) + COUNTS[p - 1];
+    let small = |a: &i16| i64::from(*a).abs() << reach < 1 << (15 + state.b);
+    let zeros = spare.iter().chain(more).all(|&place| place == 0);
+    weights.iter().all(|w| (-16383..=16383).contains(w))
+        && data[..p - 1].iter().all(small)
+        && data[p - 1] == 0
+        && data[p..].iter().all(|&v| entry(v.into(), s.r))
+        && (zeros || fault == "9 looks at no spare place")
+}
+
+/// Whether every list is `n` long.
+fn fitting(n: usize, inputs: Inputs<'_>, outputs: &Outputs, fault: &str) -> bool {
+    let read = [
+        inputs.samples.len(),
+        inputs.gains.len(),
+        inputs.training.len(),
+    ];
+    let written = [
+        outputs.y.len(),
+        outputs.xi.len(),
+        outputs.decision.len(),
+        outputs.z.len(),
+        outputs.theta.len(),
+    ];
+    read == [n; 3] && (written == [n; 5] || fault == "3 looks at no output")
+}
+
+/// The first of 1, 2, 9, 3, 4 and 5 that holds, else 0.
+fn refusal(state: &State, inputs: Inputs<'_>, outputs: &Outputs, fault: &str) -> u8 {
+    let s = &state.settings;
+    let bad_gain = |g: &u8| !(s.l..=15).contains(g);
+    let bad_entry = |t: &i8| !entry((*t).into(), s.r);
+    let holds = |number: &u8| match number {
+        1 => !sizes_fit(s),
+        2 => !admitted(s),
+        9 => !sound(state, fault),
+        3 => !fitting(s.n.into(), inputs, outputs, fault),
+        4 => inputs.gains.iter().any(bad_gain),
+        _ => inputs.training.iter().any(bad_entry) && fault != "5 and 6 sample by sample",
+    };
+    let mut order = [1, 2, 9, 3, 4, 5];
+    match fault {
+        "2 before 1" if s.r < 4 && s.l < 16 => order.swap(0, 1),
+        "9 before 2" => order.swap(1, 2),
+        "3 before 9" => order.swap(2, 3),
+        "4 before 3" => order.swap(3, 4),
+        "5 before 4" => order.swap(4, 5),
+        "4 and 5 sample by sample" if sizes_fit(s) => {
+            let first = inputs.gains.iter().position(bad_gain);
+            if inputs.training.iter().position(bad_entry) < first {
+                order.swap(4, 5);
+            }
+        }
+        _ => {}
+    }
+    order.into_iter().find(holds).unwrap_or(0)
+}
+
+/// What changes from sample to sample; samples and symbols newest first.
+#[derive(Clone)]
+struct Walk {
+    psi: i64,
+    weights: Vec<i64>,
+    samples: Vec<i64>,
+    symbols: Vec<i64>,
+}
+
+fn sum(weights: &[i64], data: &[i64]) -> i64 {
+    weights.iter().zip(data).map(|(w, a)| w * a).sum()
+}
+
+impl Walk {
+    /// One sample, already the newest: Y, ξ, decision, Z, θ.
+    fn sample(&mut self, s: &Settings, gamma: i64, entry: i64) -> [i64; 5] {
+        let (p, q) = (usize::from(s.p), usize::from(s.q));
+        let longest = self.symbols.iter().map(|&v| bits(v)).max();
+        let nu = COUNTS[q - 1] + longest.unwrap_or(0);
+        let held: Vec<i64> = self.symbols.iter().map(|v| v << (15 - nu)).collect();
+        let common = gamma.max(nu);
+        let f = scaled(sum(&self.weights[..p], &self.samples), gamma - common);
+        let h = scaled(sum(&self.weights[p..], &held), nu - common);
+        let (y, xi) = (f + h, self.psi + common);
+        let end = (2 << s.r) - 1;
+        let decision = (2 * (y >> (31 - xi)) + 1).clamp(-end, end);
+        let v = if entry == 0 { decision } else { entry };
+        let theta = xi.max(COUNTS[q - 1] + bits(v));
+        let z = (v << (30 - theta)) - scaled(y, xi - theta);
+        let pull = |exponent| scaled(i64::from(s.m) * z, exponent + theta - self.psi - 30);
+        let forward = pull(gamma - COUNTS[p - 1]);
+        let back = pull(nu - COUNTS[q - 1]);
+        for (w, a) in self.weights[..p].iter_mut().zip(&self.samples) {
+            *w += scaled(forward * a, COUNTS[p - 1] - 30);
+        }
+        for (w, a) in self.weights[p..].iter_mut().zip(&held) {
+            *w += scaled(back * a, COUNTS[q - 1] - 30);
+        }
+        if self.weights.iter().any(|w| w.abs() > 16383) {
+            self.weights.iter_mut().for_each(|w| *w /= 2);
+            self.psi += 1;
+        }
+        self.symbols.insert(0, v);
+        self.symbols.truncate(q);
+        [y, xi, decision, z, theta]
+    }
+}
+
+/// The block: its number, the state that was reached and what was handed out.
+fn block(given: &State, inputs: Inputs<'_>, fault: &str) -> (u8, State, Vec<[i64; 5]>) {
+    let (s, count) = (&given.settings, COUNTS[usize::from(given.settings.p) - 1]);
+    let received = inputs.samples.iter().zip(inputs.gains);
+    let x: Vec<i64> = received.map(|(&m, &g)| i64::from(m) << (15 - g)).collect();
+    let b = x.iter().map(|&x| bits(x)).max().unwrap_or(0);
+    let big_b = b.max(given.b.into());
+    let gamma = i64::from(s.r) - 30 + big_b + count;
+    let mut walk = Walk::start(given, i64::from(given.big_b) - big_b);
+    let mut handed = Vec::new();
+    let most = match fault {
+        "6 goes unseen" => 255,
+        "6 while ψ can still rise" => 14.max(walk.psi),
+        _ => 15,
+    };
+    for (&x, &t) in x.iter().zip(inputs.training) {
+        let before = walk.state(given, b, big_b);
+        if !entry(t.into(), s.r) {
+            return (5, before, handed);
+        }
+        walk.samples.insert(0, scaled(x, 15 - big_b - count));
+        walk.samples.truncate(s.p.into());
+        let sample = walk.sample(s, gamma, t.into());
+        if walk.psi > most {
+            return (6, before, handed);
+        }
+        handed.push(sample);
+    }
+    (0, walk.state(given, b, big_b), handed)
+}
+
+impl Walk {
+    /// Before the first sample; `fall` is by how much B falls.
+    fn start(given: &State, fall: i64) -> Walk {
+        let (p, taps) = (usize::from(given.settings.p), given.settings.taps());
+        let wide = |list: &[i16]| list.iter().map(|&a| i64::from(a)).collect();
+        let past = given.data[..p - 1].iter();
+        Walk {
+            psi: given.psi.into(),
+            weights: wide(&given.weights[..taps]),
+            samples: past.map(|&a| scaled(a.into(), fall)).collect(),
+            symbols: wide(&given.data[p..taps]),
+        }
+    }
+
+    /// The state that holds this, with the spare places as given.
+    fn state(&self, given: &State, b: i64, big_b: i64) -> State {
+        let mut state = given.clone();
+        state.psi = self.psi as u8;
+        state.b = b as u8;
+        state.big_b = big_b as u8;
+        for (place, &w) in state.weights.iter_mut().zip(&self.weights) {
+            *place = w as i16;
+        }
+        let p = usize::from(given.settings.p);
+        for (place, &a) in state.data[..p - 1].iter_mut().zip(&self.samples) {
+            *place = a as i16;
+        }
+        for (place, &v) in state.data[p..].iter_mut().zip(&self.symbols) {
+            *place = v as i16;
+        }
+        state
+    }
+}
+
+/// Writes what was handed out, as far as the lists go.
+fn write(handed: &[[i64; 5]], out: &mut Outputs) {
+    fn put<T: TryFrom<i64>>(list: &mut [T], numbers: impl Iterator<Item = i64>) {
+        for (place, number) in list.iter_mut().zip(numbers) {
+            *place = T::try_from(number).ok().expect("a number that fits");
+        }
+    }
+    put(&mut out.y, handed.iter().map(|sample| sample[0]));
+    put(&mut out.xi, handed.iter().map(|sample| sample[1]));
+    put(&mut out.decision, handed.iter().map(|sample| sample[2]));
+    put(&mut out.z, handed.iter().map(|sample| sample[3]));
+    put(&mut out.theta, handed.iter().map(|sample| sample[4]));
+}
+
+/// What becomes of the outputs.
+fn hand_out(number: u8, n: u8, handed: &[[i64; 5]], out: &mut Outputs, fault: &str) {
+    let n = usize::from(n);
+    match (number, fault) {
+        (0, "accepted, the outputs stay") => {}
+        (0, "accepted, the last sample is missing") => write(&handed[..n - 1], out),
+        (0, _) | (6, "6 hands out what was reached") => write(handed, out),
+        (_, "refused, an output is written") => out.y.iter_mut().take(1).for_each(|y| *y = !*y),
+        (_, "refused, the outputs are zeros") => write(&vec![[0; 5]; 128], out),
+        (3, "3 brings the outputs to N") => {
+            out.y.resize(n, 0);
+            out.xi.resize(n, 0);
+            out.decision.resize(n, 0);
+            out.z.resize(n, 0);
+            out.theta.resize(n, 0);
+        }
+        _ => {}
+    }
+}
+
+/// The same state with every spare place 0.
+fn cleared(state: &State) -> State {
+    let mut cleared = state.compact();
+    cleared.weights.resize(state.weights.len(), 0);
+    cleared.data.resize(state.data.len(), 0);
+    cleared
+}
+
+/// What comes back.
+fn hand_back(number: u8, given: &State, reached: &State, fault: &str) -> State {
+    let mut back = if number == 0 { reached } else { given }.clone();
+    match (number, fault) {
+        (0, "accepted, the given state comes back") => back = given.clone(),
+        (0, "accepted, ψ comes back as given") => back.psi = given.psi,
+        (0, "accepted, b comes back as given") => back.b = given.b,
+        (0, "accepted, B comes back as given") => back.big_b = given.big_b,
+        (0, "accepted, weights come back as given") => back.weights = given.weights.clone(),
+        (0, "accepted, data come back as given") => back.data = given.data.clone(),
+        (0, "accepted, a spare place is written") => {
+            let spare = back.data.iter_mut().skip(given.settings.taps());
+            spare.take(1).for_each(|place| *place = 1);
+        }
+        (1.., "refused, a fresh state comes back") => back = State::fresh(),
+        (1.., "refused, spare places come back as 0") => back = cleared(given),
+        (6, "6 hands back what was reached") => back = reached.clone(),
+        _ => {}
+    }
+    back
+}
+
+/// What becomes of the given state.
+fn leave(number: u8, given: &mut State, reached: &State, fault: &str) {
+    match (number, fault) {
+        (0, "accepted, the given state advances") => *given = reached.clone(),
+        (1.., "refused, the given state is fresh") => *given = State::fresh(),
+        (1.., "refused, spare places are put to 0") => *given = cleared(given),
+        (6, "6 advances the given state") => *given = reached.clone(),
+        (_, "the given b is put to B") => given.b = given.big_b,
+        _ => {}
+    }
+}
+
+/// A trial with a fault, or the right one where the fault is none of the list.
+/// The state is lent to be written, so that a fault can write to it.
+pub fn wrong_trial(
+    given: &mut State,
+    inputs: Inputs<'_>,
+    outputs: &mut Outputs,
+    fault: &str,
+) -> (u8, State) {
+    let mut number = refusal(given, inputs, outputs, fault);
+    let (mut reached, mut handed) = (given.clone(), Vec::new());
+    if number == 0 {
+        (number, reached, handed) = block(given, inputs, fault);
+    }
+    hand_out(number, given.settings.n, &handed, outputs, fault);
+    let back = hand_back(number, given, &reached, fault);
+    leave(number, given, &reached, fault);
+    (number, back)
+}
