@@ -30,7 +30,8 @@ static bool all_sentinels(const uint8_t *bytes, size_t length) {
 }
 
 /* What is wrong with saving an accepted state, or NULL. */
-static const char *saving_differs(const image *i, tigbulode_equaliser state) {
+static const char *saving_differs(const image *i, const tigbulode_equaliser *state) {
+    const tigbulode_equaliser before = *state;
     uint8_t buffer[TIGBULODE_IMAGE_BYTES + AFTER];
     memset(buffer, SENTINEL, sizeof buffer);
     tigbulode_saved s = tigbulode_save(state, buffer, i->length - 1);
@@ -41,6 +42,7 @@ static const char *saving_differs(const image *i, tigbulode_equaliser state) {
     if (s.length != i->length) return "saved again with another length";
     if (memcmp(buffer, i->saved, i->length) != 0) return "saved again with other bytes";
     if (!all_sentinels(buffer + i->length, sizeof buffer - i->length)) return "bytes after the saved image are changed";
+    if (memcmp(state, &before, sizeof before) != 0) return "a save changes the record";
     return NULL;
 }
 
@@ -49,7 +51,7 @@ static const char *differs(const image *i) {
     tigbulode_answer a = tigbulode_load(i->lent, i->length);
     if (a.number != i->number) return "another answer";
     if (memcmp(i->lent, i->bytes, i->length) != 0) return "the lent bytes are changed";
-    if (a.number == TIGBULODE_ACCEPTED) return saving_differs(i, a.state);
+    if (a.number == TIGBULODE_ACCEPTED) return saving_differs(i, &a.state);
     if (memcmp(&a.state, &i->refused, sizeof a.state) != 0) return "not the fresh state";
     return NULL;
 }

@@ -90,7 +90,7 @@ static void try_image_lengths(void) {
     for (i = 0; i < 256; i++) {
         const unsigned p = 1 + i / 16, q = 1 + i % 16;
         const tigbulode_answer a = tigbulode_set_up((uint8_t)p, (uint8_t)q, LONGEST, 0, 0, 0);
-        const tigbulode_saved saved = tigbulode_save(a.state, image, sizeof image);
+        const tigbulode_saved saved = tigbulode_save(&a.state, image, sizeof image);
         expect(saved.number == TIGBULODE_ACCEPTED && saved.length == TIGBULODE_IMAGE_LENGTH(p, q), "image length", i);
         try_changed(saved.length == TIGBULODE_IMAGE_LENGTH(p, q + 1));
     }

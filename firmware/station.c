@@ -56,7 +56,7 @@ static uint8_t run(tigbulode_equaliser *s, const block *in, size_t length, outpu
 
 /* Keeps a state: its image, and the check sum of that. */
 static tigbulode_saved keep(const tigbulode_equaliser *s, kept *k) {
-    tigbulode_saved saved = tigbulode_save(*s, k->image, IMAGE);
+    tigbulode_saved saved = tigbulode_save(s, k->image, IMAGE);
     if (saved.number == TIGBULODE_ACCEPTED) k->check_sum = tigbulode_check_sum(k->image, IMAGE);
     return saved;
 }
@@ -164,7 +164,7 @@ static void worked_example(void) {
         if (number == TIGBULODE_ACCEPTED) printf("%d %" PRId32 " %u %d\n", i, y, xi, decision);
     }
     uint8_t image[TIGBULODE_IMAGE_BYTES];
-    tigbulode_saved saved = tigbulode_save(s, image, sizeof image);
+    tigbulode_saved saved = tigbulode_save(&s, image, sizeof image);
     printf("image");
     print_bytes(image, saved.length);
 }
@@ -222,7 +222,7 @@ static void refused_save(void) {
     uint8_t buffer[IMAGE - 1], lent[IMAGE - 1];
     memset(buffer, 0x55, sizeof buffer);
     memcpy(lent, buffer, sizeof lent);
-    tigbulode_saved saved = tigbulode_save(record, buffer, sizeof buffer);
+    tigbulode_saved saved = tigbulode_save(&record, buffer, sizeof buffer);
     printf("save to %zu bytes: answer %u, length %zu, buffer %s\n", sizeof buffer, saved.number, saved.length,
            unchanged(memcmp(buffer, lent, sizeof lent) == 0));
 }
