@@ -1,15 +1,22 @@
-/* The station equaliser for firmware: set-up, running a block, trying one, saving and loading. C99 and later, C++98 and later.
+/* The station equaliser for firmware: set-up, running a block, trying one, saving, loading. C99 and C++98, and later.
  *
  * Link target/staticlib/libfirmware.a, which `rt staticlib firmware` writes; firmware/README.md has the lines for C and
  * Rust, docs/EQUALISER.md what the numbers mean.
  *
  * What a caller owes: a pointer is not null, even beside a length of 0; it is aligned for its type and valid for as many
- * elements as its length says; what is written (the record, the five lists, the buffer) overlaps nothing else that is
- * lent to the same call; until the call returns, nothing else writes to what is lent, no interrupt, no DMA transfer and
- * no thread, and nothing else reads what is written; the stack has room (docs/PERFORMANCE.md has the bytes). Every value
- * is taken, also that of a record with anything in it (but C converts a value to its parameter's type first: 257 for p
- * arrives as 1; -Wconversion tells). What can't be used is turned down with a number, and the record and all lent memory
- * are then as they were.
+ * elements as its length says; what is written (the five lists, the buffer, and the record where a block is run) overlaps
+ * nothing else that is lent to the same call, also not the record that a trial or a save only reads; until the call
+ * returns, nothing else writes to what is lent, that record included, no interrupt, no DMA transfer and no thread, and
+ * nothing else reads what is written; the stack has room (docs/PERFORMANCE.md has the bytes). Every value is taken, also
+ * that of a record with anything in it (but C converts a value to its parameter's type first: 257 for p arrives as 1;
+ * -Wconversion tells). What can't be used is turned down with a number, and the record and all lent memory are then as
+ * they were.
+ *
+ * A trial shows what a block would do before the station takes it. A stored block from a spell in which the cable was
+ * loud, faint or disturbed may pull the weights off, or raise psi, or be turned down with 6; and psi never falls, so the
+ * weights keep a binary digit less from then on. So an operator looks at the number, at psi and at tigbulode_largest_weight
+ * of the state that would follow, beside those of the record, and then has the station run the block or drop it.
+ * firmware/station.c does so.
  *
  * An image has no check sum: of the images that differ from a good one in one byte, three to five in ten load with 0,
  * as states that are sound but were never saved. So firmware keeps tigbulode_check_sum of each image beside it; after a loss
@@ -25,7 +32,7 @@
 #include <stddef.h>
 #include <stdint.h>
 
-/* Of this interface. A larger minor number only adds to it. */
+/* Of this interface. A larger minor number only adds to it, a larger major number changes a call. */
 #define TIGBULODE_VERSION_MAJOR 1
 #define TIGBULODE_VERSION_MINOR 0
 #define TIGBULODE_VERSION "1.0"
@@ -135,9 +142,10 @@ uint8_t tigbulode_run(tigbulode_equaliser *s,
                       int32_t *z, size_t z_length,
                       uint8_t *theta, size_t theta_length);
 
-/* A trial: answers and hands out what tigbulode_run would, on the record as it is, which is only read; beside the number stands
- * the state that would follow, or, turned down, the record's own. tigbulode_run on a copy gives the same lists and leaves that
- * state in the copy. tigbulode_trial_block below is the same call with the lists as named members. */
+/* A trial: answers and hands out what tigbulode_run would, on the record as it is, which is only read; beside the number
+ * stands the state that would follow, or, turned down, the record's own. tigbulode_run on a copy gives the same lists and
+ * leaves that state in the copy; so a caller takes the block by running it, or by storing that state in the record.
+ * tigbulode_trial_block below is the same call with the lists as named members. */
 TIGBULODE_NUMBER
 tigbulode_answer tigbulode_trial(const tigbulode_equaliser *s,
                                  const int16_t *samples, size_t samples_length,
@@ -182,18 +190,54 @@ static inline int tigbulode_has_lists(const tigbulode_block *block) {
            block->theta;
 }
 
+/* The block, or where a list was left out one of empty lists, which point to `none`. */
+static inline tigbulode_block tigbulode_lent_lists(const tigbulode_block *block, int32_t *none) {
+    tigbulode_block lists = *block;
+    void *empty = none;
+    if (tigbulode_has_lists(block)) return lists;
+    lists.length = 0;
+    lists.samples = (int16_t *)empty, lists.gains = (uint8_t *)empty, lists.entries = (int8_t *)empty;
+    lists.y = none, lists.xi = (uint8_t *)empty, lists.decision = (int8_t *)empty;
+    lists.z = none, lists.theta = (uint8_t *)empty;
+    return lists;
+}
+
+/* The lists of a block as the arguments of a run or a trial. */
+#define TIGBULODE_ARGUMENTS(lists)                                                                                     \
+    (lists).samples, (lists).length, (lists).gains, (lists).length, (lists).entries, (lists).length,                   \
+        (lists).y, (lists).length, (lists).xi, (lists).length, (lists).decision, (lists).length,                       \
+        (lists).z, (lists).length, (lists).theta, (lists).length
+
 /* tigbulode_run with its lists as the members of a struct. Where a list is a null pointer, the lists count as empty, so that
  * the block is turned down with 3 (or before that with 1, 2 or 9). */
 TIGBULODE_NUMBER
 static inline uint8_t tigbulode_run_block(tigbulode_equaliser *s, const tigbulode_block *block) {
-    const size_t n = tigbulode_has_lists(block) ? block->length : 0;
     int32_t none = 0;
-    void *empty = &none;
-    if (n == 0)
-        return tigbulode_run(s, (int16_t *)empty, 0, (uint8_t *)empty, 0, (int8_t *)empty, 0, (int32_t *)empty, 0,
-                             (uint8_t *)empty, 0, (int8_t *)empty, 0, (int32_t *)empty, 0, (uint8_t *)empty, 0);
-    return tigbulode_run(s, block->samples, n, block->gains, n, block->entries, n, block->y, n, block->xi, n,
-                         block->decision, n, block->z, n, block->theta, n);
+    const tigbulode_block lists = tigbulode_lent_lists(block, &none);
+    return tigbulode_run(s, TIGBULODE_ARGUMENTS(lists));
+}
+
+/* tigbulode_trial in the same way: what tigbulode_run_block would do, beside a record that is only read. */
+TIGBULODE_NUMBER
+static inline tigbulode_answer tigbulode_trial_block(const tigbulode_equaliser *s, const tigbulode_block *block) {
+    int32_t none = 0;
+    const tigbulode_block lists = tigbulode_lent_lists(block, &none);
+    return tigbulode_trial(s, TIGBULODE_ARGUMENTS(lists));
+}
+
+#undef TIGBULODE_ARGUMENTS
+
+/* The largest magnitude of a weight, in units of 2^(psi - 15): at most 16383 in a sound state. A record with anything in it
+ * is read at its 32 places alone; -32768 counts as 32768. */
+static inline uint16_t tigbulode_largest_weight(const tigbulode_equaliser *s) {
+    int32_t largest = 0;
+    int i;
+    for (i = 0; i < TIGBULODE_PLACES; i++) {
+        const int32_t weight = s->weights[i];
+        const int32_t magnitude = weight < 0 ? -weight : weight;
+        if (magnitude > largest) largest = magnitude;
+    }
+    return (uint16_t)largest;
 }
 
 /* The greatest M that set-up admits with these sizes; 0 where one of them is outside its limits. */
