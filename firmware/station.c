@@ -1,7 +1,7 @@
 /* A station as firmware would run it: it has one record, trains on known symbols, goes on from its own decisions, keeps
  * its state beside a check sum, loses power, recovers, and goes on. Then calls that are turned down, and every bent byte
  * in what it keeps. Prints a line for each thing that happens; 1 is the exit status where something that was turned down
- * left a mark, or a bent image was taken. */
+ * or tried left a mark, or a bent image was taken. */
 #include "arguments.h"
 #include "tigbulode.h"
 
@@ -46,11 +46,16 @@ static const char *const finding_texts[FINDINGS] = {
 static tigbulode_equaliser record;
 static int marks;
 
-static uint8_t run(tigbulode_equaliser *s, const block *in, size_t length, outputs *out) {
+static tigbulode_block lists_of(const block *in, size_t length, outputs *out) {
     const tigbulode_block lists = {
         .length = length, .samples = in->samples, .gains = in->gains, .entries = in->entries,
         .y = out->y, .xi = out->xi, .decision = out->decision, .z = out->z, .theta = out->theta,
     };
+    return lists;
+}
+
+static uint8_t run(tigbulode_equaliser *s, const block *in, size_t length, outputs *out) {
+    const tigbulode_block lists = lists_of(in, length, out);
     return tigbulode_run_block(s, &lists);
 }
 
@@ -174,15 +179,46 @@ static const char *unchanged(bool same) {
     return same ? "kept" : "CHANGED";
 }
 
-/* A block that is turned down. */
-static void refuse_block(const char *about, tigbulode_equaliser s, const block *in, size_t length) {
-    tigbulode_equaliser before = s;
-    outputs out, lent;
+static bool same_state(const tigbulode_equaliser *s, const tigbulode_equaliser *t) { return memcmp(s, t, sizeof *s) == 0; }
+
+static bool same_outputs(const outputs *out, const outputs *other) { return memcmp(out, other, sizeof *out) == 0; }
+
+static outputs filled(void) {
+    outputs out;
     memset(&out, 0x55, sizeof out);
-    lent = out;
-    uint8_t number = run(&s, in, length, &out);
-    printf("%s: answer %u, record %s, ", about, number, unchanged(memcmp(&s, &before, sizeof s) == 0));
-    printf("outputs %s\n", unchanged(memcmp(&out, &lent, sizeof out) == 0));
+    return out;
+}
+
+/* What a trial showed. */
+typedef struct {
+    tigbulode_equaliser before;
+    tigbulode_answer answer;
+    outputs out;
+    const char *record; /* kept, as it has to be */
+} trial;
+
+static trial try_block(const tigbulode_equaliser *s, const block *in, size_t length) {
+    trial t = {.before = *s, .out = filled()};
+    const tigbulode_block lists = lists_of(in, length, &t.out);
+    t.answer = tigbulode_trial_block(s, &lists);
+    t.record = unchanged(same_state(s, &t.before));
+    return t;
+}
+
+/* A block that is turned down, and its trial, which hands back the record's own state. */
+static void refuse_block(const char *about, tigbulode_equaliser s, const block *in, size_t length) {
+    const tigbulode_equaliser before = s;
+    const outputs lent = filled();
+    outputs out = lent;
+    const uint8_t number = run(&s, in, length, &out);
+    printf("%s: answer %u, record %s, ", about, number, unchanged(same_state(&s, &before)));
+    printf("outputs %s; ", unchanged(same_outputs(&out, &lent)));
+    s = before;
+    const trial t = try_block(&s, in, length);
+    if (t.answer.number != number) marks++;
+    printf("its trial: answer %u, record %s, ", t.answer.number, t.record);
+    printf("outputs %s, ", unchanged(same_outputs(&t.out, &lent)));
+    printf("state %s\n", unchanged(same_state(&t.answer.state, &t.before)));
 }
 
 static void refused_lists(cable c) {
@@ -256,7 +292,7 @@ static void lose_power_and_recover(const kept *k) {
     printf("power lost\n");
     refuse_block("block on a record of FF bytes", record, &in, N);
     printf("%s, ", finding_texts[recover(k, &record)]);
-    printf("record of before the loss %s\n", unchanged(memcmp(&record, &before, sizeof record) == 0));
+    printf("record of before the loss %s\n", unchanged(same_state(&record, &before)));
 }
 
 /* Counts what the station finds. Where it doesn't recover it has the fresh state. */
@@ -265,7 +301,7 @@ static void count_finding(const kept *k, unsigned *counts) {
     tigbulode_equaliser s;
     const finding found = recover(k, &s);
     counts[found]++;
-    if (found != OWN_STATE && memcmp(&s, &fresh, sizeof s) != 0) marks++;
+    if (found != OWN_STATE && !same_state(&s, &fresh)) marks++;
 }
 
 /* What the station finds with one byte of the image bent in every way. The check sum stays that of the good image, or is

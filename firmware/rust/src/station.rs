@@ -4,6 +4,7 @@
 //! that are turned down, and every bent byte in what it keeps.
 
 mod kept;
+mod tried;
 
 use crate::sides::Operations;
 use crate::{greatest_step, image_length, number};
@@ -135,7 +136,7 @@ struct Station<'a> {
 }
 
 /// The lines of the station by one side, and whether nothing that was turned
-/// down left a mark and no bent image was taken.
+/// down or tried left a mark and no bent image was taken.
 pub fn text(side: &dyn Operations) -> (String, bool) {
     let answer = side.set_up(SIZES);
     let mut station = Station {
@@ -181,6 +182,24 @@ fn set_up_line(number: u8) -> String {
     format!("set-up p {p} q {q} N {n} r {r} L {l} M {m}: answer {number}")
 }
 
+fn block_of(read: &Received, length: usize) -> Block<'_> {
+    Block {
+        samples: &read.samples[..length],
+        gains: &read.gains[..length],
+        entries: &read.entries[..length],
+    }
+}
+
+fn lists_of(out: &mut Handed, length: usize) -> Outputs<'_> {
+    Outputs {
+        y: &mut out.y[..length],
+        xi: &mut out.xi[..length],
+        decision: &mut out.decision[..length],
+        z: &mut out.z[..length],
+        theta: &mut out.theta[..length],
+    }
+}
+
 fn run(
     side: &dyn Operations,
     s: &mut Equaliser,
@@ -188,19 +207,7 @@ fn run(
     length: usize,
     out: &mut Handed,
 ) -> u8 {
-    let block = Block {
-        samples: &read.samples[..length],
-        gains: &read.gains[..length],
-        entries: &read.entries[..length],
-    };
-    let out = Outputs {
-        y: &mut out.y[..length],
-        xi: &mut out.xi[..length],
-        decision: &mut out.decision[..length],
-        z: &mut out.z[..length],
-        theta: &mut out.theta[..length],
-    };
-    side.run(s, block, out)
+    side.run(s, block_of(read, length), lists_of(out, length))
 }
 
 impl Station<'_> {
@@ -284,16 +291,22 @@ impl Station<'_> {
         }
     }
 
-    /// A block that is turned down.
+    /// A block that is turned down, and its trial, which hands back the
+    /// record's own state.
     fn refuse_block(&mut self, about: &str, before: Equaliser, read: &Received, length: usize) {
         let mut s = before;
         let mut out = Handed::filled();
         let number = run(self.side, &mut s, read, length, &mut out);
         let record = self.unchanged(s == before);
         let outputs = self.unchanged(out == Handed::filled());
-        self.line(format!(
-            "{about}: answer {number}, record {record}, outputs {outputs}"
-        ));
+        let run = format!("answer {number}, record {record}, outputs {outputs}");
+        let trial = self.try_block(&mut { before }, read, length);
+        self.marks += u32::from(trial.answer.number != number);
+        let (number, record) = (trial.answer.number, trial.record);
+        let outputs = self.unchanged(trial.out == Handed::filled());
+        let state = self.unchanged(trial.answer.state == trial.before);
+        let trial = format!("answer {number}, record {record}, outputs {outputs}, state {state}");
+        self.line(format!("{about}: {run}; its trial: {trial}"));
     }
 
     fn refused_lists(&mut self) {
