@@ -1,7 +1,8 @@
 /* A station as firmware would run it: it has one record, trains on known symbols, goes on from its own decisions, keeps
- * its state beside a check sum, loses power, recovers, and goes on. Then calls that are turned down, and every bent byte
- * in what it keeps. Prints a line for each thing that happens; 1 is the exit status where something that was turned down
- * or tried left a mark, or a bent image was taken. */
+ * its state beside a check sum, loses power, recovers, and goes on. Then calls that are turned down, every bent byte in
+ * what it keeps, and a spell whose blocks it tries before it takes them. Prints a line for each thing that happens; 1 is
+ * the exit status where something that was turned down or tried left a mark, a block did something else than its trial,
+ * or a bent image was taken. */
 #include "arguments.h"
 #include "tigbulode.h"
 
@@ -11,6 +12,7 @@
 enum { P = 4, Q = 3, N = 16, R = 1, L = 0, RESPONSE = 4, IMAGE = TIGBULODE_IMAGE_LENGTH(P, Q) };
 static const uint32_t STEP = 7456540; /* the greatest that is admitted */
 static const int32_t response[RESPONSE] = {13000, 4000, -2000, 900}; /* of the cable, in units of 1/32768 */
+enum { FAINT = 2, USUAL = 4, LOUD = 16 };                            /* its levels, in quarters of the usual one */
 
 /* What a block reads, and what it hands out. */
 typedef struct {
@@ -82,6 +84,7 @@ static finding recover(const kept *k, tigbulode_equaliser *s) {
 typedef struct {
     uint32_t random;
     int32_t sent[RESPONSE]; /* newest first */
+    int32_t level;
 } cable;
 
 static uint32_t next_random(cable *c) {
@@ -89,16 +92,20 @@ static uint32_t next_random(cable *c) {
     return c->random;
 }
 
-/* The received sample of the next symbol, at the highest gain that the converter can take. */
+/* The received sample of the next symbol, at the highest gain that the converter can take; it cuts what is too loud. */
 static int8_t receive(cable *c, int16_t *m, uint8_t *gain) {
     memmove(c->sent + 1, c->sent, (RESPONSE - 1) * sizeof c->sent[0]);
     c->sent[0] = 2 * (int32_t)(next_random(c) >> 30) - 3;
     int32_t s = (int32_t)(next_random(c) >> 26) - 32;
     for (int i = 0; i < RESPONSE; i++) s += response[i] * c->sent[i];
+    s = s * c->level / USUAL;
     int32_t size = s < 0 ? -s : s;
     uint8_t g = 0;
     while (g < TIGBULODE_MOST_GAIN && (int64_t)size << (g + 1) < (int64_t)1 << (15 + R)) g++;
-    *m = (int16_t)(((int64_t)s * ((int64_t)1 << g)) / (1 << R));
+    int64_t converted = ((int64_t)s * ((int64_t)1 << g)) / (1 << R);
+    if (converted > INT16_MAX) converted = INT16_MAX;
+    if (converted < INT16_MIN) converted = INT16_MIN;
+    *m = (int16_t)converted;
     *gain = g;
     return (int8_t)c->sent[0];
 }
@@ -367,10 +374,98 @@ static void recover_from_anything(kept k) {
     recover_from("memory of FF bytes", &k);
 }
 
+/* The rule of a trained station. It takes a block whose trial is accepted, leaves psi as it is, and changes the largest
+ * weight by less than a sixteenth. */
+static bool is_taken(const trial *t) {
+    const tigbulode_equaliser *after = &t->answer.state;
+    const int weight = tigbulode_largest_weight(&t->before);
+    const int change = abs(tigbulode_largest_weight(after) - weight);
+    return t->answer.number == TIGBULODE_ACCEPTED && after->psi == t->before.psi && 16 * change < weight;
+}
+
+/* Runs a block that was tried. It hands out the lists of its trial, and leaves the state that this handed back. */
+static const char *take(tigbulode_equaliser *s, const block *in, const trial *t) {
+    outputs out = filled();
+    const uint8_t number = run(s, in, N, &out);
+    const bool same = number == t->answer.number && same_state(s, &t->answer.state) && same_outputs(&out, &t->out);
+    if (!same) marks++;
+    return same ? "taken, as tried" : "taken, NOT AS TRIED";
+}
+
+/* Tries a block, and takes it or not. */
+static trial offer(tigbulode_equaliser *s, const block *in, const char **outcome) {
+    const trial t = try_block(s, in, N);
+    *outcome = is_taken(&t) ? take(s, in, &t) : "not taken";
+    return t;
+}
+
+static void print_trial(const char *about, const trial *t, const char *outcome) {
+    const tigbulode_equaliser *after = &t->answer.state;
+    printf("tried %s: answer %u, psi %u to %u, ", about, t->answer.number, t->before.psi, after->psi);
+    printf("largest weight %u to %u, ", tigbulode_largest_weight(&t->before), tigbulode_largest_weight(after));
+    printf("record %s; %s\n", t->record, outcome);
+}
+
+static void offer_and_print(const char *about, tigbulode_equaliser *s, const block *in) {
+    const char *outcome;
+    const trial t = offer(s, in, &outcome);
+    print_trial(about, &t, outcome);
+}
+
+/* The next block at a level, its symbols known. */
+static block known_block(cable *c, int32_t level) {
+    int8_t sent[N];
+    c->level = level;
+    block in = receive_block(c, sent);
+    c->level = USUAL;
+    memcpy(in.entries, sent, sizeof sent);
+    return in;
+}
+
+/* Blocks of a faint cable. The station takes those that its rule admits, and prints the first that it doesn't; another
+ * record takes them all. */
+static void faint_blocks(cable *c, unsigned count) {
+    tigbulode_equaliser other = record;
+    unsigned taken = 0;
+    for (unsigned b = 0; b < count; b++) {
+        const block in = known_block(c, FAINT);
+        const char *outcome;
+        outputs out;
+        const trial t = offer(&record, &in, &outcome);
+        if (!is_taken(&t) && taken == b) print_trial("a faint block", &t, outcome);
+        taken += is_taken(&t);
+        if (run(&other, &in, N, &out) != TIGBULODE_ACCEPTED) marks++;
+    }
+    printf("faint blocks taken: %u of %u, psi %u, largest weight %u; ", taken, count, record.psi,
+           tigbulode_largest_weight(&record));
+    printf("by a station that takes them all: psi %u, largest weight %u\n", other.psi, tigbulode_largest_weight(&other));
+}
+
+/* The record with the greatest exponent, and every weight at its limit. */
+static tigbulode_equaliser full_record(void) {
+    tigbulode_equaliser s = record;
+    s.psi = TIGBULODE_MOST_EXPONENT;
+    for (int i = 0; i < P + Q; i++) s.weights[i] = i % 2 == 0 ? TIGBULODE_MOST_WEIGHT : -TIGBULODE_MOST_WEIGHT;
+    return s;
+}
+
+/* A spell in which the cable is loud, then faint, then as before, the symbols known. */
+static void spell(cable *c) {
+    tigbulode_equaliser full;
+    block in = known_block(c, USUAL);
+    offer_and_print("a usual block", &record, &in);
+    in = known_block(c, LOUD);
+    offer_and_print("a loud block", &record, &in);
+    faint_blocks(c, 61);
+    full = full_record();
+    in = known_block(c, USUAL);
+    offer_and_print("a usual block on a record with psi 15", &full, &in);
+}
+
 int main(int argc, char **argv) {
     take_arguments(argc, argv, 0, "station, without arguments: the lines of a station that uses the static library");
     worked_example();
-    cable c = {2026, {0}};
+    cable c = {2026, {0}, USUAL};
     kept k;
     tigbulode_answer a = tigbulode_set_up(P, Q, N, R, L, STEP);
     printf("set-up p %d q %d N %d r %d L %d M %" PRIu32 ": answer %u\n", P, Q, N, R, L, STEP, a.number);
@@ -391,5 +486,7 @@ int main(int argc, char **argv) {
     recover_from_anything(k);
     for (unsigned first = 208; first < 240; first += 16) run_blocks(&c, first, true);
     run_blocks(&c, 240, false);
+    spell(&c);
+    run_blocks(&c, 320, true);
     return marks == 0 ? EXIT_SUCCESS : EXIT_FAILURE;
 }

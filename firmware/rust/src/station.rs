@@ -1,7 +1,8 @@
 //! A station as firmware would run it, with the lines of `station.c`: it has
 //! one record, trains on known symbols, goes on from its own decisions, keeps
 //! its state beside a check sum, loses power, recovers, and goes on. Then calls
-//! that are turned down, and every bent byte in what it keeps.
+//! that are turned down, every bent byte in what it keeps, and a spell whose
+//! blocks it tries before it takes them.
 
 mod kept;
 mod tried;
@@ -32,6 +33,10 @@ const SMALLEST: Settings = Settings {
 };
 /// Of the cable, in units of 1/32768.
 const RESPONSE: [i32; 4] = [13000, 4000, -2000, 900];
+/// The cable's levels, in quarters of the usual one.
+const FAINT: i32 = 2;
+const USUAL: i32 = 4;
+const LOUD: i32 = 16;
 
 /// What a block reads.
 #[derive(Clone, Default)]
@@ -86,6 +91,7 @@ struct Cable {
     random: u32,
     /// Newest first.
     sent: [i32; 4],
+    level: i32,
 }
 
 impl Cable {
@@ -96,16 +102,18 @@ impl Cable {
     }
 
     /// The next symbol, and its received sample at the highest gain that the
-    /// converter can take.
+    /// converter can take; it cuts what is too loud.
     fn receive(&mut self) -> (i8, i16, u8) {
         self.sent.rotate_right(1);
         self.sent[0] = 2 * (self.next_random() >> 30) as i32 - 3;
         let noise = (self.next_random() >> 26) as i32 - 32;
         let products = RESPONSE.iter().zip(self.sent);
-        let s = i64::from(products.map(|(h, v)| h * v).sum::<i32>() + noise);
+        let s = products.map(|(h, v)| h * v).sum::<i32>() + noise;
+        let s = i64::from(s * self.level / USUAL);
         let end = 1i64 << (15 + SIZES.r);
         let gain = (0..15).take_while(|g| s.abs() << (g + 1) < end).count();
         let m = (s * (1i64 << gain)) / (1i64 << SIZES.r);
+        let m = m.clamp(i16::MIN.into(), i16::MAX.into());
         (self.sent[0] as i8, m as i16, gain as u8)
     }
 
@@ -136,7 +144,8 @@ struct Station<'a> {
 }
 
 /// The lines of the station by one side, and whether nothing that was turned
-/// down or tried left a mark and no bent image was taken.
+/// down or tried left a mark, each block did what its trial had shown, and no
+/// bent image was taken.
 pub fn text(side: &dyn Operations) -> (String, bool) {
     let answer = side.set_up(SIZES);
     let mut station = Station {
@@ -145,6 +154,7 @@ pub fn text(side: &dyn Operations) -> (String, bool) {
         cable: Cable {
             random: 2026,
             sent: [0; 4],
+            level: USUAL,
         },
         text: String::new(),
         marks: 0,
@@ -174,6 +184,8 @@ pub fn text(side: &dyn Operations) -> (String, bool) {
     station.run_blocks(208, true);
     station.run_blocks(224, true);
     station.run_blocks(240, false);
+    station.spell();
+    station.run_blocks(320, true);
     (station.text, station.marks == 0)
 }
 

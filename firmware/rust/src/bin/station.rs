@@ -1,7 +1,7 @@
 //! Prints the lines of a station that uses the static library: `station`.
 //! `station --second` prints those of the second implementation. Exit status
-//! 1: something that was turned down or tried left a mark, or a bent image was
-//! taken; 2: bad arguments.
+//! 1: something that was turned down or tried left a mark, a block did
+//! something else than its trial, or a bent image was taken; 2: bad arguments.
 
 use std::process::ExitCode;
 use tigbulode::sides::{Library, Operations, Second};

@@ -1,7 +1,8 @@
-//! Blocks that a station tries.
+//! Blocks that a station tries before it takes them.
 
-use super::{block_of, lists_of, Handed, Received, Station};
-use crate::{Answer, Equaliser};
+use super::{block_of, lists_of, run, Handed, Received, Station};
+use super::{FAINT, LOUD, N, SIZES, USUAL};
+use crate::{number, Answer, Equaliser, MOST_EXPONENT, MOST_WEIGHT};
 
 /// What a trial showed.
 pub struct Trial {
@@ -10,6 +11,18 @@ pub struct Trial {
     pub out: Handed,
     /// Kept, as it has to be.
     pub record: &'static str,
+}
+
+/// The rule of a trained station. It takes a block whose trial is accepted,
+/// leaves psi as it is, and changes the largest weight by less than a
+/// sixteenth.
+fn is_taken(t: &Trial) -> bool {
+    let after = &t.answer.state;
+    let weight = t.before.largest_weight();
+    let change = after.largest_weight().abs_diff(weight);
+    t.answer.number == number::ACCEPTED
+        && after.psi == t.before.psi
+        && 16 * u32::from(change) < u32::from(weight)
 }
 
 impl Station<'_> {
@@ -25,5 +38,108 @@ impl Station<'_> {
             out,
             record,
         }
+    }
+
+    /// Runs a block that was tried. It hands out the lists of its trial, and
+    /// leaves the state that this handed back.
+    fn take(&mut self, s: &mut Equaliser, read: &Received, t: &Trial) -> &'static str {
+        let mut out = Handed::filled();
+        let number = run(self.side, s, read, N, &mut out);
+        let same = number == t.answer.number && *s == t.answer.state && out == t.out;
+        self.marks += u32::from(!same);
+        if same {
+            "taken, as tried"
+        } else {
+            "taken, NOT AS TRIED"
+        }
+    }
+
+    /// Tries a block, and takes it or not.
+    fn offer(&mut self, s: &mut Equaliser, read: &Received) -> (Trial, &'static str) {
+        let t = self.try_block(s, read, N);
+        let outcome = if is_taken(&t) {
+            self.take(s, read, &t)
+        } else {
+            "not taken"
+        };
+        (t, outcome)
+    }
+
+    fn print_trial(&mut self, about: &str, t: &Trial, outcome: &str) {
+        let (before, after) = (&t.before, &t.answer.state);
+        let psi = format!("psi {} to {}", before.psi, after.psi);
+        let weights = (before.largest_weight(), after.largest_weight());
+        let weight = format!("largest weight {} to {}", weights.0, weights.1);
+        let (number, record) = (t.answer.number, t.record);
+        self.line(format!(
+            "tried {about}: answer {number}, {psi}, {weight}, record {record}; {outcome}"
+        ));
+    }
+
+    /// Tries a block on the station's record, and takes it or not.
+    fn offer_to_record(&mut self, read: &Received) -> (Trial, &'static str) {
+        let mut record = self.record;
+        let offered = self.offer(&mut record, read);
+        self.record = record;
+        offered
+    }
+
+    /// The next block at a level, its symbols known.
+    fn known_block(&mut self, level: i32) -> Received {
+        self.cable.level = level;
+        let (read, entries) = self.cable.receive_block();
+        self.cable.level = USUAL;
+        Received { entries, ..read }
+    }
+
+    /// Blocks of a faint cable. The station takes those that its rule admits,
+    /// and prints the first that it doesn't; another record takes them all.
+    fn faint_blocks(&mut self, count: u32) {
+        let mut other = self.record;
+        let mut taken = 0;
+        for b in 0..count {
+            let read = self.known_block(FAINT);
+            let (t, outcome) = self.offer_to_record(&read);
+            if !is_taken(&t) && taken == b {
+                self.print_trial("a faint block", &t, outcome);
+            }
+            taken += u32::from(is_taken(&t));
+            let number = run(self.side, &mut other, &read, N, &mut Handed::filled());
+            self.marks += u32::from(number != number::ACCEPTED);
+        }
+        let shown = |s: &Equaliser| format!("psi {}, largest weight {}", s.psi, s.largest_weight());
+        let (own, all) = (shown(&self.record), shown(&other));
+        self.line(format!(
+            "faint blocks taken: {taken} of {count}, {own}; by a station that takes them all: {all}"
+        ));
+    }
+
+    /// The record with the greatest exponent, and every weight at its limit.
+    fn full_record(&self) -> Equaliser {
+        let mut s = self.record;
+        s.psi = MOST_EXPONENT;
+        for (i, weight) in s.weights[..SIZES.taps()].iter_mut().enumerate() {
+            *weight = if i % 2 == 0 {
+                MOST_WEIGHT
+            } else {
+                -MOST_WEIGHT
+            };
+        }
+        s
+    }
+
+    /// A spell in which the cable is loud, then faint, then as before, the
+    /// symbols known.
+    pub fn spell(&mut self) {
+        for (about, level) in [("a usual block", USUAL), ("a loud block", LOUD)] {
+            let read = self.known_block(level);
+            let (t, outcome) = self.offer_to_record(&read);
+            self.print_trial(about, &t, outcome);
+        }
+        self.faint_blocks(61);
+        let mut full = self.full_record();
+        let read = self.known_block(USUAL);
+        let (t, outcome) = self.offer(&mut full, &read);
+        self.print_trial("a usual block on a record with psi 15", &t, outcome);
     }
 }
