@@ -150,14 +150,23 @@ static void run_blocks(cable *c, unsigned first, bool trained) {
            trained ? "trained" : "decided", first, first + 15, wrong, record.psi, record.b, record.big, sum);
 }
 
+static const char *unchanged(bool same) {
+    if (!same) marks++;
+    return same ? "kept" : "CHANGED";
+}
+
+static bool same_state(const tigbulode_equaliser *s, const tigbulode_equaliser *t) { return memcmp(s, t, sizeof *s) == 0; }
+
 static void print_bytes(const uint8_t *bytes, size_t length) {
     for (size_t i = 0; i < length; i++) printf(" %02X", bytes[i]);
     printf("\n");
 }
 
-/* Keeps the record and prints what is kept. */
+/* Keeps the record, which stays as it is, and prints what is kept. */
 static void keep_record(kept *k) {
+    const tigbulode_equaliser before = record;
     tigbulode_saved saved = keep(&record, k);
+    if (!same_state(&record, &before)) marks++;
     printf("kept: answer %u, length %zu, check sum %08" PRIX32 "\nimage", saved.number, saved.length, k->check_sum);
     print_bytes(k->image, saved.length);
 }
@@ -180,13 +189,6 @@ static void worked_example(void) {
     printf("image");
     print_bytes(image, saved.length);
 }
-
-static const char *unchanged(bool same) {
-    if (!same) marks++;
-    return same ? "kept" : "CHANGED";
-}
-
-static bool same_state(const tigbulode_equaliser *s, const tigbulode_equaliser *t) { return memcmp(s, t, sizeof *s) == 0; }
 
 static bool same_outputs(const outputs *out, const outputs *other) { return memcmp(out, other, sizeof *out) == 0; }
 
@@ -262,12 +264,14 @@ static void refused_records(void) {
 }
 
 static void refused_save(void) {
+    const tigbulode_equaliser before = record;
     uint8_t buffer[IMAGE - 1], lent[IMAGE - 1];
     memset(buffer, 0x55, sizeof buffer);
     memcpy(lent, buffer, sizeof lent);
     tigbulode_saved saved = tigbulode_save(&record, buffer, sizeof buffer);
-    printf("save to %zu bytes: answer %u, length %zu, buffer %s\n", sizeof buffer, saved.number, saved.length,
-           unchanged(memcmp(buffer, lent, sizeof lent) == 0));
+    printf("save to %zu bytes: answer %u, length %zu, ", sizeof buffer, saved.number, saved.length);
+    printf("record %s, ", unchanged(same_state(&record, &before)));
+    printf("buffer %s\n", unchanged(memcmp(buffer, lent, sizeof lent) == 0));
 }
 
 static void print_refused(const char *about, tigbulode_answer a) {

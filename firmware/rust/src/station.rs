@@ -282,10 +282,12 @@ impl Station<'_> {
         ));
     }
 
-    /// Keeps the record and prints what is kept.
+    /// Keeps the record, which stays as it is, and prints what is kept.
     fn keep_record(&mut self) -> Kept {
+        let before = self.record;
         let mut kept = Kept::filled(0);
         let Saved { number, length } = keep(self.side, &mut self.record, &mut kept);
+        self.marks += u32::from(self.record != before);
         let sum = kept.check_sum;
         self.line(format!(
             "kept: answer {number}, length {length}, check sum {sum:08X}"
@@ -355,12 +357,14 @@ impl Station<'_> {
     }
 
     fn refused_save(&mut self) {
-        let mut buffer = [0x55; IMAGE - 1];
-        let saved = self.side.save(&mut self.record, &mut buffer);
-        let kept = self.unchanged(buffer == [0x55; IMAGE - 1]);
+        let before = self.record;
+        let mut lent = [0x55; IMAGE - 1];
+        let saved = self.side.save(&mut self.record, &mut lent);
+        let record = self.unchanged(self.record == before);
+        let buffer = self.unchanged(lent == [0x55; IMAGE - 1]);
         let (number, length) = (saved.number, saved.length);
         self.line(format!(
-            "save to 39 bytes: answer {number}, length {length}, buffer {kept}"
+            "save to 39 bytes: answer {number}, length {length}, record {record}, buffer {buffer}"
         ));
     }
 
