@@ -4,6 +4,10 @@
 //! Every value is taken; what can't be used is turned down with a number, and
 //! the record and all lent memory are then as they were.
 //!
+//! A [`trial`] shows what a block would do before the station takes it; an
+//! operator looks at its number, at psi and at [`Equaliser::largest_weight`].
+//! `tigbulode.h` says when that is useful.
+//!
 //! An image has no check sum: see `tigbulode.h`. Firmware keeps [`check_sum`] of
 //! each image beside it, and after a load compares [`Equaliser::settings`] with
 //! its own.
@@ -105,7 +109,8 @@ impl Equaliser {
         (self.p, self.q, self.n, self.r, self.l, self.step)
     }
 
-    /// The largest magnitude of a weight.
+    /// The largest magnitude of a weight, in units of 2^(psi - 15): at most
+    /// 16383 in a sound state.
     pub fn largest_weight(&self) -> u16 {
         let magnitudes = self.weights.iter().map(|weight| weight.unsigned_abs());
         magnitudes.max().unwrap_or(0)
@@ -147,46 +152,39 @@ pub fn set_up(p: u8, q: u8, n: u8, r: u8, l: u8, step: u32) -> Answer {
     unsafe { tigbulode_set_up(p, q, n, r, l, step) }
 }
 
+/// A call with a record and the lists of a block, each with its length.
+#[rustfmt::skip]
+macro_rules! with_lists {
+    ($call:ident, $s:expr, $block:expr, $out:expr) => {
+        $call(
+            $s,
+            $block.samples.as_ptr(), $block.samples.len(),
+            $block.gains.as_ptr(), $block.gains.len(),
+            $block.entries.as_ptr(), $block.entries.len(),
+            $out.y.as_mut_ptr(), $out.y.len(),
+            $out.xi.as_mut_ptr(), $out.xi.len(),
+            $out.decision.as_mut_ptr(), $out.decision.len(),
+            $out.z.as_mut_ptr(), $out.z.len(),
+            $out.theta.as_mut_ptr(), $out.theta.len(),
+        )
+    };
+}
+
 /// Runs a block; the record is advanced in place.
 #[must_use]
-#[rustfmt::skip]
 pub fn run(s: &mut Equaliser, block: Block, out: Outputs) -> u8 {
     // SAFETY: each pointer is a reference's or a slice's own, so it is not
     // null, is aligned and valid for its length, and what is written overlaps
     // nothing else.
-    unsafe {
-        tigbulode_run(
-            s,
-            block.samples.as_ptr(), block.samples.len(),
-            block.gains.as_ptr(), block.gains.len(),
-            block.entries.as_ptr(), block.entries.len(),
-            out.y.as_mut_ptr(), out.y.len(),
-            out.xi.as_mut_ptr(), out.xi.len(),
-            out.decision.as_mut_ptr(), out.decision.len(),
-            out.z.as_mut_ptr(), out.z.len(),
-            out.theta.as_mut_ptr(), out.theta.len(),
-        )
-    }
+    unsafe { with_lists!(tigbulode_run, s, block, out) }
 }
 
 /// A trial: what [`run`] would answer and hand out, beside the state that would
-/// follow, or turned down the record's own. The record is only read.
-#[rustfmt::skip]
+/// follow, or turned down the record's own. The record is only read; to take
+/// the block run it, or store that state in the record.
 pub fn trial(s: &Equaliser, block: Block, out: Outputs) -> Answer {
     // SAFETY: as for `run`, and the record is only read.
-    unsafe {
-        tigbulode_trial(
-            s,
-            block.samples.as_ptr(), block.samples.len(),
-            block.gains.as_ptr(), block.gains.len(),
-            block.entries.as_ptr(), block.entries.len(),
-            out.y.as_mut_ptr(), out.y.len(),
-            out.xi.as_mut_ptr(), out.xi.len(),
-            out.decision.as_mut_ptr(), out.decision.len(),
-            out.z.as_mut_ptr(), out.z.len(),
-            out.theta.as_mut_ptr(), out.theta.len(),
-        )
-    }
+    unsafe { with_lists!(tigbulode_trial, s, block, out) }
 }
 
 /// Writes the image to the front of the buffer and gives its length.
