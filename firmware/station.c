@@ -204,6 +204,8 @@ typedef struct {
     tigbulode_answer answer;
     outputs out;
     const char *record; /* kept, as it has to be */
+    bool taken;
+    bool same; /* as its run */
 } trial;
 
 static trial try_block(const tigbulode_equaliser *s, const block *in, size_t length) {
@@ -387,33 +389,30 @@ static bool is_taken(const trial *t) {
     return t->answer.number == TIGBULODE_ACCEPTED && after->psi == t->before.psi && 16 * change < weight;
 }
 
-/* Runs a block that was tried. It hands out the lists of its trial, and leaves the state that this handed back. */
-static const char *take(tigbulode_equaliser *s, const block *in, const trial *t) {
+/* Runs a block that was tried: whether the number, the state and the lists are those of its trial. */
+static bool runs_as_tried(tigbulode_equaliser *s, const block *in, const trial *t) {
     outputs out = filled();
     const uint8_t number = run(s, in, N, &out);
     const bool same = number == t->answer.number && same_state(s, &t->answer.state) && same_outputs(&out, &t->out);
     if (!same) marks++;
-    return same ? "taken, as tried" : "taken, NOT AS TRIED";
+    return same;
 }
 
-/* Tries a block, and takes it or not. */
-static trial offer(tigbulode_equaliser *s, const block *in, const char **outcome) {
-    const trial t = try_block(s, in, N);
-    *outcome = is_taken(&t) ? take(s, in, &t) : "not taken";
+/* Tries a block and takes it, or runs it on a copy only. */
+static trial offer(tigbulode_equaliser *s, const block *in) {
+    tigbulode_equaliser copy = *s;
+    trial t = try_block(s, in, N);
+    t.taken = is_taken(&t);
+    t.same = runs_as_tried(t.taken ? s : &copy, in, &t);
     return t;
 }
 
-static void print_trial(const char *about, const trial *t, const char *outcome) {
+static void print_trial(const char *about, const trial *t) {
     const tigbulode_equaliser *after = &t->answer.state;
     printf("tried %s: answer %u, psi %u to %u, ", about, t->answer.number, t->before.psi, after->psi);
     printf("largest weight %u to %u, ", tigbulode_largest_weight(&t->before), tigbulode_largest_weight(after));
-    printf("record %s; %s\n", t->record, outcome);
-}
-
-static void offer_and_print(const char *about, tigbulode_equaliser *s, const block *in) {
-    const char *outcome;
-    const trial t = offer(s, in, &outcome);
-    print_trial(about, &t, outcome);
+    printf("record %s; %s ", t->record, t->taken ? "taken, and the run" : "not taken, and a run on a copy");
+    printf("gives %s\n", t->same ? "the same" : "SOMETHING ELSE");
 }
 
 /* The next block at a level, its symbols known. */
@@ -433,11 +432,10 @@ static void faint_blocks(cable *c, unsigned count) {
     unsigned taken = 0;
     for (unsigned b = 0; b < count; b++) {
         const block in = known_block(c, FAINT);
-        const char *outcome;
+        const trial t = offer(&record, &in);
         outputs out;
-        const trial t = offer(&record, &in, &outcome);
-        if (!is_taken(&t) && taken == b) print_trial("a faint block", &t, outcome);
-        taken += is_taken(&t);
+        if (!t.taken && taken == b) print_trial("a faint block", &t);
+        taken += t.taken;
         if (run(&other, &in, N, &out) != TIGBULODE_ACCEPTED) marks++;
     }
     printf("faint blocks taken: %u of %u, psi %u, largest weight %u; ", taken, count, record.psi,
@@ -455,15 +453,17 @@ static tigbulode_equaliser full_record(void) {
 
 /* A spell in which the cable is loud, then faint, then as before, the symbols known. */
 static void spell(cable *c) {
-    tigbulode_equaliser full;
     block in = known_block(c, USUAL);
-    offer_and_print("a usual block", &record, &in);
+    trial t = offer(&record, &in);
+    print_trial("a usual block", &t);
     in = known_block(c, LOUD);
-    offer_and_print("a loud block", &record, &in);
+    t = offer(&record, &in);
+    print_trial("a loud block", &t);
     faint_blocks(c, 61);
-    full = full_record();
+    tigbulode_equaliser full = full_record();
     in = known_block(c, USUAL);
-    offer_and_print("a usual block on a record with psi 15", &full, &in);
+    t = offer(&full, &in);
+    print_trial("a usual block on a record with psi 15", &t);
 }
 
 int main(int argc, char **argv) {

@@ -11,6 +11,9 @@ pub struct Trial {
     pub out: Handed,
     /// Kept, as it has to be.
     pub record: &'static str,
+    taken: bool,
+    /// As its run.
+    same: bool,
 }
 
 /// The rule of a trained station. It takes a block whose trial is accepted,
@@ -37,51 +40,51 @@ impl Station<'_> {
             answer,
             out,
             record,
+            taken: false,
+            same: false,
         }
     }
 
-    /// Runs a block that was tried. It hands out the lists of its trial, and
-    /// leaves the state that this handed back.
-    fn take(&mut self, s: &mut Equaliser, read: &Received, t: &Trial) -> &'static str {
+    /// Runs a block that was tried: whether the number, the state and the
+    /// lists are those of its trial.
+    fn runs_as_tried(&mut self, s: &mut Equaliser, read: &Received, t: &Trial) -> bool {
         let mut out = Handed::filled();
         let number = run(self.side, s, read, N, &mut out);
         let same = number == t.answer.number && *s == t.answer.state && out == t.out;
         self.marks += u32::from(!same);
-        if same {
-            "taken, as tried"
-        } else {
-            "taken, NOT AS TRIED"
-        }
+        same
     }
 
-    /// Tries a block, and takes it or not.
-    fn offer(&mut self, s: &mut Equaliser, read: &Received) -> (Trial, &'static str) {
-        let t = self.try_block(s, read, N);
-        let outcome = if is_taken(&t) {
-            self.take(s, read, &t)
-        } else {
-            "not taken"
-        };
-        (t, outcome)
+    /// Tries a block and takes it, or runs it on a copy only.
+    fn offer(&mut self, s: &mut Equaliser, read: &Received) -> Trial {
+        let mut copy = *s;
+        let mut t = self.try_block(s, read, N);
+        t.taken = is_taken(&t);
+        t.same = self.runs_as_tried(if t.taken { s } else { &mut copy }, read, &t);
+        t
     }
 
-    fn print_trial(&mut self, about: &str, t: &Trial, outcome: &str) {
+    fn offer_to_record(&mut self, read: &Received) -> Trial {
+        let mut record = self.record;
+        let t = self.offer(&mut record, read);
+        self.record = record;
+        t
+    }
+
+    fn print_trial(&mut self, about: &str, t: &Trial) {
         let (before, after) = (&t.before, &t.answer.state);
         let psi = format!("psi {} to {}", before.psi, after.psi);
         let weights = (before.largest_weight(), after.largest_weight());
         let weight = format!("largest weight {} to {}", weights.0, weights.1);
         let (number, record) = (t.answer.number, t.record);
-        self.line(format!(
-            "tried {about}: answer {number}, {psi}, {weight}, record {record}; {outcome}"
-        ));
-    }
-
-    /// Tries a block on the station's record, and takes it or not.
-    fn offer_to_record(&mut self, read: &Received) -> (Trial, &'static str) {
-        let mut record = self.record;
-        let offered = self.offer(&mut record, read);
-        self.record = record;
-        offered
+        let shown = format!("answer {number}, {psi}, {weight}, record {record}");
+        let run = if t.taken {
+            "taken, and the run"
+        } else {
+            "not taken, and a run on a copy"
+        };
+        let given = if t.same { "the same" } else { "SOMETHING ELSE" };
+        self.line(format!("tried {about}: {shown}; {run} gives {given}"));
     }
 
     /// The next block at a level, its symbols known.
@@ -99,11 +102,11 @@ impl Station<'_> {
         let mut taken = 0;
         for b in 0..count {
             let read = self.known_block(FAINT);
-            let (t, outcome) = self.offer_to_record(&read);
-            if !is_taken(&t) && taken == b {
-                self.print_trial("a faint block", &t, outcome);
+            let t = self.offer_to_record(&read);
+            if !t.taken && taken == b {
+                self.print_trial("a faint block", &t);
             }
-            taken += u32::from(is_taken(&t));
+            taken += u32::from(t.taken);
             let number = run(self.side, &mut other, &read, N, &mut Handed::filled());
             self.marks += u32::from(number != number::ACCEPTED);
         }
@@ -133,13 +136,13 @@ impl Station<'_> {
     pub fn spell(&mut self) {
         for (about, level) in [("a usual block", USUAL), ("a loud block", LOUD)] {
             let read = self.known_block(level);
-            let (t, outcome) = self.offer_to_record(&read);
-            self.print_trial(about, &t, outcome);
+            let t = self.offer_to_record(&read);
+            self.print_trial(about, &t);
         }
         self.faint_blocks(61);
         let mut full = self.full_record();
         let read = self.known_block(USUAL);
-        let (t, outcome) = self.offer(&mut full, &read);
-        self.print_trial("a usual block on a record with psi 15", &t, outcome);
+        let t = self.offer(&mut full, &read);
+        self.print_trial("a usual block on a record with psi 15", &t);
     }
 }
