@@ -1,9 +1,10 @@
-//! The functions beside the four, against the library, the header and
+//! The functions beside the five, against the library, the header and
 //! `interface.out`, which is made anew without the library.
 
 use reference::Settings;
+use tigbulode::sides::{Library, Operations, Second};
 use tigbulode::{check_sum, greatest_step, image_length, number_text};
-use tigbulode::{set_up, IMAGE_BYTES, PLACES, VERSION};
+use tigbulode::{set_up, Equaliser, IMAGE_BYTES, PLACES, VERSION};
 
 const HEADER: &str = include_str!("../../tigbulode.h");
 const STORED: &str = include_str!("../../interface.out");
@@ -70,6 +71,82 @@ fn the_image_length_is_the_librarys() {
         assert_eq!((saved.number, saved.length), (0, image_length(p, q)));
         let settings = settings([p, q, 0, 0]);
         assert_eq!(reference::image_length(&settings), image_length(p, q));
+    }
+}
+
+/// A sound state with something in each of its places.
+fn any_state(p: u8, q: u8) -> Equaliser {
+    let step = greatest_step(p, q, 3, 0).unwrap();
+    let mut s = set_up(p, q, 128, 3, 0, step).state;
+    (s.psi, s.b, s.big) = (7, 29, 30);
+    let (p, q) = (usize::from(p), usize::from(q));
+    let fill = |places: &mut [i16], first: i16, apart: i16| {
+        let values = (0..).map(|i| first + i * apart);
+        places.iter_mut().zip(values).for_each(|(w, v)| *w = v);
+    };
+    fill(&mut s.weights[..p + q], -16383, 1001);
+    fill(&mut s.past[..p - 1], -255, 33);
+    fill(&mut s.past[p..p + q], 15, -2);
+    s
+}
+
+/// What a save by one side leaves: its answer, the buffer and the record.
+fn saved(side: &dyn Operations, mut s: Equaliser, length: usize) -> (u8, usize, Vec<u8>, bool) {
+    let before = s;
+    let mut buffer = vec![0x55; IMAGE_BYTES + 1];
+    let answer = side.save(&mut s, &mut buffer[..length]);
+    (answer.number, answer.length, buffer, s == before)
+}
+
+#[test]
+fn a_save_fits_into_every_buffer_that_is_long_enough() {
+    for (p, q) in (1..=16).flat_map(|p| (1..=16).map(move |q| (p, q))) {
+        let (s, image) = (any_state(p, q), image_length(p, q));
+        for length in 0..=image + 1 {
+            let by_library = saved(&Library, s, length);
+            assert_eq!(by_library, saved(&Second, s, length), "{p} {q} {length}");
+            let fits = length >= image;
+            let expected = if fits { (0, image) } else { (7, 0) };
+            assert_eq!((by_library.0, by_library.1), expected);
+            let written = by_library.2.iter().any(|byte| *byte != 0x55);
+            assert!(written == fits && by_library.3);
+        }
+        assert_eq!(
+            tigbulode::load(&saved(&Library, s, image).2[..image]).state,
+            s
+        );
+    }
+}
+
+const NOTHING: Equaliser = Equaliser {
+    p: 255,
+    q: 255,
+    n: 255,
+    r: 255,
+    l: 255,
+    psi: 255,
+    b: 255,
+    big: 255,
+    step: u32::MAX,
+    weights: [0; PLACES],
+    past: [-1; PLACES],
+};
+
+#[test]
+fn the_largest_weight_is_that_of_every_place() {
+    assert_eq!(NOTHING.largest_weight(), 0);
+    for place in 0..PLACES {
+        let mut s = NOTHING;
+        for value in i16::MIN..=i16::MAX {
+            s.weights[place] = value;
+            assert_eq!(i32::from(s.largest_weight()), i32::from(value).abs());
+        }
+        s.weights[place] = -300;
+        for other in (0..PLACES).filter(|other| *other != place) {
+            let mut s = s;
+            s.weights[other] = 299;
+            assert_eq!(s.largest_weight(), 300);
+        }
     }
 }
 
@@ -151,16 +228,23 @@ fn the_interface() {
     text += "greatest step, one size of any value: ";
     text += &format!("{good_any} within the limits, {outside} outside\n");
     text += "image lengths: 256\n";
+    let pairs = (1..=16).flat_map(|p| (1..=16).map(move |q| (p, q)));
+    let bytes: usize = pairs.map(|(p, q)| image_length(p, q)).sum();
+    text += "saves: 512 into buffers that are long enough, ";
+    text += &format!("{bytes} into shorter ones\n");
     let sum = check_sum(b"123456789");
     text += &format!("check sum of 123456789: {sum:08X}\n");
     let sums = many_check_sums();
     text += &format!("check sums of 0 to 139 bytes: {sums:08X}\n");
     // p, q, N, r, L and the four bytes of M.
     text += "settings: 140 bytes changed, 9 of them told\n";
-    text += "blocks: 32 of length 16, 512 of other lengths\n";
-    text += "lists left out: 8, each turned down with 3\n";
-    // A step more and a step less, another length, two changes of a block.
-    let changes = 2 * (good + good_any) + 256 + 2 * 32;
+    text += "largest weight: 65536 values in each of 32 places, 992 pairs of places\n";
+    text += "blocks: 32 of length 16, 512 of other lengths, run and tried\n";
+    text += "lists left out: 8, run and tried, each turned down with 3\n";
+    // A step more and a step less, another length, each byte of an image, a
+    // smaller weight, two changes of a block that is run and of one that is
+    // tried.
+    let changes = 2 * (good + good_any) + 256 + bytes + 992 + 4 * 32;
     text += &format!("changed expectations told apart: {changes} of {changes}\n");
     text += "differences: 0\n";
     assert_eq!(text, STORED);
