@@ -85,6 +85,31 @@ fn the_first_program() {
     assert_eq!(in_c_and_cpp_and_rust, include_str!("../../first.out"));
 }
 
+/// What the README shows in a language.
+fn shown_in(readme: &'static str, language: &str) -> Vec<&'static str> {
+    let parts = readme.split("\n```").skip(1).step_by(2);
+    let after = |part: &'static str| part.strip_prefix(language)?.strip_prefix('\n');
+    parts.filter_map(after).collect()
+}
+
+#[test]
+fn the_readmes_code_is_that_of_the_programs() {
+    let readme = include_str!("../../README.md");
+    let in_c = [
+        include_str!("../../first.c"),
+        include_str!("../../station.c"),
+    ];
+    let in_rust = [include_str!("../examples/first.rs")];
+    for (language, count, files) in [("c", 2, &in_c[..]), ("rust", 1, &in_rust)] {
+        let parts = shown_in(readme, language);
+        assert_eq!(parts.len(), count);
+        for part in parts {
+            let part = format!("{part}\n");
+            assert!(files.iter().any(|file| file.contains(&part)), "{part}");
+        }
+    }
+}
+
 #[test]
 fn the_readme() {
     let readme = include_str!("../../README.md");
@@ -98,7 +123,12 @@ fn the_readme() {
         shown(&format!("\n| {number} | {} | ", number_text(number)));
     }
     let station = include_str!("../../station.out").lines();
-    for line in station.filter(|line| line.starts_with("bent")) {
+    let begins = |line: &&str| {
+        ["bent", "tried", "faint"]
+            .iter()
+            .any(|b| line.starts_with(b))
+    };
+    for line in station.filter(begins) {
         shown(&format!("\n    {line}\n"));
     }
 }
