@@ -161,31 +161,7 @@ pub fn text(side: &dyn Operations) -> (String, bool) {
     };
     station.worked_example();
     station.line(set_up_line(answer.number));
-    for first in [0, 16, 32, 48] {
-        station.run_blocks(first, true);
-    }
-    for first in [64, 80, 96, 112] {
-        station.run_blocks(first, false);
-    }
-    let kept = station.keep_record();
-    station.lose_power_and_recover(&kept);
-    for first in [128, 144, 160, 176] {
-        station.run_blocks(first, false);
-    }
-    station.refused_lists();
-    station.refused_records();
-    station.refused_save();
-    station.refused_set_ups_and_loads(&kept.image);
-    station.run_blocks(192, false);
-    let kept = station.keep_record();
-    station.bend_image(&kept);
-    station.bend_check_sum(kept);
-    station.recover_from_anything(kept);
-    station.run_blocks(208, true);
-    station.run_blocks(224, true);
-    station.run_blocks(240, false);
-    station.spell();
-    station.run_blocks(320, true);
+    station.after_set_up();
     (station.text, station.marks == 0)
 }
 
@@ -226,6 +202,34 @@ impl Station<'_> {
     fn line(&mut self, line: String) {
         self.text.push_str(&line);
         self.text.push('\n');
+    }
+
+    fn after_set_up(&mut self) {
+        for first in [0, 16, 32, 48] {
+            self.run_blocks(first, true);
+        }
+        for first in [64, 80, 96, 112] {
+            self.run_blocks(first, false);
+        }
+        let kept = self.keep_record();
+        self.lose_power_and_recover(&kept);
+        for first in [128, 144, 160, 176] {
+            self.run_blocks(first, false);
+        }
+        self.refused_lists();
+        self.refused_records();
+        self.refused_save();
+        self.refused_set_ups_and_loads(&kept.image);
+        self.run_blocks(192, false);
+        let kept = self.keep_record();
+        self.bend_image(&kept);
+        self.bend_check_sum(kept);
+        self.recover_from_anything(kept);
+        self.run_blocks(208, true);
+        self.run_blocks(224, true);
+        self.run_blocks(240, false);
+        self.spell();
+        self.run_blocks(320, true);
     }
 
     /// The two samples of the specification's example, and the image that
