@@ -255,8 +255,8 @@ impl<'a> Bench<'a> {
                 loaded.number == 0 && loaded.state == saved
             }
             (Call::Load(bytes), _) if outcome.number == 0 => {
-                let mut buffer = [0; IMAGE_BYTES];
-                let saved = self.library.save(&mut self.records[0], &mut buffer);
+                let (mut loaded, mut buffer) = (self.records[0], [0; IMAGE_BYTES]);
+                let saved = self.library.save(&mut loaded, &mut buffer);
                 saved.number == 0 && buffer.get(..saved.length) == Some(bytes)
             }
             _ => true,
