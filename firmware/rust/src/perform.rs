@@ -3,6 +3,7 @@
 use crate::calls::{Call, Lists};
 use crate::sides::Operations;
 use crate::{Block, Equaliser, Outputs};
+use reference::Settings;
 
 /// Numbers that are compared: an answer, a record, or a list with what lies
 /// around it.
@@ -29,6 +30,15 @@ pub struct Outcome {
 }
 
 impl Outcome {
+    fn of(number: u8, parts: impl IntoIterator<Item = Part>) -> Outcome {
+        let answer = plain("answer", vec![number.into()]);
+        Outcome {
+            number,
+            parts: std::iter::once(answer).chain(parts).collect(),
+            image: None,
+        }
+    }
+
     /// The lent numbers of a part, none where it has no such part.
     pub fn list(&self, name: &str) -> &[i64] {
         let part = self.parts.iter().find(|part| part.name == name);
@@ -77,6 +87,29 @@ impl<T: Copy + Into<i64>> Lent<T> {
     }
 }
 
+/// A record between two that no call may touch; only the one in the middle is
+/// lent.
+struct LentRecord([Equaliser; 3]);
+
+impl LentRecord {
+    fn of(record: &Equaliser) -> LentRecord {
+        LentRecord([*record; 3])
+    }
+
+    fn lent(&mut self) -> &mut Equaliser {
+        &mut self.0[1]
+    }
+
+    fn parts(&self) -> [Part; 3] {
+        let [before, record, after] = std::hint::black_box(&self.0);
+        [
+            plain("record", numbers_of(record)),
+            plain("memory before the record", numbers_of(before)),
+            plain("memory after the record", numbers_of(after)),
+        ]
+    }
+}
+
 /// All that is lent to a block.
 struct LentBlock {
     m: Lent<i16>,
@@ -87,8 +120,7 @@ struct LentBlock {
     decision: Lent<i8>,
     z: Lent<i32>,
     theta: Lent<u8>,
-    /// Only the one in the middle is lent.
-    records: [Equaliser; 3],
+    record: LentRecord,
 }
 
 impl LentBlock {
@@ -103,7 +135,7 @@ impl LentBlock {
             decision: Lent::filled(decision, SENTINEL as i8),
             z: Lent::filled(z, i32::MAX),
             theta: Lent::filled(theta, SENTINEL),
-            records: [*record; 3],
+            record: LentRecord::of(record),
         }
     }
 
@@ -120,16 +152,11 @@ impl LentBlock {
             z: self.z.list_mut(),
             theta: self.theta.list_mut(),
         };
-        side.run(&mut self.records[1], block, out)
+        side.run(self.record.lent(), block, out)
     }
 
-    fn parts(&self, number: u8) -> Vec<Part> {
-        let [before, record, after] = std::hint::black_box(&self.records);
-        vec![
-            plain("answer", vec![number.into()]),
-            plain("record", numbers_of(record)),
-            plain("memory before the record", numbers_of(before)),
-            plain("memory after the record", numbers_of(after)),
+    fn parts(&self) -> impl Iterator<Item = Part> {
+        let lists = [
             self.m.part("m"),
             self.gains.part("gains"),
             self.entries.part("entries"),
@@ -138,7 +165,8 @@ impl LentBlock {
             self.decision.part("decision"),
             self.z.part("Z"),
             self.theta.part("theta"),
-        ]
+        ];
+        self.record.parts().into_iter().chain(lists)
     }
 }
 
@@ -165,15 +193,7 @@ fn numbers_of(e: &Equaliser) -> Vec<i64> {
 /// Makes a call on the list's record and moves that on.
 pub fn perform(side: &dyn Operations, call: &Call, record: &mut Equaliser) -> Outcome {
     match call {
-        Call::SetUp(settings) => {
-            let answer = side.set_up(*settings);
-            *record = answer.state;
-            let number = plain("answer", vec![answer.number.into()]);
-            outcome(
-                answer.number,
-                vec![number, plain("record", numbers_of(record))],
-            )
-        }
+        Call::SetUp(settings) => set_up(side, *settings, record),
         Call::Block(lists, None) => block(side, lists, record),
         Call::Block(lists, Some(other)) => block(side, lists, &mut other.clone()),
         Call::Save(room, None) => save(side, *room, record),
@@ -182,35 +202,30 @@ pub fn perform(side: &dyn Operations, call: &Call, record: &mut Equaliser) -> Ou
     }
 }
 
-fn outcome(number: u8, parts: Vec<Part>) -> Outcome {
-    let image = None;
-    Outcome {
-        number,
-        parts,
-        image,
-    }
+fn set_up(side: &dyn Operations, settings: Settings, record: &mut Equaliser) -> Outcome {
+    let answer = side.set_up(settings);
+    *record = answer.state;
+    Outcome::of(answer.number, [plain("record", numbers_of(record))])
 }
 
 fn block(side: &dyn Operations, lists: &Lists, record: &mut Equaliser) -> Outcome {
     let mut lent = LentBlock::new(lists, record);
     let number = lent.run(side);
-    *record = lent.records[1];
-    outcome(number, lent.parts(number))
+    *record = *lent.record.lent();
+    Outcome::of(number, lent.parts())
 }
 
 fn save(side: &dyn Operations, room: usize, record: &mut Equaliser) -> Outcome {
+    let mut lent = LentRecord::of(record);
     let mut buffer = Lent::filled(room, SENTINEL);
-    let saved = side.save(record, buffer.list_mut());
+    let saved = side.save(lent.lent(), buffer.list_mut());
+    *record = *lent.lent();
     let image = buffer.list().get(..saved.length).map(<[u8]>::to_vec);
-    let parts = vec![
-        plain("answer", vec![saved.number.into()]),
-        plain("length", vec![saved.length as i64]),
-        buffer.part("buffer"),
-    ];
+    let length = plain("length", vec![saved.length as i64]);
+    let written = [length, buffer.part("buffer")];
     Outcome {
-        number: saved.number,
-        parts,
         image: image.filter(|_| saved.number == 0),
+        ..Outcome::of(saved.number, lent.parts().into_iter().chain(written))
     }
 }
 
@@ -218,10 +233,6 @@ fn load(side: &dyn Operations, bytes: &[u8], record: &mut Equaliser) -> Outcome 
     let lent = Lent::of(bytes, SENTINEL);
     let answer = side.load(lent.list());
     *record = answer.state;
-    let parts = vec![
-        plain("answer", vec![answer.number.into()]),
-        plain("record", numbers_of(record)),
-        lent.part("bytes"),
-    ];
-    outcome(answer.number, parts)
+    let parts = [plain("record", numbers_of(record)), lent.part("bytes")];
+    Outcome::of(answer.number, parts)
 }

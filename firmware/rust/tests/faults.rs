@@ -21,6 +21,10 @@ enum Faulty {
     Early,
     /// Does not look at spare places.
     Spare,
+    /// Changes the record in an accepted save.
+    SaveTouches,
+    /// Changes the record in a save that it turns down.
+    SaveRefusedTouches,
     /// Clears the byte after a saved image.
     Cleared,
     /// Invents a saved length.
@@ -69,6 +73,8 @@ impl Operations for Faulty {
                 buffer[saved.length] = 0;
             }
             Faulty::Length if saved.number == 7 => saved.length = buffer.len(),
+            Faulty::SaveTouches if saved.number == 0 => s.b ^= 1,
+            Faulty::SaveRefusedTouches if saved.number != 0 => s.b ^= 1,
             _ => (),
         }
         saved
@@ -98,6 +104,8 @@ fn every_fault_is_told_apart() {
         (Faulty::Marked(9), "block"),
         (Faulty::Early, "block"),
         (Faulty::Spare, "block"),
+        (Faulty::SaveTouches, "save: record, b"),
+        (Faulty::SaveRefusedTouches, "save: record, b"),
         (Faulty::Cleared, "save"),
         (Faulty::Length, "save"),
         (Faulty::Fresh, "load"),
