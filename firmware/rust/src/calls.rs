@@ -35,27 +35,50 @@ impl Lists {
     }
 }
 
-/// One call with all that is lent to it. A block or a save has the list's own
-/// record, or where one is given that one, which the list then forgets.
+/// One call with all that is lent to it. A block, a trial or a save has the
+/// list's own record, or where one is given that one, which the list then
+/// forgets.
 #[derive(Clone, Debug, PartialEq, Eq)]
 pub enum Call {
     SetUp(Settings),
     Block(Lists, Option<Equaliser>),
+    Trial(Lists, Option<Equaliser>),
     Save(usize, Option<Equaliser>),
     Load(Vec<u8>),
 }
 
 impl Call {
-    /// The names of the four kinds.
-    pub const KINDS: [&'static str; 4] = ["set-up", "block", "save", "load"];
+    /// The names of the five kinds.
+    pub const KINDS: [&'static str; 5] = ["set-up", "block", "trial", "save", "load"];
 
     /// The place of this call's kind among them.
     pub fn kind(&self) -> usize {
         match self {
             Call::SetUp(_) => 0,
             Call::Block(..) => 1,
-            Call::Save(..) => 2,
-            Call::Load(_) => 3,
+            Call::Trial(..) => 2,
+            Call::Save(..) => 3,
+            Call::Load(_) => 4,
+        }
+    }
+
+    pub fn is_trial(&self) -> bool {
+        matches!(self, Call::Trial(..))
+    }
+
+    /// The lists of a block or a trial.
+    pub fn lists(&self) -> Option<&Lists> {
+        match self {
+            Call::Block(lists, _) | Call::Trial(lists, _) => Some(lists),
+            _ => None,
+        }
+    }
+
+    /// The record that is lent in place of the list's own.
+    pub fn other(&self) -> Option<&Equaliser> {
+        match self {
+            Call::Block(_, other) | Call::Trial(_, other) | Call::Save(_, other) => other.as_ref(),
+            _ => None,
         }
     }
 }
@@ -104,7 +127,8 @@ impl Maker {
         }
         match self.random.below(100) {
             0..=3 => Call::SetUp(self.any_settings()),
-            4..=71 => self.block(record),
+            4..=55 => self.block(record),
+            56..=71 => self.trial(record),
             72..=87 => self.save(record),
             _ => Call::Load(self.any_bytes()),
         }
@@ -136,8 +160,19 @@ impl Maker {
         self.random.pick(&[above, above, 1 << 30, u32::MAX])
     }
 
-    /// A block of any loudness and aim, mostly one that can be run.
     pub fn block(&mut self, record: &Equaliser) -> Call {
+        let (lists, lent) = self.lists(record);
+        Call::Block(lists, lent)
+    }
+
+    fn trial(&mut self, record: &Equaliser) -> Call {
+        let (lists, lent) = self.lists(record);
+        Call::Trial(lists, lent)
+    }
+
+    /// The lists of a block of any loudness and aim, mostly one that can be
+    /// run, and a record to lend in place of the list's own.
+    fn lists(&mut self, record: &Equaliser) -> (Lists, Option<Equaliser>) {
         let settings = settings_of(record);
         let loudness = self.random.loudness();
         let (m, gains) = self.random.samples(&settings, loudness);
@@ -162,7 +197,7 @@ impl Maker {
             }
             _ => (),
         }
-        Call::Block(lists, lent)
+        (lists, lent)
     }
 
     /// Another length for one of the eight lists.
@@ -203,10 +238,10 @@ impl Maker {
     pub fn wrong_record(&mut self, record: &Equaliser) -> Equaliser {
         let mut e = *record;
         let mut settings = settings_of(record);
-        match self.random.below(8) {
+        match self.random.below(9) {
             0 | 1 => self.wrong_size(&mut settings),
-            2 => settings.m = self.wrong_step(&settings),
-            3 => return self.any_record(),
+            2 | 3 => settings.m = self.wrong_step(&settings),
+            4 => return self.any_record(),
             _ => self.wrong_place(&mut e),
         }
         (e.p, e.q, e.n) = (settings.p, settings.q, settings.n);

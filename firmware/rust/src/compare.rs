@@ -1,5 +1,9 @@
 //! The same list of calls on two sides, compared after every call.
 
+mod tally;
+
+pub use tally::Tally;
+
 use crate::calls::{Call, Maker};
 use crate::perform::{perform, Outcome, Part};
 use crate::sides::{record_of, Operations};
@@ -28,7 +32,7 @@ impl fmt::Display for Difference {
     fn fmt(&self, f: &mut fmt::Formatter) -> fmt::Result {
         let text = |number: Option<i64>| number.map_or("nothing".to_string(), |n| n.to_string());
         let place = match self.part {
-            "record" => place_in_record(self.place),
+            "record" | "state" => place_in_record(self.place),
             _ => format!("place {}", self.place),
         };
         write!(f, "{}, {place}: library {}, ", self.part, text(self.first))?;
@@ -63,75 +67,6 @@ pub fn difference(first: &[Part], second: &[Part]) -> Option<Difference> {
     })
 }
 
-/// What a list of calls has covered.
-#[derive(Clone, Debug, Default)]
-pub struct Tally {
-    /// By kind, then by answer.
-    pub answers: [[u64; 10]; 4],
-    pub samples: u64,
-    pub rises: u64,
-    pub rises_to_15: u64,
-    pub left_at_15: u64,
-    pub larger: u64,
-    pub smaller: u64,
-    pub other_b: u64,
-    pub saved_earlier: u64,
-    /// Blocks with one list alone of a wrong length, by list.
-    pub wrong_lengths: [u64; 8],
-}
-
-impl Tally {
-    pub fn count(&mut self, call: &Call, number: u8, before: &Equaliser, after: &Equaliser) {
-        self.answers[call.kind()][usize::from(number)] += 1;
-        if let (Call::Block(lists, None), 0) = (call, number) {
-            self.samples += lists.m.len() as u64;
-            self.rises += u64::from(after.psi > before.psi);
-            self.rises_to_15 += u64::from(after.psi == 15 && before.psi < 15);
-            self.left_at_15 += u64::from(after.psi == 15);
-            self.larger += u64::from(after.big > before.big);
-            self.smaller += u64::from(after.big < before.big);
-            self.other_b += u64::from(after.b != before.b);
-        }
-        if let (Call::Block(lists, _), 3) = (call, number) {
-            let wrong = lists
-                .lengths()
-                .map(|length| length != usize::from(before.n));
-            if wrong.iter().filter(|&&wrong| wrong).count() == 1 {
-                let list = wrong.iter().position(|&wrong| wrong);
-                self.wrong_lengths[list.unwrap_or(0)] += 1;
-            }
-        }
-    }
-}
-
-impl fmt::Display for Tally {
-    fn fmt(&self, f: &mut fmt::Formatter) -> fmt::Result {
-        for (kind, answers) in Call::KINDS.iter().zip(&self.answers) {
-            write!(f, "{kind}: {} calls; answer", answers.iter().sum::<u64>())?;
-            let given = answers.iter().enumerate().filter(|(_, &count)| count > 0);
-            let texts: Vec<String> = given.map(|(n, count)| format!(" {n}: {count}")).collect();
-            writeln!(f, "{}", texts.join(","))?;
-        }
-        writeln!(f, "samples in accepted blocks: {}", self.samples)?;
-        write!(f, "blocks that raised psi: {}; ", self.rises)?;
-        write!(f, "to 15: {}; ", self.rises_to_15)?;
-        writeln!(f, "that left it at 15: {}", self.left_at_15)?;
-        let (larger, smaller, other) = (self.larger, self.smaller, self.other_b);
-        write!(
-            f,
-            "blocks with a larger B: {larger}; a smaller B: {smaller}; "
-        )?;
-        writeln!(f, "another b: {other}")?;
-        let names = ["m", "gains", "entries", "Y", "xi", "decision", "Z", "theta"];
-        let lists = names.iter().zip(self.wrong_lengths);
-        let texts: Vec<String> = lists
-            .map(|(name, count)| format!("{name} {count}"))
-            .collect();
-        writeln!(f, "one list alone of a wrong length: {}", texts.join(", "))?;
-        writeln!(f, "loads of bytes saved earlier: {}", self.saved_earlier)
-    }
-}
-
 /// One list of calls on two sides.
 pub struct List<'a> {
     sides: [&'a dyn Operations; 2],
@@ -142,9 +77,10 @@ pub struct List<'a> {
 
 impl<'a> List<'a> {
     pub fn new(first: &'a dyn Operations, second: &'a dyn Operations, seed: u64) -> List<'a> {
+        let start = record_of(&State::fresh());
         List {
             sides: [first, second],
-            records: [record_of(&State::fresh()); 2],
+            records: [start; 2],
             maker: Maker::new(seed),
             tally: Tally::default(),
         }
@@ -159,8 +95,8 @@ impl<'a> List<'a> {
             perform(self.sides[0], &call, first),
             perform(self.sides[1], &call, second),
         ];
-        let number = outcomes[1].number;
-        self.tally.count(&call, number, &before, &self.records[1]);
+        let after = &self.records[1];
+        self.tally.count(&call, &outcomes[1], &before, after);
         if let Call::Load(bytes) = &call {
             self.tally.saved_earlier += u64::from(self.maker.has_kept(bytes));
         }

@@ -2,7 +2,7 @@
 
 use crate::calls::{Call, Lists};
 use crate::sides::Operations;
-use crate::{Block, Equaliser, Outputs};
+use crate::{Answer, Block, Equaliser, Outputs};
 use reference::Settings;
 
 /// Numbers that are compared: an answer, a record, or a list with what lies
@@ -22,11 +22,13 @@ impl Part {
     }
 }
 
-/// What a call left. An accepted save also gives its image.
+/// What a call left. An accepted save also gives its image, a trial the state
+/// beside its number.
 pub struct Outcome {
     pub number: u8,
     pub parts: Vec<Part>,
     pub image: Option<Vec<u8>>,
+    pub state: Option<Equaliser>,
 }
 
 impl Outcome {
@@ -36,6 +38,7 @@ impl Outcome {
             number,
             parts: std::iter::once(answer).chain(parts).collect(),
             image: None,
+            state: None,
         }
     }
 
@@ -139,7 +142,7 @@ impl LentBlock {
         }
     }
 
-    fn run(&mut self, side: &dyn Operations) -> u8 {
+    fn lend<T>(&mut self, call: impl FnOnce(&mut Equaliser, Block, Outputs) -> T) -> T {
         let block = Block {
             samples: self.m.list(),
             gains: self.gains.list(),
@@ -152,7 +155,7 @@ impl LentBlock {
             z: self.z.list_mut(),
             theta: self.theta.list_mut(),
         };
-        side.run(self.record.lent(), block, out)
+        call(self.record.lent(), block, out)
     }
 
     fn parts(&self) -> impl Iterator<Item = Part> {
@@ -190,14 +193,16 @@ fn numbers_of(e: &Equaliser) -> Vec<i64> {
     numbers
 }
 
-/// Makes a call on the list's record and moves that on.
+/// Makes a call on the list's record, or on the one that is lent in its place,
+/// and moves that on.
 pub fn perform(side: &dyn Operations, call: &Call, record: &mut Equaliser) -> Outcome {
+    let mut other = call.other().copied();
+    let record = other.as_mut().unwrap_or(record);
     match call {
         Call::SetUp(settings) => set_up(side, *settings, record),
-        Call::Block(lists, None) => block(side, lists, record),
-        Call::Block(lists, Some(other)) => block(side, lists, &mut other.clone()),
-        Call::Save(room, None) => save(side, *room, record),
-        Call::Save(room, Some(other)) => save(side, *room, &mut other.clone()),
+        Call::Block(lists, _) => block(side, lists, record),
+        Call::Trial(lists, _) => trial(lists, record, |s, block, out| side.trial(s, block, out)),
+        Call::Save(room, _) => save(side, *room, record),
         Call::Load(bytes) => load(side, bytes, record),
     }
 }
@@ -210,9 +215,24 @@ fn set_up(side: &dyn Operations, settings: Settings, record: &mut Equaliser) -> 
 
 fn block(side: &dyn Operations, lists: &Lists, record: &mut Equaliser) -> Outcome {
     let mut lent = LentBlock::new(lists, record);
-    let number = lent.run(side);
+    let number = lent.lend(|s, block, out| side.run(s, block, out));
     *record = *lent.record.lent();
     Outcome::of(number, lent.parts())
+}
+
+fn trial(
+    lists: &Lists,
+    record: &mut Equaliser,
+    call: impl FnOnce(&mut Equaliser, Block, Outputs) -> Answer,
+) -> Outcome {
+    let mut lent = LentBlock::new(lists, record);
+    let Answer { number, state } = lent.lend(call);
+    *record = *lent.record.lent();
+    let given = plain("state", numbers_of(&state));
+    Outcome {
+        state: Some(state),
+        ..Outcome::of(number, std::iter::once(given).chain(lent.parts()))
+    }
 }
 
 fn save(side: &dyn Operations, room: usize, record: &mut Equaliser) -> Outcome {

@@ -6,9 +6,8 @@ use tigbulode::compare::{text, List, COUNT, SEED};
 use tigbulode::sides::{Operations, Second};
 use tigbulode::{Answer, Block, Equaliser, Outputs, Saved};
 
-/// The second implementation with one thing wrong.
 #[derive(Clone, Copy, Debug, PartialEq)]
-enum Faulty {
+enum Fault {
     /// Admits one M too few.
     Step,
     /// Freezes its weights.
@@ -21,6 +20,20 @@ enum Faulty {
     Early,
     /// Does not look at spare places.
     Spare,
+    /// Hands back the given state beside an accepted trial.
+    TrialStands,
+    /// Hands back a fresh state beside a trial that it turns down.
+    TrialFresh,
+    /// Marks an output list of a trial that it turns down.
+    TrialMarked(u8),
+    /// Runs the block of a trial on the record itself.
+    TrialRuns,
+    /// Changes the record in a trial that it turns down.
+    TrialTouches(u8),
+    /// Does not see that psi would rise to 16 in a trial.
+    TrialUnseen,
+    /// Looks at the gains of a trial before the lists' lengths.
+    TrialOrder,
     /// Changes the record in an accepted save.
     SaveTouches,
     /// Changes the record in a save that it turns down.
@@ -33,9 +46,18 @@ enum Faulty {
     Fresh,
 }
 
+/// The second implementation with one thing wrong.
+struct Faulty {
+    fault: Fault,
+}
+
+fn cleared(list: &mut [u8]) {
+    list.iter_mut().for_each(|place| *place = 0);
+}
+
 impl Operations for Faulty {
     fn set_up(&self, mut s: Settings) -> Answer {
-        if *self == Faulty::Step && s.admitted() && !s.with_m(s.m + 1).admitted() {
+        if self.fault == Fault::Step && s.admitted() && !s.with_m(s.m + 1).admitted() {
             s.m += 1;
         }
         Second.set_up(s)
@@ -43,17 +65,17 @@ impl Operations for Faulty {
 
     fn run(&self, s: &mut Equaliser, block: Block, out: Outputs) -> u8 {
         let before = *s;
-        if *self == Faulty::Spare {
+        if self.fault == Fault::Spare {
             let taps = usize::from(s.p).saturating_add(usize::from(s.q));
             s.weights.iter_mut().skip(taps).for_each(|w| *w = 0);
         }
         let Outputs { y, xi, .. } = out;
         let number = Second.run(s, block, Outputs { y, xi, ..out });
-        match (self, number) {
-            (Faulty::Frozen, 0) => (s.weights, s.psi) = (before.weights, before.psi),
-            (Faulty::LostB, 0) => s.b = s.big,
-            (Faulty::Marked(wanted), _) if *wanted == number => xi.iter_mut().for_each(|x| *x = 0),
-            (Faulty::Early, 0) if s.psi == 15 && before.psi < 15 => {
+        match (self.fault, number) {
+            (Fault::Frozen, 0) => (s.weights, s.psi) = (before.weights, before.psi),
+            (Fault::LostB, 0) => s.b = s.big,
+            (Fault::Marked(wanted), _) if wanted == number => cleared(xi),
+            (Fault::Early, 0) if s.psi == 15 && before.psi < 15 => {
                 *s = before;
                 return 6;
             }
@@ -63,18 +85,28 @@ impl Operations for Faulty {
     }
 
     fn trial(&self, s: &mut Equaliser, block: Block, out: Outputs) -> Answer {
-        Second.trial(s, block, out)
+        let Outputs { y, xi, .. } = out;
+        let mut answer = Second.trial(s, block, Outputs { y, xi, ..out });
+        match (self.fault, answer.number) {
+            (Fault::TrialStands, 0) => answer.state = *s,
+            (Fault::TrialRuns, 0) => *s = answer.state,
+            (Fault::TrialUnseen, 6) => answer.number = 0,
+            (Fault::TrialOrder, 3) if block.gains.iter().any(|&g| g > 15) => answer.number = 4,
+            (Fault::TrialFresh, 1..) => answer.state = Second.load(&[]).state,
+            (Fault::TrialMarked(wanted), number) if wanted == number => cleared(xi),
+            (Fault::TrialTouches(wanted), number) if wanted == number => s.psi ^= 1,
+            _ => (),
+        }
+        answer
     }
 
     fn save(&self, s: &mut Equaliser, buffer: &mut [u8]) -> Saved {
         let mut saved = Second.save(s, buffer);
-        match self {
-            Faulty::Cleared if saved.number == 0 && saved.length < buffer.len() => {
-                buffer[saved.length] = 0;
-            }
-            Faulty::Length if saved.number == 7 => saved.length = buffer.len(),
-            Faulty::SaveTouches if saved.number == 0 => s.b ^= 1,
-            Faulty::SaveRefusedTouches if saved.number != 0 => s.b ^= 1,
+        match (self.fault, saved.number) {
+            (Fault::Cleared, 0) if saved.length < buffer.len() => buffer[saved.length] = 0,
+            (Fault::Length, 7) => saved.length = buffer.len(),
+            (Fault::SaveTouches, 0) => s.b ^= 1,
+            (Fault::SaveRefusedTouches, 1..) => s.b ^= 1,
             _ => (),
         }
         saved
@@ -82,37 +114,41 @@ impl Operations for Faulty {
 
     fn load(&self, bytes: &[u8]) -> Answer {
         let mut answer = Second.load(bytes);
-        if *self == Faulty::Fresh && answer.number == 9 {
+        if self.fault == Fault::Fresh && answer.number == 9 {
             answer.state.n = 2;
         }
         answer
     }
 }
 
+/// Every number that a block or a trial is turned down with.
+const REFUSALS: [u8; 7] = [1, 2, 3, 4, 5, 6, 9];
+
 #[test]
-fn every_fault_is_told_apart() {
+fn every_fault_is_told_apart_by_its_own_part() {
     let faults = [
-        (Faulty::Step, "set-up"),
-        (Faulty::Frozen, "block"),
-        (Faulty::LostB, "block"),
-        (Faulty::Marked(1), "block"),
-        (Faulty::Marked(2), "block"),
-        (Faulty::Marked(3), "block"),
-        (Faulty::Marked(4), "block"),
-        (Faulty::Marked(5), "block"),
-        (Faulty::Marked(6), "block"),
-        (Faulty::Marked(9), "block"),
-        (Faulty::Early, "block"),
-        (Faulty::Spare, "block"),
-        (Faulty::SaveTouches, "save: record, b"),
-        (Faulty::SaveRefusedTouches, "save: record, b"),
-        (Faulty::Cleared, "save"),
-        (Faulty::Length, "save"),
-        (Faulty::Fresh, "load"),
+        (Fault::Step, "set-up: answer"),
+        (Fault::Frozen, "block: record"),
+        (Fault::LostB, "block: record, b"),
+        (Fault::Early, "block: answer"),
+        (Fault::Spare, "block: record"),
+        (Fault::TrialStands, "trial: state"),
+        (Fault::TrialFresh, "trial: state"),
+        (Fault::TrialRuns, "trial: record"),
+        (Fault::TrialUnseen, "trial: answer"),
+        (Fault::TrialOrder, "trial: answer"),
+        (Fault::SaveTouches, "save: record, b"),
+        (Fault::SaveRefusedTouches, "save: record, b"),
+        (Fault::Cleared, "save: buffer"),
+        (Fault::Length, "save: length"),
+        (Fault::Fresh, "load: record, N"),
     ];
-    for (fault, kind) in faults {
-        let (text, same) = text(&fault, &Second, SEED, COUNT);
-        assert!(!same && text.contains(kind), "{fault:?}: {text}");
+    let marked = REFUSALS.map(|number| (Fault::Marked(number), ": xi, place "));
+    let tried = REFUSALS.map(|number| (Fault::TrialMarked(number), "trial: xi"));
+    let touched = REFUSALS.map(|number| (Fault::TrialTouches(number), "trial: record, psi"));
+    for (fault, part) in [&faults[..], &marked, &tried, &touched].concat() {
+        let (text, same) = text(&Faulty { fault }, &Second, SEED, COUNT);
+        assert!(!same && text.contains(part), "{fault:?}: {text}");
     }
 }
 
@@ -120,21 +156,26 @@ fn every_fault_is_told_apart() {
 fn the_list_covers_every_answer() {
     let mut list = List::new(&Second, &Second, SEED);
     list.run(COUNT).unwrap();
+    let block = [&[0], &REFUSALS[..]].concat();
     let given = [
         vec![0, 1, 2],
-        vec![0, 1, 2, 3, 4, 5, 6, 9],
+        block.clone(),
+        block,
         vec![0, 1, 2, 7, 9],
         vec![0, 1, 2, 8, 9],
     ];
     for (answers, given) in list.tally.answers.iter().zip(given) {
-        for (number, &count) in answers.iter().enumerate() {
-            assert_eq!(count >= 10, given.contains(&number), "{:?}", list.tally);
+        for (number, &count) in (0..).zip(answers) {
+            assert_eq!(count >= 10, given.contains(&number), "{}", list.tally);
         }
     }
-    assert!(list.tally.rises >= 100 && list.tally.rises_to_15 >= 10);
-    assert!(list.tally.larger >= 100 && list.tally.smaller >= 100);
+    let (blocks, trials) = (&list.tally.blocks, &list.tally.trials);
+    assert!(blocks.rises >= 100 && blocks.rises_to_15 >= 10);
+    assert!(blocks.larger >= 100 && blocks.smaller >= 100);
+    assert!(trials.rises >= 20 && trials.larger >= 100 && trials.smaller >= 100);
     assert!(list.tally.saved_earlier >= 100);
-    assert!(list.tally.wrong_lengths.iter().all(|&count| count >= 20));
+    assert!(blocks.wrong_lengths.iter().all(|&count| count >= 20));
+    assert!(trials.wrong_lengths.iter().all(|&count| count >= 5));
 }
 
 #[test]
