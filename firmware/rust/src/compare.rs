@@ -1,8 +1,10 @@
 //! The same list of calls on two sides, compared after every call.
 
 mod tally;
+mod trials;
 
 pub use tally::Tally;
+pub use trials::{unlike_a_run, OtherWithout, Past};
 
 use crate::calls::{Call, Maker};
 use crate::perform::{perform, Outcome, Part};
@@ -10,7 +12,6 @@ use crate::sides::{record_of, Operations};
 use crate::Equaliser;
 use reference::State;
 use std::collections::BTreeMap;
-use std::fmt;
 
 /// The list that is compared where none is asked for.
 pub const SEED: u64 = 2026;
@@ -28,15 +29,19 @@ pub struct Difference {
     pub second: Option<i64>,
 }
 
-impl fmt::Display for Difference {
-    fn fmt(&self, f: &mut fmt::Formatter) -> fmt::Result {
+/// The names of the two sides.
+pub const SIDES: [&str; 2] = ["library", "second implementation"];
+
+impl Difference {
+    /// The difference between what `first` and what `second` left.
+    pub fn between(&self, first: &str, second: &str) -> String {
         let text = |number: Option<i64>| number.map_or("nothing".to_string(), |n| n.to_string());
         let place = match self.part {
             "record" | "state" => place_in_record(self.place),
             _ => format!("place {}", self.place),
         };
-        write!(f, "{}, {place}: library {}, ", self.part, text(self.first))?;
-        write!(f, "second implementation {}", text(self.second))
+        let (one, other) = (text(self.first), text(self.second));
+        format!("{}, {place}: {first} {one}, {second} {other}", self.part)
     }
 }
 
@@ -67,53 +72,100 @@ pub fn difference(first: &[Part], second: &[Part]) -> Option<Difference> {
     })
 }
 
+/// A call that was made on both sides, with the records before it.
+pub struct Made {
+    pub call: Call,
+    pub before: [Equaliser; 2],
+    pub outcomes: [Outcome; 2],
+}
+
+impl Made {
+    /// What differs between the sides, or between a trial and a run on a copy
+    /// by one of them.
+    fn difference(&self, sides: [&dyn Operations; 2]) -> Option<String> {
+        let [first, second] = &self.outcomes;
+        match difference(&first.parts, &second.parts) {
+            Some(difference) => Some(difference.between(SIDES[0], SIDES[1])),
+            None => unlike_a_run(sides, &self.call, &self.before, [first, second]),
+        }
+    }
+}
+
 /// One list of calls on two sides.
 pub struct List<'a> {
     sides: [&'a dyn Operations; 2],
     records: [Equaliser; 2],
     maker: Maker,
+    past: Past,
     pub tally: Tally,
 }
 
 impl<'a> List<'a> {
+    /// How many calls at a time are made again without the trials.
+    const ROW: usize = 500;
+
     pub fn new(first: &'a dyn Operations, second: &'a dyn Operations, seed: u64) -> List<'a> {
         let start = record_of(&State::fresh());
         List {
             sides: [first, second],
             records: [start; 2],
             maker: Maker::new(seed),
+            past: Past::new(start),
             tally: Tally::default(),
         }
     }
 
-    /// Makes the next call on both sides; gives its kind and both outcomes.
-    pub fn call(&mut self) -> (&'static str, [Outcome; 2]) {
-        let before = self.records[1];
-        let call = self.maker.next(&before);
+    /// Makes the next call on both sides.
+    pub fn call(&mut self) -> Made {
+        let before = self.records;
+        let call = self.maker.next(&before[1]);
         let [first, second] = &mut self.records;
         let outcomes = [
             perform(self.sides[0], &call, first),
             perform(self.sides[1], &call, second),
         ];
         let after = &self.records[1];
-        self.tally.count(&call, &outcomes[1], &before, after);
+        self.tally.count(&call, &outcomes[1], &before[1], after);
         if let Call::Load(bytes) = &call {
             self.tally.saved_earlier += u64::from(self.maker.has_kept(bytes));
         }
         if let Some(image) = &outcomes[0].image {
             self.maker.keep(image);
         }
-        (Call::KINDS[call.kind()], outcomes)
+        Made {
+            call,
+            before,
+            outcomes,
+        }
     }
 
-    /// Makes calls until two outcomes differ, and says where.
+    /// Makes calls until there is a difference, and says where.
     pub fn run(&mut self, count: u64) -> Result<(), String> {
         for place in 0..count {
-            let (kind, [first, second]) = self.call();
-            if let Some(difference) = difference(&first.parts, &second.parts) {
-                return Err(format!("call {place}, {kind}: {difference}"));
+            let made = self.call();
+            if let Some(text) = made.difference(self.sides) {
+                let kind = Call::KINDS[made.call.kind()];
+                return Err(format!("call {place}, {kind}: {text}"));
+            }
+            self.tally.on_copies += u64::from(made.call.is_trial());
+            let [outcome, _] = made.outcomes;
+            self.past.push(made.call, outcome);
+            if self.past.count() == List::ROW || place + 1 == count {
+                self.without_trials(place + 1)?;
             }
         }
+        Ok(())
+    }
+
+    /// Makes the last calls again, without the trials.
+    fn without_trials(&mut self, end: u64) -> Result<(), String> {
+        let past = std::mem::replace(&mut self.past, Past::new(self.records[0]));
+        let first = end - past.count() as u64;
+        let again = past.without_trials(self.sides);
+        self.tally.again += again.map_err(|(place, kind, text)| {
+            let place = first + place as u64;
+            format!("call {place}, {kind}: {text}")
+        })?;
         Ok(())
     }
 
@@ -123,7 +175,7 @@ impl<'a> List<'a> {
     pub fn run_changed(&mut self, count: u64) -> BTreeMap<&'static str, [u32; 2]> {
         let mut told = BTreeMap::new();
         for turn in 0..count {
-            let (_, [mut first, second]) = self.call();
+            let [mut first, second] = self.call().outcomes;
             for i in 0..first.parts.len() {
                 let part = &mut first.parts[i];
                 let place = turn as usize % part.numbers.len();

@@ -207,6 +207,15 @@ pub fn perform(side: &dyn Operations, call: &Call, record: &mut Equaliser) -> Ou
     }
 }
 
+/// What a trial is to leave: the block is run on a copy of the record.
+pub fn on_a_copy(side: &dyn Operations, lists: &Lists, record: &Equaliser) -> Outcome {
+    trial(lists, &mut record.clone(), |s, block, out| {
+        let mut state = *s;
+        let number = side.run(&mut state, block, out);
+        Answer { number, state }
+    })
+}
+
 fn set_up(side: &dyn Operations, settings: Settings, record: &mut Equaliser) -> Outcome {
     let answer = side.set_up(settings);
     *record = answer.state;

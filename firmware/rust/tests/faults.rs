@@ -2,6 +2,7 @@
 //! covers.
 
 use reference::Settings;
+use std::cell::Cell;
 use tigbulode::compare::{text, List, COUNT, SEED};
 use tigbulode::sides::{Operations, Second};
 use tigbulode::{Answer, Block, Equaliser, Outputs, Saved};
@@ -34,6 +35,8 @@ enum Fault {
     TrialUnseen,
     /// Looks at the gains of a trial before the lists' lengths.
     TrialOrder,
+    /// Gives a smaller M in a set-up after an accepted trial.
+    TrialKept,
     /// Changes the record in an accepted save.
     SaveTouches,
     /// Changes the record in a save that it turns down.
@@ -49,6 +52,15 @@ enum Fault {
 /// The second implementation with one thing wrong.
 struct Faulty {
     fault: Fault,
+    /// Whether an accepted trial came after the last set-up.
+    tried: Cell<bool>,
+}
+
+impl Faulty {
+    fn new(fault: Fault) -> Faulty {
+        let tried = Cell::new(false);
+        Faulty { fault, tried }
+    }
 }
 
 fn cleared(list: &mut [u8]) {
@@ -59,6 +71,9 @@ impl Operations for Faulty {
     fn set_up(&self, mut s: Settings) -> Answer {
         if self.fault == Fault::Step && s.admitted() && !s.with_m(s.m + 1).admitted() {
             s.m += 1;
+        }
+        if self.tried.take() && self.fault == Fault::TrialKept {
+            s.m /= 2;
         }
         Second.set_up(s)
     }
@@ -90,6 +105,7 @@ impl Operations for Faulty {
         match (self.fault, answer.number) {
             (Fault::TrialStands, 0) => answer.state = *s,
             (Fault::TrialRuns, 0) => *s = answer.state,
+            (Fault::TrialKept, 0) => self.tried.set(true),
             (Fault::TrialUnseen, 6) => answer.number = 0,
             (Fault::TrialOrder, 3) if block.gains.iter().any(|&g| g > 15) => answer.number = 4,
             (Fault::TrialFresh, 1..) => answer.state = Second.load(&[]).state,
@@ -137,6 +153,7 @@ fn every_fault_is_told_apart_by_its_own_part() {
         (Fault::TrialRuns, "trial: record"),
         (Fault::TrialUnseen, "trial: answer"),
         (Fault::TrialOrder, "trial: answer"),
+        (Fault::TrialKept, "set-up: record, M"),
         (Fault::SaveTouches, "save: record, b"),
         (Fault::SaveRefusedTouches, "save: record, b"),
         (Fault::Cleared, "save: buffer"),
@@ -147,7 +164,28 @@ fn every_fault_is_told_apart_by_its_own_part() {
     let tried = REFUSALS.map(|number| (Fault::TrialMarked(number), "trial: xi"));
     let touched = REFUSALS.map(|number| (Fault::TrialTouches(number), "trial: record, psi"));
     for (fault, part) in [&faults[..], &marked, &tried, &touched].concat() {
-        let (text, same) = text(&Faulty { fault }, &Second, SEED, COUNT);
+        let (text, same) = text(&Faulty::new(fault), &Second, SEED, COUNT);
+        assert!(!same && text.contains(part), "{fault:?}: {text}");
+    }
+}
+
+#[test]
+fn trials_are_told_apart_where_both_sides_have_the_fault() {
+    let faults = [
+        (Fault::TrialStands, "trial: library: state, "),
+        (Fault::TrialFresh, "trial: library: state, "),
+        (Fault::TrialMarked(4), "trial: library: xi, "),
+        (Fault::TrialRuns, "trial: library: record, "),
+        (Fault::TrialTouches(5), "trial: library: record, psi: "),
+        (Fault::TrialUnseen, "trial: library: answer, "),
+        (
+            Fault::TrialKept,
+            "set-up: library: record, M: with the trials ",
+        ),
+    ];
+    for (fault, part) in faults {
+        let sides = [(); 2].map(|()| Faulty::new(fault));
+        let (text, same) = text(&sides[0], &sides[1], SEED, COUNT);
         assert!(!same && text.contains(part), "{fault:?}: {text}");
     }
 }
@@ -176,6 +214,17 @@ fn the_list_covers_every_answer() {
     assert!(list.tally.saved_earlier >= 100);
     assert!(blocks.wrong_lengths.iter().all(|&count| count >= 20));
     assert!(trials.wrong_lengths.iter().all(|&count| count >= 5));
+}
+
+#[test]
+fn every_call_is_made_again_or_is_a_trial() {
+    for count in [1, 499, 500, 501, 1_234] {
+        let mut list = List::new(&Second, &Second, SEED);
+        list.run(count).unwrap();
+        let trials: u64 = list.tally.answers[2].iter().sum();
+        assert_eq!(list.tally.on_copies, trials);
+        assert_eq!(list.tally.again, count - trials);
+    }
 }
 
 #[test]

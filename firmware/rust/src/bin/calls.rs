@@ -1,8 +1,9 @@
 //! The same random list of calls on the static library and on the second
-//! implementation, compared after every call: `calls [SEED [COUNT]]`.
-//! `calls --changed` changes what the library gave, a bit at a time, and sees
-//! that each change is told apart. Exit status 1: a difference, or a change
-//! that was not told apart; 2: bad arguments.
+//! implementation, compared after every call: `calls [SEED [COUNT]]`. Each
+//! trial is also compared with a run on a copy by the same side, and the list
+//! with itself without its trials. `calls --changed` changes what the library
+//! gave, a bit at a time, and sees that each change is told apart. Exit status
+//! 1: a difference, or a change that was not told apart; 2: bad arguments.
 
 use std::process::ExitCode;
 use tigbulode::compare::{text, text_changed, CHANGED_COUNT, COUNT, SEED};

@@ -64,6 +64,10 @@ pub struct Tally {
     pub answers: [[u64; 10]; Call::KINDS.len()],
     pub blocks: Blocks,
     pub trials: Blocks,
+    /// Trials that were compared with a run on a copy.
+    pub on_copies: u64,
+    /// Calls that were made again in the list without its trials.
+    pub again: u64,
     pub saved_earlier: u64,
 }
 
@@ -94,6 +98,8 @@ impl fmt::Display for Tally {
         }
         self.blocks.write(f, "blocks")?;
         self.trials.write(f, "trials")?;
+        writeln!(f, "trials beside a run on a copy: {}", self.on_copies)?;
+        writeln!(f, "calls made again without the trials: {}", self.again)?;
         writeln!(f, "loads of bytes saved earlier: {}", self.saved_earlier)
     }
 }
