@@ -145,8 +145,8 @@ impl Faulty<'_> {
 
 impl Operations for Faulty<'_> {
     fn set_up(&self, s: Settings) -> Answer {
-        let largest = s.m < u32::MAX && s.admitted() && !s.with_m(s.m + 1).admitted();
-        let more = u32::from(self.fault == Fault::Step && largest && s.within_limits());
+        let step = self.fault == Fault::Step && s.examine() == 0;
+        let more = u32::from(step && s.m == s.largest_m());
         self.side.set_up(s.with_m(s.m + more))
     }
 

@@ -69,7 +69,7 @@ fn cleared(list: &mut [u8]) {
 
 impl Operations for Faulty {
     fn set_up(&self, mut s: Settings) -> Answer {
-        if self.fault == Fault::Step && s.admitted() && !s.with_m(s.m + 1).admitted() {
+        if self.fault == Fault::Step && s.examine() == 0 && s.m == s.largest_m() {
             s.m += 1;
         }
         if self.tried.take() && self.fault == Fault::TrialKept {
