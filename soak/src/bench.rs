@@ -10,8 +10,8 @@ use std::fmt;
 use std::panic::{catch_unwind, AssertUnwindSafe};
 use std::sync::Once;
 use tigbulode::calls::{Call, Lists};
-use tigbulode::compare::{difference, Tally};
-use tigbulode::perform::{perform, Outcome};
+use tigbulode::compare::{difference, unlike_a_run, Past, Tally, SIDES};
+use tigbulode::perform::{on_a_copy, perform, Outcome};
 use tigbulode::sides::{record_of, settings_of, state_of, Operations};
 use tigbulode::{Answer, Block, Equaliser, Outputs, Saved, IMAGE_BYTES};
 
@@ -108,7 +108,7 @@ pub fn stopping<T>(work: impl FnOnce() -> T) -> Result<T, String> {
 #[derive(Clone, Copy, Debug, Default)]
 pub struct Followed {
     pub at_once: u64,
-    /// Saves or refusals came between.
+    /// Calls came between that left the state as it was.
     pub after_calls: u64,
     /// A save was loaded back between.
     pub loaded_back: u64,
@@ -123,25 +123,26 @@ struct Way {
 
 /// The two sides, and what was seen on them.
 pub struct Bench<'a> {
-    library: &'a dyn Operations,
-    second: &'a dyn Operations,
+    sides: [&'a dyn Operations; 2],
     records: [Equaliser; 2],
+    past: Past,
     /// What the past samples in each saved image were, where that is known.
     images: HashMap<Vec<u8>, Option<Received>>,
     way: Way,
     pub checker: Checker,
     pub tally: Tally,
     pub followed: Followed,
-    /// Accepted blocks on other records.
+    /// Accepted blocks and trials on other records.
     pub others: u64,
 }
 
 impl<'a> Bench<'a> {
     pub fn new(library: &'a dyn Operations, second: &'a dyn Operations) -> Bench<'a> {
+        let start = record_of(&State::fresh());
         Bench {
-            library,
-            second,
-            records: [record_of(&State::fresh()); 2],
+            sides: [library, second],
+            records: [start; 2],
+            past: Past::new(start),
             images: HashMap::new(),
             way: Way::default(),
             checker: Checker::new(),
@@ -153,7 +154,9 @@ impl<'a> Bench<'a> {
 
     /// A new list, which starts from the state of a refused set-up.
     pub fn start_list(&mut self) {
-        self.records = [record_of(&State::fresh()); 2];
+        let start = record_of(&State::fresh());
+        self.records = [start; 2];
+        self.past = Past::new(start);
         self.images.clear();
         self.checker.forget();
         self.way = Way::default();
@@ -165,59 +168,89 @@ impl<'a> Bench<'a> {
     }
 
     /// Makes a call on both sides; gives the image of an accepted save.
-    pub fn call(&mut self, call: &Call) -> Result<Option<Vec<u8>>, Failing> {
-        stopping(|| self.checked(call)).unwrap_or_else(|text| {
+    pub fn call(&mut self, call: &Call) -> Result<Option<Vec<u8>>, Failure> {
+        let checked = stopping(|| self.checked(call)).unwrap_or_else(|text| {
             Err(Failing::of(
                 "stop",
                 format!("a computation stopped: {text}"),
             ))
-        })
+        });
+        let (place, kind) = (self.past.count(), Call::KINDS[call.kind()]);
+        let outcome = checked.map_err(|failing| Failure {
+            place,
+            kind,
+            failing,
+        })?;
+        let image = outcome.image.clone();
+        self.past.push(call.clone(), outcome);
+        Ok(image)
     }
 
-    /// A whole list from its start.
-    pub fn list(&mut self, calls: &[Call]) -> Result<(), Failure> {
-        self.start_list();
-        for (place, call) in calls.iter().enumerate() {
-            let kind = Call::KINDS[call.kind()];
-            self.call(call).map_err(|failing| Failure {
-                place,
-                kind,
-                failing,
-            })?;
-        }
+    /// The end of a list, which must be the same without its trials.
+    pub fn end_list(&mut self) -> Result<(), Failure> {
+        let again = self.past.without_trials(self.sides);
+        let again = again.map_err(|(place, kind, text)| Failure {
+            place,
+            kind,
+            failing: Failing::of("list without its trials", text),
+        });
+        self.tally.again += again?;
         Ok(())
     }
 
-    fn checked(&mut self, call: &Call) -> Result<Option<Vec<u8>>, Failing> {
-        let before = self.records[0];
+    /// A whole list.
+    pub fn list(&mut self, calls: &[Call]) -> Result<(), Failure> {
+        self.start_list();
+        for call in calls {
+            self.call(call)?;
+        }
+        self.end_list()
+    }
+
+    fn checked(&mut self, call: &Call) -> Result<Outcome, Failing> {
+        let before = self.records;
         let [first, second] = &mut self.records;
-        let outcome = perform(self.library, call, first);
-        let other = perform(self.second, call, second);
+        let outcome = perform(self.sides[0], call, first);
+        let other = perform(self.sides[1], call, second);
         if let Some(difference) = difference(&outcome.parts, &other.parts) {
             let check = format!("difference in {}", difference.part);
-            return Err(Failing::of(&check, difference.to_string()));
+            let text = difference.between(SIDES[0], SIDES[1]);
+            return Err(Failing::of(&check, text));
         }
-        self.refused(call, outcome.number, &before, &outcome)?;
-        self.list_state(call, outcome.number)?;
+        self.as_a_run(call, &before, [&outcome, &other])?;
+        let [before, _] = before;
+        self.refused(call, &before, &outcome)?;
+        self.list_state(call, &outcome)?;
         self.round_trip(call, &outcome)?;
         match call {
             Call::Block(lists, None) => self.own_block(lists, before, &outcome)?,
-            Call::Block(lists, Some(lent)) => self.other_block(lists, *lent, &outcome)?,
+            Call::Block(lists, other) | Call::Trial(lists, other) => {
+                self.aside(lists, before, *other, &outcome)?;
+            }
             _ => self.follow(call, &outcome),
         }
         let after = self.records[0];
-        self.tally.count(call, outcome.number, &before, &after);
-        Ok(outcome.image)
+        self.tally.count(call, &outcome, &before, &after);
+        Ok(outcome)
+    }
+
+    /// A trial is what running its block on a copy is, by the same side.
+    fn as_a_run(
+        &mut self,
+        call: &Call,
+        before: &[Equaliser; 2],
+        outcomes: [&Outcome; 2],
+    ) -> Result<(), Failing> {
+        self.tally.on_copies += u64::from(call.is_trial());
+        match unlike_a_run(self.sides, call, before, outcomes) {
+            Some(text) => Err(Failing::of("run on a copy", text)),
+            None => Ok(()),
+        }
     }
 
     /// A call that was turned down left everything as it was.
-    fn refused(
-        &self,
-        call: &Call,
-        number: u8,
-        before: &Equaliser,
-        outcome: &Outcome,
-    ) -> Result<(), Failing> {
+    fn refused(&self, call: &Call, before: &Equaliser, outcome: &Outcome) -> Result<(), Failing> {
+        let number = outcome.number;
         if number == 0 {
             return Ok(());
         }
@@ -232,16 +265,20 @@ impl<'a> Bench<'a> {
     }
 
     /// Every state of a list is sound and has admitted settings, so that no
-    /// block or save on it answers 1, 2 or 9.
-    fn list_state(&self, call: &Call, number: u8) -> Result<(), Failing> {
-        let own = matches!(call, Call::Block(_, None) | Call::Save(_, None));
-        if own && [1, 2, 9].contains(&number) {
+    /// block, trial or save on it answers 1, 2 or 9; so is every state beside
+    /// an accepted trial.
+    fn list_state(&self, call: &Call, outcome: &Outcome) -> Result<(), Failing> {
+        let number = outcome.number;
+        let on_record = matches!(call, Call::Block(..) | Call::Trial(..) | Call::Save(..));
+        if on_record && call.other().is_none() && [1, 2, 9].contains(&number) {
             let text = format!("answer {number} on a state of the list");
             return Err(Failing::of("state", text));
         }
-        match state_of(&self.records[0]).examine() {
-            0 => Ok(()),
-            number => Err(Failing::of("state", format!("the state has a {number}"))),
+        let given = outcome.state.filter(|_| number == 0);
+        let mut states = given.iter().chain([&self.records[0]]);
+        match states.find_map(|state| Some(state_of(state).examine()).filter(|&n| n != 0)) {
+            None => Ok(()),
+            Some(number) => Err(Failing::of("state", format!("a state has a {number}"))),
         }
     }
 
@@ -250,13 +287,13 @@ impl<'a> Bench<'a> {
     fn round_trip(&self, call: &Call, outcome: &Outcome) -> Result<(), Failing> {
         let good = match (call, &outcome.image) {
             (Call::Save(_, lent), Some(image)) => {
-                let loaded = self.library.load(image);
+                let loaded = self.sides[0].load(image);
                 let saved = lent.unwrap_or(self.records[0]);
                 loaded.number == 0 && loaded.state == saved
             }
             (Call::Load(bytes), _) if outcome.number == 0 => {
                 let (mut loaded, mut buffer) = (self.records[0], [0; IMAGE_BYTES]);
-                let saved = self.library.save(&mut loaded, &mut buffer);
+                let saved = self.sides[0].save(&mut loaded, &mut buffer);
                 saved.number == 0 && buffer.get(..saved.length) == Some(bytes)
             }
             _ => true,
@@ -297,35 +334,40 @@ impl<'a> Bench<'a> {
         })
     }
 
-    /// A block on another record, which the list then forgets.
-    fn other_block(
+    /// A trial, or a block on another record: the list goes on without it.
+    fn aside(
         &mut self,
         lists: &Lists,
-        before: Equaliser,
+        own: Equaliser,
+        other: Option<Equaliser>,
         outcome: &Outcome,
     ) -> Result<(), Failing> {
+        self.way.calls_between = true;
         if outcome.number != 0 {
             return Ok(());
         }
-        self.others += 1;
-        let mut after = before;
-        perform(self.library, &Call::Block(lists.clone(), None), &mut after);
+        let before = other.unwrap_or(own);
+        let by_trial = outcome.state;
+        let after = by_trial.or_else(|| on_a_copy(self.sides[0], lists, &before).state);
         let received = self.checker.received();
-        self.checker.forget();
+        if other.is_some() {
+            self.others += 1;
+            self.checker.forget();
+        }
         let checked = self.figures(&Accepted {
             before,
             lists,
             outcome,
-            after,
+            after: after.unwrap_or(before),
         });
         self.checker.recall(received);
         checked
     }
 
-    /// The figures of demand 3 at every sample of an accepted block.
+    /// The figures of demand 3 at every sample of an accepted block or trial.
     fn figures(&mut self, block: &Accepted) -> Result<(), Failing> {
         let settings = settings_of(&block.before);
-        let checked = detail(self.library, block).and_then(|detail| {
+        let checked = detail(self.sides[0], block).and_then(|detail| {
             self.checker.figures(&settings, &detail)?;
             as_the_steps_give(block, &detail)
         });
@@ -333,7 +375,7 @@ impl<'a> Bench<'a> {
     }
 
     /// What the past samples of the list's state were, after a call that is no
-    /// block.
+    /// block and no trial.
     fn follow(&mut self, call: &Call, outcome: &Outcome) {
         self.way.calls_between = true;
         match (call, &outcome.image) {

@@ -1,5 +1,5 @@
-//! Every number of an accepted block from the library's own records and
-//! outputs, for the checker of demand 3.
+//! Every number of an accepted block or trial from the library's own records
+//! and outputs, for the checker of demand 3.
 
 use crate::pieces::{records, rescaled, Accepted};
 use reference::block::{one_sample, scaled_sample, BlockDetail, SampleDetail};

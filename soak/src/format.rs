@@ -6,7 +6,7 @@ use std::fmt::Write as _;
 use std::io::{Read, Write as _};
 use std::path::Path;
 use std::str::FromStr;
-use tigbulode::calls::{Call, Lists};
+use tigbulode::calls::{Call, Lists, MadeOfLists};
 use tigbulode::{Equaliser, PLACES};
 
 /// The first line of every file.
@@ -41,23 +41,23 @@ fn record_bytes(e: &Equaliser) -> Vec<u8> {
 }
 
 fn line(call: &Call) -> String {
-    let on = |lent: &Option<Equaliser>| match lent {
-        Some(record) => format!(" on {}", hex(&record_bytes(record))),
-        None => String::new(),
-    };
-    match call {
-        Call::SetUp(s) => format!("set-up {} {} {} {} {} {}", s.p, s.q, s.n, s.r, s.l, s.m),
-        Call::Block(lists, lent) => format!(
-            "block m{} gains{} entries{} rooms{}{}",
+    let kind = Call::KINDS[call.kind()];
+    let given = match call {
+        Call::SetUp(s) => format!("{} {} {} {} {} {}", s.p, s.q, s.n, s.r, s.l, s.m),
+        Call::Block(lists, _) | Call::Trial(lists, _) => format!(
+            "m{} gains{} entries{} rooms{}",
             words(&lists.m),
             words(&lists.gains),
             words(&lists.entries),
-            words(&lists.rooms),
-            on(lent)
+            words(&lists.rooms)
         ),
-        Call::Save(room, lent) => format!("save {room}{}", on(lent)),
-        Call::Load(bytes) => format!("load {}", hex(bytes)).trim_end().to_string(),
-    }
+        Call::Save(room, _) => room.to_string(),
+        Call::Load(bytes) => hex(bytes),
+    };
+    let other = call.other().map(record_bytes);
+    let on = other.map(|bytes| format!(" on {}", hex(&bytes)));
+    let line = format!("{kind} {given}{}", on.unwrap_or_default());
+    line.trim_end().to_string()
 }
 
 /// A remark for each line.
@@ -136,7 +136,8 @@ fn until<'a, 'b>(words: &'a [&'b str], keyword: &str) -> Result<[&'a [&'b str]; 
     Ok([&words[..at], &words[at + 1..]])
 }
 
-fn block(words: &[&str]) -> Result<Call, String> {
+/// A block or a trial, which `made` makes.
+fn block(words: &[&str], made: MadeOfLists) -> Result<Call, String> {
     let (words, lent) = match words {
         [words @ .., "on", hex] => (words, Some(record(hex)?)),
         words => (words, None),
@@ -156,7 +157,7 @@ fn block(words: &[&str]) -> Result<Call, String> {
         entries: numbers(entries)?,
         rooms: rooms.map_err(|_| "a block has five rooms".to_string())?,
     };
-    Ok(Call::Block(lists, lent))
+    Ok(made(lists, lent))
 }
 
 fn set_up(words: &[&str]) -> Result<Call, String> {
@@ -184,7 +185,8 @@ fn read_line(line: &str, saved: &mut Saved) -> Result<(), String> {
             return Ok(());
         }
         ["set-up", ..] => set_up(&words[1..])?,
-        ["block", ..] => block(&words[1..])?,
+        ["block", ..] => block(&words[1..], Call::Block)?,
+        ["trial", ..] => block(&words[1..], Call::Trial)?,
         ["save", word] => Call::Save(room(word)?, None),
         ["save", word, "on", hex] => Call::Save(room(word)?, Some(record(hex)?)),
         ["load"] => Call::Load(Vec::new()),

@@ -68,6 +68,8 @@ pub struct Lister {
     channel: [i32; 3],
     /// The last symbols that were sent, newest first.
     sent: [i32; 3],
+    /// A block whose trial was the last call.
+    tried: Option<Call>,
 }
 
 /// The start of a list's own numbers.
@@ -102,6 +104,7 @@ impl Lister {
             spell: (Loudness::Loud, Aim::Trained),
             channel,
             sent: [1; 3],
+            tried: None,
         }
     }
 
@@ -112,13 +115,32 @@ impl Lister {
         if turn >= self.length {
             return None;
         }
+        let block = self.tried.take();
+        block.or_else(|| Some(self.perhaps_tried(turn, record)))
+    }
+
+    /// The next call, or where it is a block sometimes a trial of it; the block
+    /// then follows.
+    fn perhaps_tried(&mut self, turn: usize, record: &Equaliser) -> Call {
+        let call = self.planned(turn, record);
+        match &call {
+            Call::Block(lists, lent) if self.maker.random.chance(1, 5) => {
+                let trial = Call::Trial(lists.clone(), *lent);
+                self.tried = Some(call);
+                trial
+            }
+            _ => call,
+        }
+    }
+
+    fn planned(&mut self, turn: usize, record: &Equaliser) -> Call {
         if turn > 0 && self.maker.random.chance(1, 5) {
-            return Some(self.maker.next(record));
+            return self.maker.next(record);
         }
         if self.maker.random.chance(1, 30) {
-            return Some(self.on_another());
+            return self.on_another();
         }
-        Some(match self.plan {
+        match self.plan {
             Plan::Mixed => self.maker.next(record),
             Plan::Corner(place) => self.corner(corner(place), record),
             Plan::Spells => self.spells(turn, record),
@@ -127,7 +149,7 @@ impl Lister {
             Plan::Bounds => self.bounds(turn, record),
             Plan::Bent => self.bent(turn, record),
             Plan::Lengths => self.lengths(turn, record),
-        })
+        }
     }
 
     /// Keeps an image that the list saved, for later loads.

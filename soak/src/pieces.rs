@@ -12,7 +12,8 @@ use tigbulode::perform::{perform, Outcome};
 use tigbulode::sides::Operations;
 use tigbulode::Equaliser;
 
-/// An accepted block as the library ran it.
+/// An accepted block as the library ran it, or tried it: then the record after
+/// it is the state beside the trial's number.
 pub struct Accepted<'a> {
     pub before: Equaliser,
     pub lists: &'a Lists,

@@ -70,10 +70,11 @@ pub fn worst(w: &Worst) -> String {
 pub fn covered(bench: &Bench) -> String {
     let f = bench.followed;
     let followed = format!(
-        "next blocks on past samples that were followed: at once {}, after saves or refusals {}, after a load {}\n",
+        "next blocks on past samples that were followed: at once {}, after other calls {}, after a load {}\n",
         f.at_once, f.after_calls, f.loaded_back,
     );
     let worst = worst(&bench.checker.worst);
-    let others = format!("accepted blocks on a record of no list: {}\n", bench.others);
+    let others = bench.others;
+    let others = format!("accepted blocks and trials on a record of no list: {others}\n");
     format!("{}{followed}{others}{worst}", bench.tally)
 }

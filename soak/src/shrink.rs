@@ -5,7 +5,7 @@
 //! long as the list still fails in the same check.
 
 use reference::{Settings, State};
-use tigbulode::calls::{raw_image, Call, Lists};
+use tigbulode::calls::{raw_image, Call, Lists, MadeOfLists};
 use tigbulode::perform::perform;
 use tigbulode::sides::{record_of, Second};
 use tigbulode::Equaliser;
@@ -119,13 +119,12 @@ impl Shrinking<'_> {
     }
 }
 
-/// The N of a set-up or an image.
+/// The N of a set-up, an image or another record.
 fn block_length(call: &Call) -> u8 {
     match call {
         Call::SetUp(settings) => settings.n,
         Call::Load(bytes) => bytes.get(2).copied().unwrap_or(0),
-        Call::Block(_, Some(record)) | Call::Save(_, Some(record)) => record.n,
-        _ => 0,
+        _ => call.other().map_or(0, |record| record.n),
     }
 }
 
@@ -140,25 +139,17 @@ fn shortened(calls: &[Call], length: u8, at_start: bool) -> Vec<Call> {
                 n = block_length(call);
                 n
             }
-            Call::Block(_, Some(record)) => record.n,
-            _ => n,
+            _ => call.other().map_or(n, |record| record.n),
         };
-        let less = usize::from(own.saturating_sub(length));
+        let (less, least) = (usize::from(own.saturating_sub(length)), own.min(length));
         match call {
-            Call::SetUp(settings) => settings.n = own.min(length),
-            Call::Load(bytes) => bytes
-                .iter_mut()
-                .skip(2)
-                .take(1)
-                .for_each(|n| *n = own.min(length)),
-            Call::Block(lists, lent) => {
+            Call::SetUp(settings) => settings.n = least,
+            Call::Load(bytes) => bytes.iter_mut().skip(2).take(1).for_each(|n| *n = least),
+            Call::Block(lists, lent) | Call::Trial(lists, lent) => {
                 shorten(lists, less, at_start);
-                lent.iter_mut()
-                    .for_each(|record| record.n = own.min(length));
+                lent.iter_mut().for_each(|record| record.n = least);
             }
-            Call::Save(_, lent) => lent
-                .iter_mut()
-                .for_each(|record| record.n = record.n.min(length)),
+            Call::Save(_, lent) => lent.iter_mut().for_each(|record| record.n = least),
         }
     }
     all
@@ -211,24 +202,23 @@ fn simpler(call: &Call) -> Vec<Call> {
             let simpler = simpler_settings(settings).into_iter();
             simpler.map(Call::SetUp).collect()
         }
-        Call::Block(lists, None) => {
-            let simpler = simpler_lists(lists).into_iter();
-            simpler.map(|lists| Call::Block(lists, None)).collect()
-        }
-        Call::Block(lists, Some(record)) => {
-            let simpler = simpler_lists(lists).into_iter();
-            let simpler = simpler.map(|lists| Call::Block(lists, Some(*record)));
-            let records = simpler_records(record).into_iter();
-            let records = records.map(|record| Call::Block(lists.clone(), record));
-            records.chain(simpler).collect()
-        }
-        Call::Save(_, None) => Vec::new(),
-        Call::Save(room, Some(record)) => {
-            let records = simpler_records(record).into_iter();
+        Call::Block(lists, lent) => simpler_blocks(lists, *lent, Call::Block),
+        Call::Trial(lists, lent) => simpler_blocks(lists, *lent, Call::Trial),
+        Call::Save(room, lent) => {
+            let records = lent.iter().flat_map(simpler_records);
             records.map(|record| Call::Save(*room, record)).collect()
         }
         Call::Load(bytes) => simpler_images(bytes).into_iter().map(Call::Load).collect(),
     }
+}
+
+/// Blocks or trials, which `made` makes, with a simpler record or simpler lists.
+fn simpler_blocks(lists: &Lists, lent: Option<Equaliser>, made: MadeOfLists) -> Vec<Call> {
+    let records = lent.iter().flat_map(simpler_records);
+    let records = records.map(|record| made(lists.clone(), record));
+    let simpler = simpler_lists(lists).into_iter();
+    let simpler = simpler.map(|lists| made(lists, lent));
+    records.chain(simpler).collect()
 }
 
 fn simpler_settings(s: &Settings) -> Vec<Settings> {

@@ -138,34 +138,33 @@ impl Running<'_> {
 
     /// Makes one list; gives it if it fails.
     fn list(&mut self) -> Option<Found> {
-        let mut lister = Lister::new(self.run.seed, self.lists);
         let mut calls = Vec::new();
         self.bench.start_list();
+        let made = self.calls(&mut calls);
+        let failure = made.and_then(|()| self.bench.end_list()).err()?;
+        let list = self.lists;
+        Some(Found::List {
+            list,
+            calls,
+            failure,
+        })
+    }
+
+    /// Makes the calls of a list to its end, or to the end of the run.
+    fn calls(&mut self, calls: &mut Vec<Call>) -> Result<(), Failure> {
+        let mut lister = Lister::new(self.run.seed, self.lists);
         while !self.ended() {
-            let call = lister.next(self.bench.record())?;
+            let Some(call) = lister.next(self.bench.record()) else {
+                break;
+            };
             calls.push(call.clone());
-            match self.bench.call(&call) {
-                Ok(image) => image.iter().for_each(|image| lister.keep(image)),
-                Err(failing) => {
-                    let (place, kind) = (calls.len() - 1, Call::KINDS[call.kind()]);
-                    let failure = Failure {
-                        place,
-                        kind,
-                        failing,
-                    };
-                    let list = self.lists;
-                    return Some(Found::List {
-                        list,
-                        calls,
-                        failure,
-                    });
-                }
-            }
+            let image = self.bench.call(&call)?;
+            image.iter().for_each(|image| lister.keep(image));
             self.calls += 1;
             let (until, calls) = (self.run.until, self.calls);
             self.progress.show(|seconds| until.so_far(calls, seconds));
         }
-        None
+        Ok(())
     }
 
     /// The cables after a list; gives one that fails.
@@ -340,11 +339,8 @@ fn failed_cable(run: &Run, (list, place): (u64, u64), lent: Lent, failing: Faili
 }
 
 fn samples(calls: &[Call]) -> usize {
-    let lengths = calls.iter().map(|call| match call {
-        Call::Block(lists, _) => lists.m.len(),
-        _ => 0,
-    });
-    lengths.sum()
+    let lists = calls.iter().filter_map(Call::lists);
+    lists.map(|lists| lists.m.len()).sum()
 }
 
 /// What a file holds.

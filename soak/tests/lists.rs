@@ -2,14 +2,14 @@
 
 use reference::numbers::bit_length;
 use soak::bench::{Bench, Failure};
-use soak::faults::{Fault, Faulty};
+use soak::faults::Fault;
 use soak::format::{parse, text, Saved};
 use soak::lists::{corner, Lister, CORNERS};
 use soak::shrink::shrink;
-use soak::soak::{failure_of, shrunk};
+use soak::soak::{failure_of, shrunk, with_sides};
 use std::collections::HashSet;
 use tigbulode::calls::Call;
-use tigbulode::sides::{Library, Operations, Second};
+use tigbulode::sides::{Library, Second};
 
 /// The calls of a list, made on a bench, up to a failure.
 fn list(bench: &mut Bench, seed: u64, place: u64) -> (Vec<Call>, Option<Failure>) {
@@ -20,28 +20,23 @@ fn list(bench: &mut Bench, seed: u64, place: u64) -> (Vec<Call>, Option<Failure>
         calls.push(call.clone());
         match bench.call(&call) {
             Ok(image) => image.iter().for_each(|image| lister.keep(image)),
-            Err(_) => {
-                let failure = failure_of_calls(bench, &calls);
-                return (calls, failure);
-            }
+            Err(failure) => return (calls, Some(failure)),
         }
     }
-    (calls, None)
-}
-
-fn failure_of_calls(bench: &mut Bench, calls: &[Call]) -> Option<Failure> {
-    bench.list(calls).err()
+    let failure = bench.end_list().err();
+    (calls, failure)
 }
 
 #[test]
 fn the_lists_cover_every_answer() {
     let mut bench = Bench::new(&Library, &Second);
-    for place in 0..700 {
+    for place in 0..900 {
         let (_, failure) = list(&mut bench, 2026, place);
         assert_eq!(failure, None);
     }
     let given = [
         vec![0, 1, 2],
+        vec![0, 1, 2, 3, 4, 5, 6, 9],
         vec![0, 1, 2, 3, 4, 5, 6, 9],
         vec![0, 1, 2, 7, 9],
         vec![0, 1, 2, 8, 9],
@@ -52,15 +47,15 @@ fn the_lists_cover_every_answer() {
             assert_eq!(count >= 10, given.contains(&number), "{tally}");
         }
     }
-    assert!(
-        tally.rises_to_15 >= 50 && tally.left_at_15 >= 100,
-        "{tally}"
-    );
-    assert!(tally.larger >= 100 && tally.smaller >= 100, "{tally}");
-    assert!(
-        tally.wrong_lengths.iter().all(|&count| count >= 20),
-        "{tally}"
-    );
+    for (blocks, least) in [(&tally.blocks, 50), (&tally.trials, 10)] {
+        assert!(blocks.rises_to_15 >= least, "{tally}");
+        assert!(blocks.left_at_15 >= 2 * least, "{tally}");
+        assert!(blocks.larger >= 2 * least && blocks.smaller >= 2 * least);
+        assert!(blocks.wrong_lengths.iter().all(|&count| count >= least / 4));
+    }
+    let calls: u64 = tally.answers.iter().flatten().sum();
+    assert!(tally.on_copies >= calls / 8, "{tally}");
+    assert_eq!(tally.again, calls - tally.on_copies);
     assert!(bench.others >= 50);
     let f = bench.followed;
     assert!(
@@ -85,8 +80,7 @@ fn a_list_is_the_same_after_its_text() {
     let mut lent = 0;
     for place in 0..150 {
         let (calls, _) = list(&mut bench, 9, place);
-        let on = |call: &&Call| matches!(call, Call::Block(_, Some(_)) | Call::Save(_, Some(_)));
-        lent += calls.iter().filter(on).count();
+        lent += calls.iter().filter(|call| call.other().is_some()).count();
         let fault = *faults.get(place as usize).unwrap_or(&None);
         let saved = Saved { fault, calls };
         assert_eq!(parse(&text(&saved, "one\ntwo")).unwrap(), saved);
@@ -134,23 +128,20 @@ fn shrinking_keeps_what_it_is_asked_to_keep() {
     assert!(shrunk_lists >= 10);
 }
 
+/// A list with a fault, up to a failure.
+fn faulty_list(fault: Fault, place: u64) -> (Vec<Call>, Option<Failure>) {
+    with_sides(Some(fault), |library, second| {
+        list(&mut Bench::new(library, second), 11, place)
+    })
+}
+
 #[test]
 fn a_shrunk_list_fails_in_the_same_check() {
     for (name, fault) in Fault::ALL
         .into_iter()
         .filter(|(_, fault)| !fault.of_cable())
     {
-        let library = Faulty {
-            side: &Library,
-            fault,
-        };
-        let other = Faulty {
-            side: &Second,
-            fault,
-        };
-        let second: &dyn Operations = if fault.in_both() { &other } else { &Second };
-        let mut bench = Bench::new(&library, second);
-        let found = (0..400).map(|place| list(&mut bench, 11, place));
+        let found = (0..400).map(|place| faulty_list(fault, place));
         let mut failing = found.filter_map(|(calls, failure)| Some((calls, failure?)));
         for _ in 0..3 {
             let (calls, failure) = failing.next().expect(name);

@@ -14,11 +14,8 @@ fn short_list(text: &str, fault: Fault) {
     let saved = parse(text).unwrap();
     assert_eq!(saved.fault, Some(fault));
     assert!((1..=3).contains(&saved.calls.len()), "{text}");
-    for call in &saved.calls {
-        if let Call::Block(lists, _) = call {
-            assert!(lists.m.len() <= 8, "{text}");
-        }
-    }
+    let mut lists = saved.calls.iter().filter_map(Call::lists);
+    assert!(lists.all(|lists| lists.m.len() <= 8), "{text}");
 }
 
 /// What a saved cable must be.
@@ -148,6 +145,11 @@ fn bad_files_are_turned_down() {
             "{H}\nblock gains 0 m 1 entries 0 rooms 1 1 1 1 1\nend\n",
             "line 2",
         ),
+        (
+            "{H}\ntrial m 1 gains 0 entries 0 rooms 1 1 1 1\nend\n",
+            "line 2",
+        ),
+        ("{H}\ntrial\nend\n", "line 2"),
         ("{H}\nsave 20 on 00\nend\n", "line 2"),
         ("{H}\nfault none\nend\n", "line 2"),
         ("{H}\nrun\nend\n", "line 2"),

@@ -47,6 +47,9 @@ pub enum Call {
     Load(Vec<u8>),
 }
 
+/// [`Call::Block`] or [`Call::Trial`].
+pub type MadeOfLists = fn(Lists, Option<Equaliser>) -> Call;
+
 impl Call {
     /// The names of the five kinds.
     pub const KINDS: [&'static str; 5] = ["set-up", "block", "trial", "save", "load"];
