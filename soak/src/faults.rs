@@ -2,6 +2,7 @@
 
 use crate::cables::bench::Side;
 use reference::Settings;
+use std::cell::Cell;
 use tigbulode::sides::Operations;
 use tigbulode::{Answer, Block, Equaliser, Outputs, Saved};
 
@@ -38,10 +39,28 @@ pub enum Fault {
     Answer,
     /// The largest M is not admitted.
     Step,
+    /// The given state beside an accepted trial.
+    TrialState,
+    /// A bit of Z in a trial that is turned down.
+    TrialRefusedOutput,
+    /// A bit of the record in an accepted trial.
+    TrialRecord,
+    /// A bit of the record in a trial that is turned down.
+    TrialRefusedRecord,
+    /// 0 for 6 in a trial.
+    TrialNumber,
+    /// A bit of the record in a save.
+    SaveRecord,
     /// The first weight is two units off after a trained block, on both sides.
     WeightInBoth,
     /// The last Y is two units off in a loud block, on both sides.
     OutputInBoth,
+    /// The last spare place is not 0 after a block, on both sides.
+    SpareInBoth,
+    /// The first weight beside an accepted trial is two units off, on both sides.
+    TrialStateInBoth,
+    /// M is one less in a set-up after an accepted trial, on both sides.
+    TrialKeptInBoth,
     /// A bit of a cable's last m, where its gain is below 15.
     CableSample,
     /// The first gain of a cable that is L is one more.
@@ -58,7 +77,7 @@ pub enum Fault {
 
 impl Fault {
     /// Every fault with its name.
-    pub const ALL: [(&'static str, Fault); 23] = [
+    pub const ALL: [(&'static str, Fault); 32] = [
         ("output", Fault::Output),
         ("exponent", Fault::Exponent),
         ("decision", Fault::Decision),
@@ -74,8 +93,17 @@ impl Fault {
         ("loaded", Fault::Loaded),
         ("answer", Fault::Answer),
         ("step", Fault::Step),
+        ("trial-state", Fault::TrialState),
+        ("trial-refused-output", Fault::TrialRefusedOutput),
+        ("trial-record", Fault::TrialRecord),
+        ("trial-refused-record", Fault::TrialRefusedRecord),
+        ("trial-number", Fault::TrialNumber),
+        ("save-record", Fault::SaveRecord),
         ("weight-in-both", Fault::WeightInBoth),
         ("output-in-both", Fault::OutputInBoth),
+        ("spare-in-both", Fault::SpareInBoth),
+        ("trial-state-in-both", Fault::TrialStateInBoth),
+        ("trial-kept-in-both", Fault::TrialKeptInBoth),
         ("cable-sample", Fault::CableSample),
         ("cable-gain", Fault::CableGain),
         ("cable-entry", Fault::CableEntry),
@@ -94,13 +122,10 @@ impl Fault {
         found.map_or("", |(name, _)| name)
     }
 
-    /// Whether the second implementation has the same fault, so that only the
-    /// figures, or the station behind a cable, can show it.
+    /// Whether the second implementation has the same fault, so that only a
+    /// check without it can show it.
     pub fn in_both(self) -> bool {
-        matches!(
-            self,
-            Fault::WeightInBoth | Fault::OutputInBoth | Fault::CableLeastInBoth
-        )
+        self.name().ends_with("-in-both")
     }
 
     /// Whether it is one of a cable, which no list of calls shows.
@@ -113,6 +138,8 @@ impl Fault {
 pub struct Faulty<'a> {
     pub side: &'a dyn Side,
     pub fault: Fault,
+    /// Whether a trial was accepted after the last set-up, save and load.
+    tried: Cell<bool>,
 }
 
 /// Flips the lowest bit of a number.
@@ -122,7 +149,40 @@ fn flip<T: Copy + std::ops::BitXor<Output = T> + From<u8>>(number: Option<&mut T
     }
 }
 
-impl Faulty<'_> {
+/// The same lists, lent to a call inside.
+fn lent<'a>(out: &'a mut Outputs) -> Outputs<'a> {
+    Outputs {
+        y: out.y,
+        xi: out.xi,
+        decision: out.decision,
+        z: out.z,
+        theta: out.theta,
+    }
+}
+
+impl<'a> Faulty<'a> {
+    pub fn new(side: &'a dyn Side, fault: Fault) -> Faulty<'a> {
+        let tried = Cell::new(false);
+        Faulty { side, fault, tried }
+    }
+
+    /// The faults of a block, which a trial of it has too.
+    fn after_block(
+        &self,
+        number: u8,
+        before: &Equaliser,
+        s: &mut Equaliser,
+        block: Block,
+        out: Outputs,
+    ) {
+        match (self.fault, number) {
+            (_, 0) => self.accepted(before, s, block, out),
+            (Fault::RefusedOutput, _) => flip(out.z.first_mut()),
+            (Fault::RefusedRecord, 6) => s.weights[0] ^= 1,
+            _ => (),
+        }
+    }
+
     fn accepted(&self, before: &Equaliser, s: &mut Equaliser, block: Block, out: Outputs) {
         let loud = block.samples.iter().any(|m| m.unsigned_abs() >= 16384);
         let trained = block.entries.iter().any(|&entry| entry != 0);
@@ -136,6 +196,7 @@ impl Faulty<'_> {
             Fault::Error if trained => flip(out.z.first_mut()),
             Fault::Weight if trained => s.weights[0] ^= 1,
             Fault::WeightInBoth if trained => s.weights[0] ^= 2,
+            Fault::SpareInBoth if s.p + s.q < 32 => s.weights[31] = 1,
             Fault::Sample if loud && s.p > 1 => s.past[0] ^= 1,
             Fault::Halving => s.psi = before.psi,
             _ => (),
@@ -147,35 +208,37 @@ impl Operations for Faulty<'_> {
     fn set_up(&self, s: Settings) -> Answer {
         let step = self.fault == Fault::Step && s.examine() == 0;
         let more = u32::from(step && s.m == s.largest_m());
-        self.side.set_up(s.with_m(s.m + more))
+        let less = u32::from(self.tried.take() && s.m > 0);
+        self.side.set_up(s.with_m(s.m + more - less))
     }
 
-    fn run(&self, s: &mut Equaliser, block: Block, out: Outputs) -> u8 {
+    fn run(&self, s: &mut Equaliser, block: Block, mut out: Outputs) -> u8 {
         let before = *s;
-        let given = Outputs {
-            y: &mut *out.y,
-            xi: &mut *out.xi,
-            decision: &mut *out.decision,
-            z: &mut *out.z,
-            theta: &mut *out.theta,
-        };
-        let number = self.side.run(s, block, given);
-        match (self.fault, number) {
-            (_, 0) => self.accepted(&before, s, block, out),
-            (Fault::RefusedOutput, _) => flip(out.z.first_mut()),
-            (Fault::RefusedRecord, 6) => s.weights[0] ^= 1,
-            _ => (),
-        }
+        let number = self.side.run(s, block, lent(&mut out));
+        self.after_block(number, &before, s, block, out);
         number
     }
 
-    fn trial(&self, s: &mut Equaliser, block: Block, out: Outputs) -> Answer {
-        self.side.trial(s, block, out)
+    fn trial(&self, s: &mut Equaliser, block: Block, mut out: Outputs) -> Answer {
+        let mut answer = self.side.trial(s, block, lent(&mut out));
+        self.after_block(answer.number, s, &mut answer.state, block, lent(&mut out));
+        match (self.fault, answer.number) {
+            (Fault::TrialState, 0) => answer.state = *s,
+            (Fault::TrialStateInBoth, 0) => answer.state.weights[0] ^= 2,
+            (Fault::TrialKeptInBoth, 0) => self.tried.set(true),
+            (Fault::TrialRecord, 0) | (Fault::TrialRefusedRecord, 1..) => s.weights[0] ^= 1,
+            (Fault::TrialRefusedOutput, 1..) => flip(out.z.first_mut()),
+            (Fault::TrialNumber, 6) => answer.number = 0,
+            _ => (),
+        }
+        answer
     }
 
     fn save(&self, s: &mut Equaliser, buffer: &mut [u8]) -> Saved {
+        self.tried.set(false);
         let saved = self.side.save(s, buffer);
         match (self.fault, saved.number) {
+            (Fault::SaveRecord, _) => s.weights[0] ^= 1,
             (Fault::RefusedBuffer, 7) => flip(buffer.first_mut()),
             (Fault::Image, 0) if s.weights.iter().any(|&w| w != 0) => flip(buffer.get_mut(12)),
             (Fault::AfterImage, 0) => flip(buffer.get_mut(saved.length)),
@@ -185,6 +248,7 @@ impl Operations for Faulty<'_> {
     }
 
     fn load(&self, bytes: &[u8]) -> Answer {
+        self.tried.set(false);
         let mut answer = self.side.load(bytes);
         match (self.fault, answer.number) {
             (Fault::Loaded, 0) => answer.state.b ^= 1,

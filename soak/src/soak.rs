@@ -86,14 +86,8 @@ pub fn with_sides<T>(fault: Option<Fault>, work: impl FnOnce(&dyn Side, &dyn Sid
     let Some(fault) = fault else {
         return work(&Library, &Second);
     };
-    let library = Faulty {
-        side: &Library,
-        fault,
-    };
-    let second = Faulty {
-        side: &Second,
-        fault,
-    };
+    let library = Faulty::new(&Library, fault);
+    let second = Faulty::new(&Second, fault);
     if fault.in_both() {
         work(&library, &second)
     } else {

@@ -136,6 +136,22 @@ fn faulty_list(fault: Fault, place: u64) -> (Vec<Call>, Option<Failure>) {
 }
 
 #[test]
+fn a_trial_is_checked_as_a_block_is() {
+    let faults = [
+        (Fault::WeightInBoth, "figure"),
+        (Fault::OutputInBoth, "figure"),
+        (Fault::SpareInBoth, "state"),
+    ];
+    for (fault, check) in faults {
+        for kind in ["block", "trial"] {
+            let mut failures = (0..200).filter_map(|place| faulty_list(fault, place).1);
+            let found = failures.any(|f| f.kind == kind && f.failing.check == check);
+            assert!(found, "{fault:?} in a {kind}");
+        }
+    }
+}
+
+#[test]
 fn a_shrunk_list_fails_in_the_same_check() {
     for (name, fault) in Fault::ALL
         .into_iter()

@@ -54,17 +54,34 @@ fn every_fault_is_found_saved_and_found_again() {
 }
 
 #[test]
-fn faults_on_both_sides_are_found_by_a_figure() {
+fn faults_are_found_by_their_own_check() {
     let wanted = [
+        ("trial-state", ", trial: state, "),
+        ("trial-refused-output", ", trial: Z, place 0: library "),
+        ("trial-record", ", trial: record, weight 0: library "),
+        (
+            "trial-refused-record",
+            ", trial: record, weight 0: library ",
+        ),
+        ("trial-number", ", trial: answer, place 0: library 0, "),
+        ("save-record", ", save: record, weight 0: library "),
         ("weight-in-both", "a weight is too far from the exact step"),
         ("output-in-both", "y is a unit off"),
+        (
+            "trial-state-in-both",
+            ", trial: library: state, weight 0: trial ",
+        ),
+        (
+            "trial-kept-in-both",
+            ", set-up: library: record, M: with the trials ",
+        ),
         ("cable-least-in-both", "of the trace answers 4"),
     ];
-    for (name, figure) in wanted {
-        let folder = Folder::new(&format!("figure-{name}"));
+    for (name, check) in wanted {
+        let folder = Folder::new(&format!("check-{name}"));
         let ended = soak(&folder, &["--fault", name, "3"]);
         assert_eq!(ended.status, Some(1));
-        assert!(ended.out.contains(figure), "{}", ended.out);
+        assert!(ended.out.contains(check), "{name}: {}", ended.out);
     }
 }
 
