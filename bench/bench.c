@@ -76,6 +76,20 @@ static double timed_run(int who) {
     return (now() - start) / (BLOCKS * N);
 }
 
+// Nanoseconds per sample of a trial, or of a run.
+static double timed_trial(int tried) {
+    const tigbulode_equaliser *s = &current.state[PROVED];
+    double start = now();
+    for (int i = 0; i < BLOCKS; i++) {
+        const channel_block *b = &current.blocks[i];
+        if (!tried)
+            run_block(&current, PROVED, b, decided);
+        else if (tigbulode_trial(s, b->m, N, b->gains, N, decided, N, y, N, xi, N, decision, N, z, N, theta, N).number)
+            fail("a trial on the channel was refused");
+    }
+    return (now() - start) / (BLOCKS * N);
+}
+
 // Microseconds for a cable.
 static double timed_cable(int who) {
     static uint8_t room[CABLE_ROOM];
@@ -135,14 +149,15 @@ static void check_cable_answers(void) {
 }
 
 static void check_answers(void) {
-    unsigned counts[10] = {0}, wrong[3];
+    unsigned counts[10] = {0}, tried[10] = {0}, wrong[3];
     const int sizes[] = {3, 8, 16}, numbers[] = {0, 1, 2, 3, 4, 5, 6, 9};
     if (!check_same(careful_run, 200000, counts)) fail("careful C and the proved code differ");
     if (!check_same(careful_native_run, 50000, counts)) fail("careful C for this processor and the proved code differ");
-    printf("careful C and the proved code agree bit for bit; random calls by answer:");
+    if (!check_same(tried_run, 50000, tried)) fail("a trial and a run differ");
+    printf("careful C and the proved code agree bit for bit, and trials and runs; random calls by answer:");
     for (int i = 0; i < 8; i++) {
         printf(" %d: %u", numbers[i], counts[numbers[i]]);
-        if (counts[numbers[i]] == 0) fail("an answer was never seen");
+        if (counts[numbers[i]] == 0 || tried[numbers[i]] == 0) fail("an answer was never seen");
     }
     printf("\n");
     for (int i = 0; i < 3; i++) {
@@ -168,6 +183,18 @@ static void print_table(const char *title, const int (*sizes)[2], int rows) {
     }
 }
 
+static void print_trials(const int (*sizes)[2], int rows) {
+    printf("\nNanoseconds per sample of a trial beside a run\n");
+    printf("        |       run       |      trial      |    trial/run\n");
+    printf("  p   q |  median   least |  median   least | median   least\n");
+    for (int i = 0; i < rows; i++) {
+        prepare(&current, sizes[i][0], sizes[i][1]);
+        figures f = measure(timed_trial, 2);
+        printf("%3d %3d | %7.2f %7.2f | %7.2f %7.2f | %6.2f %7.2f\n", sizes[i][0], sizes[i][1], f.median[0], f.least[0],
+               f.median[1], f.least[1], 1 / f.ratio[1], f.least[1] / f.least[0]);
+    }
+}
+
 static void print_cable(void) {
     longest_cable(&longest);
     figures f = measure(timed_cable, PLAIN);
@@ -188,11 +215,13 @@ int main(void) {
     print_table("Nanoseconds per sample, N = 128, r = 2, L = 1, greatest admitted M, decided", main_sizes, 3);
     print_table("The same as p + q grows", growth, 6);
     print_table("The same with p + q split unevenly", uneven, 5);
+    print_trials(main_sizes, 3);
     print_cable();
     printf("\nMemory of a station: %zu bytes of record, at most %d bytes of image\n", sizeof(tigbulode_equaliser),
            12 + 4 * 32);
     printf("Stack of a block run: proved %zu bytes, careful C %zu bytes\n", stack_of(tigbulode_run),
            stack_of(careful_run));
+    printf("Stack of a trial with its answer: proved %zu bytes\n", stack_of(tried_run));
     printf("Stack of a cable: proved %zu bytes, careful C %zu bytes\n", stack_of_cable(tigbulode_cable),
            stack_of_cable(careful_cable));
     return 0;

@@ -29,6 +29,20 @@ static uint8_t call(run_call *run, outcome *o, const lent *b) {
                o->decision, n[DECISION], o->z, n[Z], o->theta, n[THETA]);
 }
 
+uint8_t tried_run(tigbulode_equaliser *s, const int16_t *m, size_t m_length, const uint8_t *gains,
+                  size_t gains_length, const int8_t *entries, size_t entries_length, int32_t *y, size_t y_length,
+                  uint8_t *xi, size_t xi_length, int8_t *decision, size_t decision_length, int32_t *z,
+                  size_t z_length, uint8_t *theta, size_t theta_length) {
+    static tigbulode_equaliser before;
+    before = *s;
+    const tigbulode_answer a =
+        tigbulode_trial(s, m, m_length, gains, gains_length, entries, entries_length, y, y_length, xi, xi_length,
+                        decision, decision_length, z, z_length, theta, theta_length);
+    if (memcmp(s, &before, sizeof before) != 0) return 255;
+    *s = a.state;
+    return a.number;
+}
+
 static void spoil_state(tigbulode_equaliser *e) {
     uint8_t *bytes = (uint8_t *)e;
     switch (any_below(4)) {

@@ -7,6 +7,9 @@
 // Random calls, counted by their answers; 0 at the first call where the other differs from the proved code.
 int check_same(run_call *other, unsigned calls, unsigned counts[10]);
 
+// A trial whose state is then taken, with the contract of tigbulode_run; 255 where it wrote to the record.
+run_call tried_run;
+
 // Decisions on an easy channel after training that are not the symbols sent, of the proved code, careful C
 // and float; 0 if a block is refused.
 int check_channel(int p, int q, unsigned wrong[3]);
