@@ -2,14 +2,15 @@
 use mathlib.Core.Path.{_≡_, refl, sym, ap, _∙_}
 use mathlib.Core.List.{List, [], _∷_}
 use Prim.Native.Nat.{ℕ}
+use Rattle.block.specs.Block.{Outputs}
 use Rattle.state.specs.declared.equaliser.Equaliser.{Equaliser}
 use Rattle.state.specs.declared.equaliser.Answer.{Answer}
 use Rattle.checks.specs.Checks.{Lent}
 use Rattle.station.specs.Claim.{Call, run, trial, save, load, left, leftBy, Holds}
-use Rattle.station.specs.Trials.{Handed, InPlace, Trial, SameAsRun, Leaves, ran, tried, saved, loaded, Records, end, next, states, without, gets}
+use Rattle.station.specs.Trials.{InPlace, Trial, SameAsRun, Leaves, ran, tried, saved, loaded, Records, end, next, states, without, gets}
 
 -- for every record and all lent lists
-pub trial-is-run : (s : Equaliser) (l : Lent) (a : Answer) (s′ : Equaliser) (h : Handed) (n : ℕ) (c : Equaliser) (k : Handed) → Trial s l a s′ h → InPlace s l n c k → SameAsRun a h n c k
+pub trial-is-run : (s : Equaliser) (l : Lent) (a : Answer) (s′ : Equaliser) (h : Outputs) (n : ℕ) (c : Equaliser) (k : Outputs) → Trial s l a s′ h → InPlace s l n c k → SameAsRun a h n c k
 trial-is-run s l a s′ h n c k (t, e) r = record {
   number = t .number ∙ sym (r .number);
   state = t .state ∙ sym (r .state);

@@ -2,8 +2,8 @@
 use mathlib.Core.Path.{_≡_}
 use mathlib.Core.List.{List, [], _∷_}
 use Prim.Native.Nat.{ℕ}
-use lib.IntN.{ℤ}
 use Rattle.laws.specs.Sums.{Each}
+use Rattle.block.specs.Block.{Outputs}
 use Rattle.image.specs.Image.{Byte, Save}
 use Rattle.image.specs.Load.{Load}
 use Rattle.image.specs.declared.save.Saved.{Saved}
@@ -15,24 +15,16 @@ use Rattle.station.specs.Claim.{Typed, Call, run, trial, save, load, lef
 
 -- ---- one trial beside the call in place
 
--- five lists
-pub record Handed : Type 0 where
-  pub y : List ℤ
-  pub xi : List ℕ
-  pub decision : List ℤ
-  pub z : List ℤ
-  pub theta : List ℕ
-
 -- the call in place on the record s: its number, the record after it, and the lists after it
-abbrev pub InPlace : Equaliser → Lent → ℕ → Equaliser → Handed → Type 0
+abbrev pub InPlace : Equaliser → Lent → ℕ → Equaliser → Outputs → Type 0
 InPlace s l n s′ h = Run s l (record { number = n; state = s′ }) (h .y) (h .xi) (h .decision) (h .z) (h .theta)
 
 -- a trial on the record s: its answer, the record after it, and the lists after it
-abbrev pub Trial : Equaliser → Lent → Answer → Equaliser → Handed → Type 0
+abbrev pub Trial : Equaliser → Lent → Answer → Equaliser → Outputs → Type 0
 Trial s l a s′ h = Run s l a (h .y) (h .xi) (h .decision) (h .z) (h .theta) × (s′ ≡ s)
 
 -- a trial that answers a and writes h, and the call in place on a copy, which answers n, leaves c in the copy and writes k
-pub record SameAsRun (a : Answer) (h : Handed) (n : ℕ) (c : Equaliser) (k : Handed) : Type 0 where
+pub record SameAsRun (a : Answer) (h : Outputs) (n : ℕ) (c : Equaliser) (k : Outputs) : Type 0 where
   pub number : a .number ≡ n
   pub state : a .state ≡ c
   pub y-same : h .y ≡ k .y
@@ -45,8 +37,8 @@ pub record SameAsRun (a : Answer) (h : Handed) (n : ℕ) (c : Equaliser) (k : Ha
 
 -- the record s before a call and s′ after it, by the call's contract. The state that a load answers is the station's from then on
 pub data Leaves (s : Equaliser) : Call → Equaliser → Type 0 where
-  ran : (l : Lent) (t : Typed l) (n : ℕ) (s′ : Equaliser) (h : Handed) → InPlace s l n s′ h → Leaves s (run l t) s′
-  tried : (l : Lent) (t : Typed l) (a : Answer) (s′ : Equaliser) (h : Handed) → Trial s l a s′ h → Leaves s (trial l t) s′
+  ran : (l : Lent) (t : Typed l) (n : ℕ) (s′ : Equaliser) (h : Outputs) → InPlace s l n s′ h → Leaves s (run l t) s′
+  tried : (l : Lent) (t : Typed l) (a : Answer) (s′ : Equaliser) (h : Outputs) → Trial s l a s′ h → Leaves s (trial l t) s′
   saved : (buffer : List ℕ) (t : Each Byte buffer) (a : Saved) (after : List ℕ) (s′ : Equaliser) → Save s buffer a after → s′ ≡ s → Leaves s (save buffer t) s′
   loaded : (bytes : List ℕ) (t : Each Byte bytes) (a : Answer) → Load bytes a → Leaves s (load bytes t) (a .state)
 
