@@ -1,11 +1,10 @@
 // The equaliser for firmware in C.
-ghost use mathlib.Core.Path.{_≡_};
 ghost use Rattle.state.specs.Sizes.{given};
 ghost use Rattle.checks.specs.Calls.{lentOf};
 ghost use Rattle.state.specs.Answers.{SetUp};
-ghost use Rattle.station.specs.Answers.{Run};
-ghost use Rattle.image.specs.Image.{Save};
+ghost use Rattle.block.specs.Calls.{outputsOf};
 ghost use Rattle.image.specs.Load.{Load};
+ghost use Rattle.firmware.specs.Trials.{InPlace, Trial, Saving};
 use image::save::Saved;
 use state::equaliser::Answer;
 use state::equaliser::Equaliser;
@@ -21,7 +20,7 @@ pub extern "C" fn tigbulode_set_up(p: u8, q: u8, n: u8, r: u8, l: u8, m: u32) ->
 // The image at the front of a lent buffer, or the number of the refusal and the buffer as it was.
 #[no_mangle]
 pub extern "C" fn tigbulode_save(s: &Equaliser, buffer: &mut [u8]) -> Saved
-    ensures { λ a. ⌜ (Save (now (s .entry)) (now (buffer .entry)) a (now (buffer .exit))) × (now (s .exit) ≡ now (s .entry)) ⌝ }
+    ensures { λ a. ⌜ Saving (now (s .entry)) (now (buffer .entry)) a (now (s .exit)) (now (buffer .exit)) ⌝ }
 {
     image::save::save(*s, buffer)
 }
@@ -47,7 +46,7 @@ pub extern "C" fn tigbulode_run(
     z: &mut [i32],
     theta: &mut [u8],
 ) -> u8
-    ensures { λ n. ⌜ Run (now (s .entry)) (lentOf (now (m .entry)) (now (gains .entry)) (now (entries .entry)) (now (y .entry)) (now (xi .entry)) (now (decision .entry)) (now (z .entry)) (now (theta .entry))) (record { number = n; state = now (s .exit) }) (now (y .exit)) (now (xi .exit)) (now (decision .exit)) (now (z .exit)) (now (theta .exit)) ⌝ }
+    ensures { λ n. ⌜ InPlace (now (s .entry)) (lentOf (now (m .entry)) (now (gains .entry)) (now (entries .entry)) (now (y .entry)) (now (xi .entry)) (now (decision .entry)) (now (z .entry)) (now (theta .entry))) n (now (s .exit)) (outputsOf (now (y .exit)) (now (xi .exit)) (now (decision .exit)) (now (z .exit)) (now (theta .exit))) ⌝ }
 {
     let r = station::run::run(*s, m, gains, entries, y, xi, decision, z, theta);
     *s = r.state;
@@ -67,7 +66,7 @@ pub extern "C" fn tigbulode_trial(
     z: &mut [i32],
     theta: &mut [u8],
 ) -> Answer
-    ensures { λ a. ⌜ (Run (now (s .entry)) (lentOf (now (m .entry)) (now (gains .entry)) (now (entries .entry)) (now (y .entry)) (now (xi .entry)) (now (decision .entry)) (now (z .entry)) (now (theta .entry))) a (now (y .exit)) (now (xi .exit)) (now (decision .exit)) (now (z .exit)) (now (theta .exit))) × (now (s .exit) ≡ now (s .entry)) ⌝ }
+    ensures { λ a. ⌜ Trial (now (s .entry)) (lentOf (now (m .entry)) (now (gains .entry)) (now (entries .entry)) (now (y .entry)) (now (xi .entry)) (now (decision .entry)) (now (z .entry)) (now (theta .entry))) a (now (s .exit)) (outputsOf (now (y .exit)) (now (xi .exit)) (now (decision .exit)) (now (z .exit)) (now (theta .exit))) ⌝ }
 {
     let r = station::run::run(*s, m, gains, entries, y, xi, decision, z, theta);
     r

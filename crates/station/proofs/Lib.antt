@@ -4,4 +4,3 @@ pub mod AnswerLaws
 pub mod StarredCases
 pub mod Claim
 pub mod NumberLaws
-pub mod Trials

@@ -1,4 +1,4 @@
--- Trials among calls, by what the operations' contracts say. A trial answers and hands out what running the block in place does, on a record that stays as it was.
+-- What the contracts of the calls for C say of a record that is held, and trials among such calls. A trial answers and hands out what running the block in place does, on a record that stays as it was.
 use mathlib.Core.Path.{_≡_}
 use mathlib.Core.List.{List, [], _∷_}
 use Prim.Native.Nat.{ℕ}
@@ -10,18 +10,22 @@ use Rattle.image.specs.declared.save.Saved.{Saved}
 use Rattle.state.specs.declared.equaliser.Equaliser.{Equaliser}
 use Rattle.state.specs.declared.equaliser.Answer.{Answer}
 use Rattle.checks.specs.Checks.{Lent}
 use Rattle.station.specs.Answers.{Run}
 use Rattle.station.specs.Claim.{Typed, Call, run, trial, save, load, left}
 
--- ---- one trial beside the call in place
+-- ---- the calls over a record that is held
 
--- the call in place on the record s: its number, the record after it, and the lists after it
+-- running a block in place on the record s: its number, the record after it, and the lists after it
 abbrev pub InPlace : Equaliser → Lent → ℕ → Equaliser → Outputs → Type 0
 InPlace s l n s′ h = Run s l (record { number = n; state = s′ }) (h .y) (h .xi) (h .decision) (h .z) (h .theta)
 
 -- a trial on the record s: its answer, the record after it, and the lists after it
 abbrev pub Trial : Equaliser → Lent → Answer → Equaliser → Outputs → Type 0
 Trial s l a s′ h = Run s l a (h .y) (h .xi) (h .decision) (h .z) (h .theta) × (s′ ≡ s)
+
+-- saving the record s: its answer, the record after it, and the buffer after it
+abbrev pub Saving : Equaliser → List ℕ → Saved → Equaliser → List ℕ → Type 0
+Saving s before a s′ after = Save s before a after × (s′ ≡ s)
 
 -- a trial that answers a and writes h, and the call in place on a copy, which answers n, leaves c in the copy and writes k
 pub record SameAsRun (a : Answer) (h : Outputs) (n : ℕ) (c : Equaliser) (k : Outputs) : Type 0 where
@@ -39,7 +43,7 @@ pub record SameAsRun (a : Answer) (h : Outputs) (n : ℕ) (c : Equaliser) (k : O
 pub data Leaves (s : Equaliser) : Call → Equaliser → Type 0 where
   ran : (l : Lent) (t : Typed l) (n : ℕ) (s′ : Equaliser) (h : Outputs) → InPlace s l n s′ h → Leaves s (run l t) s′
   tried : (l : Lent) (t : Typed l) (a : Answer) (s′ : Equaliser) (h : Outputs) → Trial s l a s′ h → Leaves s (trial l t) s′
-  saved : (buffer : List ℕ) (t : Each Byte buffer) (a : Saved) (after : List ℕ) (s′ : Equaliser) → Save s buffer a after → s′ ≡ s → Leaves s (save buffer t) s′
+  saved : (buffer : List ℕ) (t : Each Byte buffer) (a : Saved) (s′ : Equaliser) (after : List ℕ) → Saving s buffer a s′ after → Leaves s (save buffer t) s′
   loaded : (bytes : List ℕ) (t : Each Byte bytes) (a : Answer) → Load bytes a → Leaves s (load bytes t) (a .state)
 
 -- the records of a list of calls, by the contracts: the one that each call gets, and the last
@@ -67,3 +71,12 @@ gets s (run l t ∷ cs) = (s, run l t) ∷ gets (left s (run l t)) cs
 gets s (trial l t ∷ cs) = gets (left s (trial l t)) cs
 gets s (save buffer t ∷ cs) = (s, save buffer t) ∷ gets (left s (save buffer t)) cs
 gets s (load bytes t ∷ cs) = (s, load bytes t) ∷ gets (left s (load bytes t)) cs
+
+-- the records of a list but for those that its trials get
+abbrev pub recordsWithout : List Call → List Equaliser → List Equaliser
+recordsWithout [] ss = ss
+recordsWithout (c ∷ cs) [] = []
+recordsWithout (run l t ∷ cs) (s ∷ ss) = s ∷ recordsWithout cs ss
+recordsWithout (trial l t ∷ cs) (s ∷ ss) = recordsWithout cs ss
+recordsWithout (save buffer t ∷ cs) (s ∷ ss) = s ∷ recordsWithout cs ss
+recordsWithout (load bytes t ∷ cs) (s ∷ ss) = s ∷ recordsWithout cs ss
