@@ -149,11 +149,12 @@ static void check_cable_answers(void) {
 }
 
 static void check_answers(void) {
-    unsigned counts[10] = {0}, tried[10] = {0}, wrong[3];
+    unsigned counts[10] = {0}, tried[10] = {0}, unused[10] = {0}, wrong[3];
     const int sizes[] = {3, 8, 16}, numbers[] = {0, 1, 2, 3, 4, 5, 6, 9};
     if (!check_same(careful_run, 200000, counts)) fail("careful C and the proved code differ");
     if (!check_same(careful_native_run, 50000, counts)) fail("careful C for this processor and the proved code differ");
-    if (!check_same(tried_run, 50000, tried)) fail("a trial and a run differ");
+    if (!check_trials(false, 50000, tried)) fail("a trial and a run differ");
+    if (check_trials(true, 50000, unused)) fail("a trial with a fault was not found");
     printf("careful C and the proved code agree bit for bit, and trials and runs; random calls by answer:");
     for (int i = 0; i < 8; i++) {
         printf(" %d: %u", numbers[i], counts[numbers[i]]);

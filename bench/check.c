@@ -29,6 +29,8 @@ static uint8_t call(run_call *run, outcome *o, const lent *b) {
                o->decision, n[DECISION], o->z, n[Z], o->theta, n[THETA]);
 }
 
+static bool trial_at_fault;
+
 uint8_t tried_run(tigbulode_equaliser *s, const int16_t *m, size_t m_length, const uint8_t *gains,
                   size_t gains_length, const int8_t *entries, size_t entries_length, int32_t *y, size_t y_length,
                   uint8_t *xi, size_t xi_length, int8_t *decision, size_t decision_length, int32_t *z,
@@ -39,6 +41,7 @@ uint8_t tried_run(tigbulode_equaliser *s, const int16_t *m, size_t m_length, con
         tigbulode_trial(s, m, m_length, gains, gains_length, entries, entries_length, y, y_length, xi, xi_length,
                         decision, decision_length, z, z_length, theta, theta_length);
     if (memcmp(s, &before, sizeof before) != 0) return 255;
+    if (trial_at_fault && a.number == TIGBULODE_EXPONENT) y[0] ^= 1;
     *s = a.state;
     return a.number;
 }
@@ -89,6 +92,11 @@ int check_same(run_call *other, unsigned calls, unsigned counts[10]) {
         if (number != 0) one.state = any_state();
     }
     return 1;
+}
+
+int check_trials(bool at_fault, unsigned calls, unsigned counts[10]) {
+    trial_at_fault = at_fault;
+    return check_same(tried_run, calls, counts);
 }
 
 static void channel_lent(lent *b, const channel_block *c, int trained) {

@@ -2,6 +2,8 @@
 #ifndef CHECK_H
 #define CHECK_H
 
+#include <stdbool.h>
+
 #include "careful.h"
 
 // Random calls, counted by their answers; 0 at the first call where the other differs from the proved code.
@@ -9,6 +11,9 @@ int check_same(run_call *other, unsigned calls, unsigned counts[10]);
 
 // A trial whose state is then taken, with the contract of tigbulode_run; 255 where it wrote to the record.
 run_call tried_run;
+
+// check_same of trials; one at fault writes to Y where it is turned down with 6.
+int check_trials(bool at_fault, unsigned calls, unsigned counts[10]);
 
 // Decisions on an easy channel after training that are not the symbols sent, of the proved code, careful C
 // and float; 0 if a block is refused.

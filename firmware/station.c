@@ -203,9 +203,9 @@ typedef struct {
     tigbulode_equaliser before;
     tigbulode_answer answer;
     outputs out;
-    const char *record; /* kept, as it has to be */
+    const char *record; /* "kept", or "CHANGED" */
     bool taken;
-    bool same; /* as its run */
+    bool same; /* running it gave the same */
 } trial;
 
 static trial try_block(const tigbulode_equaliser *s, const block *in, size_t length) {

@@ -190,7 +190,7 @@ static inline int tigbulode_has_lists(const tigbulode_block *block) {
            block->theta;
 }
 
-/* The block, or where a list was left out one of empty lists, which point to `none`. */
+/* The block as given; where a list was left out, a block of empty lists that all point to `none`. */
 static inline tigbulode_block tigbulode_lent_lists(const tigbulode_block *block, int32_t *none) {
     tigbulode_block lists = *block;
     void *empty = none;

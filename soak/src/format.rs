@@ -6,7 +6,7 @@ use std::fmt::Write as _;
 use std::io::{Read, Write as _};
 use std::path::Path;
 use std::str::FromStr;
-use tigbulode::calls::{Call, Lists, MadeOfLists};
+use tigbulode::calls::{Call, CallOfLists, Lists};
 use tigbulode::{Equaliser, PLACES};
 
 /// The first line of every file.
@@ -137,7 +137,7 @@ fn until<'a, 'b>(words: &'a [&'b str], keyword: &str) -> Result<[&'a [&'b str]; 
 }
 
 /// A block or a trial, which `made` makes.
-fn block(words: &[&str], made: MadeOfLists) -> Result<Call, String> {
+fn block(words: &[&str], made: CallOfLists) -> Result<Call, String> {
     let (words, lent) = match words {
         [words @ .., "on", hex] => (words, Some(record(hex)?)),
         words => (words, None),

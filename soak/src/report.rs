@@ -75,6 +75,7 @@ pub fn covered(bench: &Bench) -> String {
     );
     let worst = worst(&bench.checker.worst);
     let others = bench.others;
-    let others = format!("accepted blocks and trials on a record of no list: {others}\n");
+    let others =
+        format!("accepted blocks and trials on a record other than the list's own: {others}\n");
     format!("{}{followed}{others}{worst}", bench.tally)
 }

@@ -5,7 +5,7 @@
 //! long as the list still fails in the same check.
 
 use reference::{Settings, State};
-use tigbulode::calls::{raw_image, Call, Lists, MadeOfLists};
+use tigbulode::calls::{raw_image, Call, CallOfLists, Lists};
 use tigbulode::perform::perform;
 use tigbulode::sides::{record_of, Second};
 use tigbulode::Equaliser;
@@ -213,7 +213,7 @@ fn simpler(call: &Call) -> Vec<Call> {
 }
 
 /// Blocks or trials, which `made` makes, with a simpler record or simpler lists.
-fn simpler_blocks(lists: &Lists, lent: Option<Equaliser>, made: MadeOfLists) -> Vec<Call> {
+fn simpler_blocks(lists: &Lists, lent: Option<Equaliser>, made: CallOfLists) -> Vec<Call> {
     let records = lent.iter().flat_map(simpler_records);
     let records = records.map(|record| made(lists.clone(), record));
     let simpler = simpler_lists(lists).into_iter();

@@ -137,54 +137,56 @@ fn bad_arguments_are_turned_down() {
     assert!(folder.names().is_empty());
 }
 
+/// A file, and what its message has to name.
+const BAD_FILES: &[(&str, &str)] = &[
+    ("", "first line"),
+    ("another 1\nend\n", "first line"),
+    ("{H}\nsave 20\n", "end"),
+    ("{H}\nsave\nend\n", "line 2"),
+    ("{H}\nsave 70000\nend\n", "line 2"),
+    ("{H}\n\n# x\nload 0\nend\n", "line 4"),
+    ("{H}\nload 0g\nend\n", "line 2"),
+    ("{H}\nset-up 1 1 1 0 0\nend\n", "line 2"),
+    ("{H}\nset-up 1 1 256 0 0 0\nend\n", "line 2"),
+    (
+        "{H}\nblock m 1 gains 0 entries 0 rooms 1 1 1 1\nend\n",
+        "line 2",
+    ),
+    (
+        "{H}\nblock m 32768 gains 0 entries 0 rooms 1 1 1 1 1\nend\n",
+        "line 2",
+    ),
+    (
+        "{H}\nblock gains 0 m 1 entries 0 rooms 1 1 1 1 1\nend\n",
+        "line 2",
+    ),
+    (
+        "{H}\ntrial m 1 gains 0 entries 0 rooms 1 1 1 1\nend\n",
+        "line 2",
+    ),
+    ("{H}\ntrial\nend\n", "line 2"),
+    ("{H}\nsave 20 on 00\nend\n", "line 2"),
+    ("{H}\nfault none\nend\n", "line 2"),
+    ("{H}\nrun\nend\n", "line 2"),
+    ("{C}\n", "end"),
+    ("{C}\nend\n", "no \"settings\""),
+    ("{C}\nsettings 1 1 1 0 0\nend\n", "line 2"),
+    ("{C}\nresponse 32768\nend\n", "line 2"),
+    ("{C}\n# x\nsymbols 128\nend\n", "line 3"),
+    ("{C}\ntraining 1\ntraining 1\nend\n", "line 3"),
+    ("{C}\nroom 1048577\nend\n", "line 2"),
+    ("{C}\nfault none\nend\n", "line 2"),
+    ("{C}\nload 00\nend\n", "line 2"),
+    (
+        "{C}\nsettings 1 1 1 0 0 0\nresponse\nsymbols 1\nroom 16\nend\n",
+        "no \"training\"",
+    ),
+];
+
 #[test]
 fn bad_files_are_turned_down() {
     let folder = Folder::new("files");
-    let bad = [
-        ("", "first line"),
-        ("another 1\nend\n", "first line"),
-        ("{H}\nsave 20\n", "end"),
-        ("{H}\nsave\nend\n", "line 2"),
-        ("{H}\nsave 70000\nend\n", "line 2"),
-        ("{H}\n\n# x\nload 0\nend\n", "line 4"),
-        ("{H}\nload 0g\nend\n", "line 2"),
-        ("{H}\nset-up 1 1 1 0 0\nend\n", "line 2"),
-        ("{H}\nset-up 1 1 256 0 0 0\nend\n", "line 2"),
-        (
-            "{H}\nblock m 1 gains 0 entries 0 rooms 1 1 1 1\nend\n",
-            "line 2",
-        ),
-        (
-            "{H}\nblock m 32768 gains 0 entries 0 rooms 1 1 1 1 1\nend\n",
-            "line 2",
-        ),
-        (
-            "{H}\nblock gains 0 m 1 entries 0 rooms 1 1 1 1 1\nend\n",
-            "line 2",
-        ),
-        (
-            "{H}\ntrial m 1 gains 0 entries 0 rooms 1 1 1 1\nend\n",
-            "line 2",
-        ),
-        ("{H}\ntrial\nend\n", "line 2"),
-        ("{H}\nsave 20 on 00\nend\n", "line 2"),
-        ("{H}\nfault none\nend\n", "line 2"),
-        ("{H}\nrun\nend\n", "line 2"),
-        ("{C}\n", "end"),
-        ("{C}\nend\n", "no \"settings\""),
-        ("{C}\nsettings 1 1 1 0 0\nend\n", "line 2"),
-        ("{C}\nresponse 32768\nend\n", "line 2"),
-        ("{C}\n# x\nsymbols 128\nend\n", "line 3"),
-        ("{C}\ntraining 1\ntraining 1\nend\n", "line 3"),
-        ("{C}\nroom 1048577\nend\n", "line 2"),
-        ("{C}\nfault none\nend\n", "line 2"),
-        ("{C}\nload 00\nend\n", "line 2"),
-        (
-            "{C}\nsettings 1 1 1 0 0 0\nresponse\nsymbols 1\nroom 16\nend\n",
-            "no \"training\"",
-        ),
-    ];
-    for (text, wanted) in bad {
+    for (text, wanted) in BAD_FILES {
         let text = text.replace("{H}", HEADING);
         let text = text.replace("{C}", cables::format::HEADING);
         std::fs::write(folder.0.join("list"), &text).unwrap();

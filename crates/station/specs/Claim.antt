@@ -123,7 +123,7 @@ pub record RunHolds (s : Equaliser) (l : Lent) : Type 0 where
   pub accepted : runNumber s l ≡ 0 → AcceptedBlock s l
   pub refused : (runNumber s l ≡ 0 → ⊥) → runState s l ≡ s
 
--- a trial is not turned down for its state, what it hands out is what the block would, and the state that it hands back is within its limits too
+-- a trial is not turned down for its state, all that is said of a block holds of it, and the state that it hands back is within its limits too
 pub record TrialHolds (s : Equaliser) (l : Lent) : Type 0 where
   pub as-run : RunHolds s l
   pub handed-back : WithinLimits (runState s l)

@@ -48,7 +48,7 @@ pub enum Call {
 }
 
 /// [`Call::Block`] or [`Call::Trial`].
-pub type MadeOfLists = fn(Lists, Option<Equaliser>) -> Call;
+pub type CallOfLists = fn(Lists, Option<Equaliser>) -> Call;
 
 impl Call {
     /// The names of the five kinds.

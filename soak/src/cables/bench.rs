@@ -26,7 +26,7 @@ impl Simulation for Second {
     }
 }
 
-/// The four operations and the cable.
+/// The five operations and the cable.
 pub trait Side: Operations + Simulation {}
 
 impl<T: Operations + Simulation> Side for T {}

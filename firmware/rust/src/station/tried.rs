@@ -9,10 +9,10 @@ pub struct Trial {
     pub before: Equaliser,
     pub answer: Answer,
     pub out: Handed,
-    /// Kept, as it has to be.
+    /// "kept", or "CHANGED".
     pub record: &'static str,
     taken: bool,
-    /// As its run.
+    /// Running it gave the same.
     same: bool,
 }
 
