@@ -17,7 +17,7 @@ pub extern "C" fn tigbulode_set_up(p: u8, q: u8, n: u8, r: u8, l: u8, m: u32) ->
     Equaliser::set_up(p, q, n, r, l, m)
 }
 
-// The image at the front of a lent buffer, or the number of the refusal and the buffer as it was.
+// The image at the front of a lent buffer, or the number of the refusal and the buffer as it was. The record is only read.
 #[no_mangle]
 pub extern "C" fn tigbulode_save(s: &Equaliser, buffer: &mut [u8]) -> Saved
     ensures { λ a. ⌜ Saving (now (s .entry)) (now (buffer .entry)) a (now (s .exit)) (now (buffer .exit)) ⌝ }
@@ -53,7 +53,7 @@ pub extern "C" fn tigbulode_run(
     r.number
 }
 
-// A trial of a block: the state that would follow and five lists, or the number of the refusal and everything as it was.
+// A trial of a block: the state that would follow and five lists, or the number of the refusal, the given state and the lists as they were. The record is only read.
 #[no_mangle]
 pub extern "C" fn tigbulode_trial(
     s: &Equaliser,
