@@ -6,8 +6,8 @@ use Rattle.block.specs.Block.{Outputs}
 use Rattle.state.specs.declared.equaliser.Equaliser.{Equaliser}
 use Rattle.state.specs.declared.equaliser.Answer.{Answer}
 use Rattle.checks.specs.Checks.{Lent}
-use Rattle.station.specs.Claim.{Call, run, trial, save, load, left, leftBy, Holds}
-use Rattle.firmware.specs.Trials.{InPlace, Trial, SameAsRun, Leaves, ran, tried, saved, loaded, Records, end, next, states, without, gets, recordsWithout}
+use Rattle.station.specs.Claim.{Call, run, trial, save, load, left, Holds}
+use Rattle.firmware.specs.Trials.{InPlace, Trial, SameAsRun, Leaves, ran, tried, saved, loaded, Records, end, next, states, without, recordsWithout}
 
 -- for every record and all lent lists
 pub trial-is-run : (s : Equaliser) (l : Lent) (a : Answer) (s′ : Equaliser) (h : Outputs) (n : ℕ) (c : Equaliser) (k : Outputs) → Trial s l a s′ h → InPlace s l n c k → SameAsRun a h n c k
@@ -33,30 +33,15 @@ pub records-are : (s : Equaliser) (cs : List Call) (ss : List Equaliser) → Rec
 records-are s cs ss (end s₀) = refl
 records-are s cs ss (next s₀ s′ c cs′ ss′ m r) = ap (λ (l : List Equaliser). s₀ ∷ l) (records-are s′ cs′ ss′ r ∙ ap (λ (x : Equaliser). states x cs′) (leaves-left s₀ c s′ m))
 
--- blocks, saves and loads get the states of the list without its trials
-pub gets-without : (s : Equaliser) (cs : List Call) → gets s cs ≡ gets s (without cs)
-gets-without s [] = refl
-gets-without s (run l t ∷ cs) = ap (λ (g : List (Equaliser × Call)). (s, run l t) ∷ g) (gets-without (left s (run l t)) cs)
-gets-without s (trial l t ∷ cs) = gets-without s cs
-gets-without s (save buffer t ∷ cs) = ap (λ (g : List (Equaliser × Call)). (s, save buffer t) ∷ g) (gets-without s cs)
-gets-without s (load bytes t ∷ cs) = ap (λ (g : List (Equaliser × Call)). (s, load bytes t) ∷ g) (gets-without (left s (load bytes t)) cs)
-
--- and the last state is the same
-pub left-without : (s : Equaliser) (cs : List Call) → leftBy s cs ≡ leftBy s (without cs)
-left-without s [] = refl
-left-without s (run l t ∷ cs) = left-without (left s (run l t)) cs
-left-without s (trial l t ∷ cs) = left-without s cs
-left-without s (save buffer t ∷ cs) = left-without s cs
-left-without s (load bytes t ∷ cs) = left-without (left s (load bytes t)) cs
-
-states-without : (s : Equaliser) (cs : List Call) → recordsWithout cs (states s cs) ≡ states s (without cs)
+-- blocks, saves and loads get the states of the list without its trials, and the last state is the same
+pub states-without : (s : Equaliser) (cs : List Call) → recordsWithout cs (states s cs) ≡ states s (without cs)
 states-without s [] = refl
 states-without s (run l t ∷ cs) = ap (λ (ss : List Equaliser). s ∷ ss) (states-without (left s (run l t)) cs)
 states-without s (trial l t ∷ cs) = states-without s cs
 states-without s (save buffer t ∷ cs) = ap (λ (ss : List Equaliser). s ∷ ss) (states-without s cs)
 states-without s (load bytes t ∷ cs) = ap (λ (ss : List Equaliser). s ∷ ss) (states-without (left s (load bytes t)) cs)
 
--- by the contracts alone: the records of a list, but for those that its trials get, are the records of the list without its trials
+-- the same of the records, by the contracts alone
 pub records-without : (s : Equaliser) (cs : List Call) (ss ss′ : List Equaliser) → Records s cs ss → Records s (without cs) ss′ → recordsWithout cs ss ≡ ss′
 records-without s cs ss ss′ r r′ = ap (recordsWithout cs) (records-are s cs ss r) ∙ states-without s cs ∙ sym (records-are s (without cs) ss′ r′)
 

@@ -64,15 +64,7 @@ without (trial l t ∷ cs) = without cs
 without (save buffer t ∷ cs) = save buffer t ∷ without cs
 without (load bytes t ∷ cs) = load bytes t ∷ without cs
 
--- the blocks, saves and loads of a list, each with the state that it gets
-abbrev pub gets : Equaliser → List Call → List (Equaliser × Call)
-gets s [] = []
-gets s (run l t ∷ cs) = (s, run l t) ∷ gets (left s (run l t)) cs
-gets s (trial l t ∷ cs) = gets (left s (trial l t)) cs
-gets s (save buffer t ∷ cs) = (s, save buffer t) ∷ gets (left s (save buffer t)) cs
-gets s (load bytes t ∷ cs) = (s, load bytes t) ∷ gets (left s (load bytes t)) cs
-
--- the records of a list but for those that its trials get
+-- the records of a list but for those that its trials get: those that its blocks, saves and loads get, and the last
 abbrev pub recordsWithout : List Call → List Equaliser → List Equaliser
 recordsWithout [] ss = ss
 recordsWithout (c ∷ cs) [] = []
