@@ -212,10 +212,51 @@ mod tests {
     }
 
     #[test]
-    fn scale_counts_are_the_sixteen_entries() {
-        let entries = [1, 2, 3, 3, 4, 4, 4, 4, 5, 5, 5, 5, 5, 5, 5, 5];
-        for (k, entry) in (1..=16).zip(entries) {
-            assert_eq!(scale_count(k), entry);
+    fn scale_counts_are_the_least_that_reach_2k() {
+        for k in 1..=u8::MAX {
+            let s = scale_count(k);
+            let doubled = 2 * i128::from(k);
+            assert!(1 << s >= doubled, "{k}");
+            assert!(1 << (s - 1) < doubled, "{k}");
+        }
+    }
+
+    /// Whether S(k) is the bit length of `number` of k for every k from 1 to
+    /// `last`.
+    fn agrees(last: u8, number: fn(i128) -> i128) -> bool {
+        (1..=last).all(|k| scale_count(k) == bit_length(number(i128::from(k))))
+    }
+
+    #[test]
+    fn scale_counts_are_the_bit_lengths_of_2k_less_1() {
+        assert!(agrees(u8::MAX, |k| 2 * k - 1));
+    }
+
+    #[test]
+    fn sixteen_scale_counts_tell_wrong_formulas_apart() {
+        assert!(agrees(16, |k| 2 * k - 1));
+        assert!(!agrees(16, |k| 2 * k));
+        assert!(!agrees(16, |k| k));
+        assert!(!agrees(16, |k| 2 * k - 2));
+    }
+
+    #[test]
+    fn scale_counts_by_ranges() {
+        let ranges = [
+            (1..=1, 1),
+            (2..=2, 2),
+            (3..=4, 3),
+            (5..=8, 4),
+            (9..=16, 5),
+            (17..=32, 6),
+            (33..=64, 7),
+            (65..=128, 8),
+            (129..=u8::MAX, 9),
+        ];
+        for (range, s) in ranges {
+            for k in range {
+                assert_eq!(scale_count(k), s, "{k}");
+            }
         }
     }
 
