@@ -3,10 +3,12 @@
 use reference::block::{work, BlockDetail, SampleDetail};
 use reference::cable::{gain, mantissa, sum_at};
 use reference::description::description;
+use reference::numbers::scale_count;
 use reference::trace::trace_with_state;
 use reference::vectors::spoiled::worked_example;
 use reference::{load, save, set_up, trace, Inputs, Settings, State};
 use std::fmt::Display;
+use std::ops::RangeInclusive;
 
 fn file(name: &str) -> Vec<u8> {
     let path = format!("{}/../{name}", env!("CARGO_MANIFEST_DIR"));
@@ -99,6 +101,55 @@ const SAMPLES: [(i16, u8, i8); 8] = [
     (3001, 3, 0),
     (-4003, 3, 0),
 ];
+
+/// The scale count that every k of the range has.
+fn common_scale_count(range: RangeInclusive<u8>) -> i32 {
+    let s = scale_count(*range.start());
+    for k in range {
+        assert_eq!(scale_count(k), s, "{k}");
+    }
+    s
+}
+
+/// The scale counts of 1 to 16, then that of 17 to 32 and that of 33 to 64.
+fn scale_counts() -> Vec<i32> {
+    let later = [common_scale_count(17..=32), common_scale_count(33..=64)];
+    (1..=16).map(scale_count).chain(later).collect()
+}
+
+/// What the page has of these counts: among the numbers, and a line among the
+/// cases beside the limits.
+fn texts_of_scale_counts(counts: &[i32]) -> [String; 2] {
+    let (sixteen, later) = counts.split_at(16);
+    let sixteen = words(sixteen);
+    let (to_32, to_64) = (later[0], later[1]);
+    [
+        format!(
+            "For k = 1 to 16: {sixteen}; \
+             for k = 17 to 32 it is {to_32}, for k = 33 to 64 it is {to_64}."
+        ),
+        format!(
+            "\n- S(k) for k = 1 to 16: {sixteen} (\\*); \
+             {to_32} for k = 17 to 32 (\\*); {to_64} for k = 33 to 64 (\\*).\n"
+        ),
+    ]
+}
+
+#[test]
+fn the_scale_counts_are_on_the_page() {
+    let page = page();
+    let counts = scale_counts();
+    for text in texts_of_scale_counts(&counts) {
+        assert!(page.contains(&text), "{text}");
+    }
+    for place in 0..counts.len() {
+        let mut other = counts.clone();
+        other[place] += 1;
+        for text in texts_of_scale_counts(&other) {
+            assert!(!page.contains(&text), "{text}");
+        }
+    }
+}
 
 #[test]
 fn the_traces_texts_and_images_are_on_the_page() {
@@ -229,9 +280,8 @@ fn the_cable_is_on_the_page() {
         let entry = if n < 3 { symbol } else { 0 };
         let is_row = |line: &&str| {
             let cells: Vec<&str> = line.split('|').map(str::trim).collect();
-            let ends = |cell: &str, value: String| {
-                cell == value || cell.ends_with(&format!(" = {value}"))
-            };
+            let ends =
+                |cell: &str, value: String| cell == value || cell.ends_with(&format!(" = {value}"));
             cells.len() == 8
                 && cells[1] == n.to_string()
                 && cells[2] == words([symbol])
