@@ -5,7 +5,6 @@ pub mod Polynomials
 pub mod Ring
 pub mod Powers
 pub mod Lists
-pub mod Tables
 pub mod Sums
 pub mod Machine
 pub mod Tests

@@ -1,19 +1,17 @@
 -- Laws of the scale count: the rule, and what it says of 2^S.
 use mathlib.Core.Path.{_≡_, refl, sym, ap, _∙_, subst}
-use mathlib.Core.Bool.{Bool, true, false, cond, _&&_}
-use mathlib.Core.List.{List}
+use mathlib.Core.Bool.{Bool, true, false, cond}
 use Prim.Native.Nat.{ℕ, zero, suc, _+_, _*_, _-_, _^_, _≤_, _<_}
 use native.Mathlib.Omega.{arith}
-use native.Mathlib.Nat.{le-antisymm, le-of-lt, lt-of-not-le, not-suc-le-self}
+use native.Mathlib.Nat.{le-antisymm, le-of-lt}
 use native.Mathlib.Decide.{decLe}
-use lib.Dec.{T, leb, ltb}
-use lib.ListN.{length, getD}
+use lib.Dec.{T, leb}
 use lib.Arith.{lt-of-le-ne}
-use borrow.Author.Tests.{le-leb, leb-true, ltb-true}
-use Rattle.laws.specs.Lists.{and-left, and-right}
-use Rattle.laws.specs.Tables.{tested, tested-at}
-use Rattle.laws.specs.Powers.{above, double, exponent-lt}
+use borrow.Author.Tests.{le-leb, leb-true}
+use Rattle.laws.specs.Powers.{above}
+use Rattle.numbers.specs.BitLength.{bitLength}
 use Rattle.numbers.specs.ScaleCount.{first, scaleCount}
+use Rattle.numbers.proofs.BitLengthLaws.{bit-length-above, bit-length-least, bit-length-le}
 
 -- ---- the first that passes a test
 
@@ -59,28 +57,13 @@ scale-least k s h = go (decLe s (2 * k))
     go (yes l) = first-passes (λ s. leb (2 * k) (2 ^ s)) (2 * k) 0 s (omega arith) (omega arith) (le-leb _ _ h) .1
     go (no l) = omega (arith, first-within (λ s. leb (2 * k) (2 ^ s)) (2 * k) 0)
 
+-- ---- the bit length
+
+-- S(k) is the bit length of 2k − 1
+pub scale-bits : (k : ℕ) → 1 ≤ k → scaleCount k ≡ bitLength (2 * k - 1)
+scale-bits k p =
+    le-antisymm (scale-least k (bitLength (2 * k - 1)) (omega (arith, bit-length-above (2 * k - 1)))) (bit-length-le (2 * k - 1) (scaleCount k) (omega (arith, scale-enough k)))
+
 -- so 2^S is below 4k
 pub scale-below : (k : ℕ) → 1 ≤ k → 2 ^ scaleCount k < 4 * k
-scale-below k p = go (scaleCount k) (scale-least k)
-  where
-    go : (s : ℕ) → ((t : ℕ) → 2 * k ≤ 2 ^ t → s ≤ t) → 2 ^ s < 4 * k
-    go zero least = omega arith
-    go (suc s) least = omega (arith, double s, lt-of-not-le {n = 2 * k} {m = 2 ^ s} (λ q. not-suc-le-self s (least s q)))
-
--- the two bounds give the number
-pub scale-is : (k s : ℕ) → 2 * k ≤ 2 ^ s → 2 ^ s < 4 * k → s ≡ scaleCount k
-scale-is k s h l =
-    le-antisymm (omega (arith, exponent-lt s (suc (scaleCount k)) (omega (arith, scale-enough k, double (scaleCount k))))) (scale-least k s h)
-
--- ---- a table
-
--- 2k ≤ 2^S < 4k, where S stands at the place k − 1
-abbrev pub within : ℕ → ℕ → Bool
-within i s = leb (2 * suc i) (2 ^ s) && ltb (2 ^ s) (4 * suc i)
-
--- a table of which each entry passes that test has the scale counts from k = 1 on
-pub table-entry : (xs : List ℕ) → tested within 0 xs ≡ true → (k : ℕ) → 1 ≤ k → k ≤ length xs → getD xs (k - 1) 0 ≡ scaleCount k
-table-entry xs t k p h =
-    let s = tested-at within xs t (k - 1) (omega arith) in
-    scale-is (suc (k - 1)) (getD xs (k - 1) 0) (leb-true _ _ (and-left _ _ s)) (ltb-true _ _ (and-right (leb (2 * suc (k - 1)) (2 ^ getD xs (k - 1) 0)) _ s))
-    ∙ ap scaleCount (omega arith)
+scale-below k p = omega (arith, ap (λ (s : ℕ). 2 ^ s) (scale-bits k p), bit-length-least (2 * k - 1) (omega arith))

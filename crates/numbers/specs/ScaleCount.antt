@@ -11,7 +11,3 @@ first test (suc d) s = cond (test s) s (first test d (suc s))
 unfoldable pub scaleCount : ℕ → ℕ
 unfolding first
 scaleCount k = first (λ s. leb (2 * k) (2 ^ s)) (2 * k) 0
-
--- the greatest k whose scale count is in the table
-abbrev pub countLimit : ℕ
-countLimit = 16

@@ -1,17 +1,11 @@
 ghost use mathlib.Core.Path.{_≡_};
-ghost use Prim.Native.Nat.{_≤_};
-ghost use Rattle.numbers.specs.ScaleCount.{scaleCount, countLimit};
+ghost use Prim.Native.Nat.{_^_, _≤_, _<_};
+ghost use Rattle.numbers.specs.ScaleCount.{scaleCount};
 
-// How many scale counts the table has.
-const COUNTS: usize = 16;
-
-// S(1), S(2) and so on.
-const SCALE_COUNTS: [u32; COUNTS] = [1, 2, 3, 3, 4, 4, 4, 4, 5, 5, 5, 5, 5, 5, 5, 5];
-
-// S(k).
+// S(k), the bit length of 2k − 1.
 pub fn scale_count(k: usize) -> u32
-    requires { ⌜ (1 ≤ k) × (k ≤ countLimit) ⌝ }
+    requires { ⌜ (1 ≤ k) × (k < 2 ^ 63) ⌝ }
     ensures { λ r. ⌜ r ≡ scaleCount k ⌝ }
 {
-    SCALE_COUNTS[k - 1]
+    super::bit_length::bit_length((2 * k - 1) as u64)
 }
