@@ -1,7 +1,8 @@
 -- The starred cases beside the limits: a table of what the definitions give and what the specification (docs/EQUALISER.md) says.
 use mathlib.Core.Path.{_≡_, refl}
 use mathlib.Core.List.{List, [], _∷_, _++_, map}
-use Prim.Native.Nat.{ℕ, _-_}
+use Prim.Native.Nat.{ℕ, zero, suc, _-_}
+use lib.ListN.{replicate}
 use lib.IntN.{ℤ, pos, negsuc}
 use Rattle.laws.specs.Sums.{dot}
 use Rattle.numbers.specs.ScaleCount.{scaleCount}
@@ -56,6 +57,11 @@ kept w = settled (allSmall w) w
 answers : ℕ → ℕ → ℕ → ℕ → ℕ → List ℤ
 answers p N r L M = pos (settingsNumber (given p p N r L M)) ∷ []
 
+-- the scale counts of k and of the numbers after it, n in all
+scales : ℕ → ℕ → List ℤ
+scales k zero = []
+scales k (suc n) = pos (scaleCount k) ∷ scales (suc k) n
+
 -- ---- the table
 
 pub cases : List Case
@@ -71,6 +77,9 @@ cases =
     ∷ record { gives = pos (g smallest begun (one (negsuc 32767) (pos 0)) - 30) ∷ []; says = pos 2 ∷ [] }
     ∷ record { gives = cut (negsuc 2) 1 ∷ []; says = negsuc 0 ∷ [] }
     ∷ record { gives = decide 1 (pos 268435456) 3 ∷ decide 1 (negsuc 268435455) 3 ∷ []; says = pos 3 ∷ negsuc 0 ∷ [] }
+    ∷ record { gives = scales 1 16; says = map pos (1 ∷ 2 ∷ 3 ∷ 3 ∷ 4 ∷ 4 ∷ 4 ∷ 4 ∷ 5 ∷ 5 ∷ 5 ∷ 5 ∷ 5 ∷ 5 ∷ 5 ∷ 5 ∷ []) }
+    ∷ record { gives = scales 17 16; says = replicate 16 (pos 6) }
+    ∷ record { gives = scales 33 32; says = replicate 32 (pos 7) }
     ∷ record { gives = kept (pos 16383 ∷ negsuc 2 ∷ []); says = pos 16383 ∷ negsuc 2 ∷ [] }
     ∷ record { gives = kept (pos 16384 ∷ negsuc 2 ∷ []); says = pos 8192 ∷ negsuc 0 ∷ [] }
     ∷ record { gives = kept (negsuc 16384 ∷ []); says = negsuc 8191 ∷ [] }
@@ -78,5 +87,5 @@ cases =
     ∷ record { gives = weights decided; says = pos 2032 ∷ pos 2016 ∷ [] } ∷ []
 
 pub starred : map (λ (c : Case). c .gives) cases ≡ map (λ (c : Case). c .says) cases
-unfolding cases steps trained decided weights kept answers
+unfolding cases steps trained decided weights kept answers scales
 starred = refl
