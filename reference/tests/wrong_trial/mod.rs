@@ -40,9 +40,6 @@ pub const FAULTS: [(&str, [bool; 3]); 32] = [
     ("5 and 6 sample by sample", [false, true, false]),
 ];
 
-/// S(1) to S(16).
-const COUNTS: [i64; 16] = [1, 2, 3, 3, 4, 4, 4, 4, 5, 5, 5, 5, 5, 5, 5, 5];
-
 /// T(a·2^places).
 fn scaled(a: i64, places: i64) -> i64 {
     if places >= 0 {
@@ -54,6 +51,11 @@ fn scaled(a: i64, places: i64) -> i64 {
 
 fn bits(a: i64) -> i64 {
     64 - i64::from(a.unsigned_abs().leading_zeros())
+}
+
+/// S(k), the bit length of 2k − 1.
+fn count(k: u8) -> i64 {
+    bits(2 * i64::from(k) - 1)
 }
 
 fn sizes_fit(s: &Settings) -> bool {
@@ -81,7 +83,7 @@ fn sound(state: &State, fault: &str) -> bool {
     }
     let (weights, spare) = state.weights.split_at(s.taps());
     let (data, more) = state.data.split_at(s.taps());
-    let reach = i64::from(state.big_b) + COUNTS[p - 1];
+    let reach = i64::from(state.big_b) + count(s.p);
     let small = |a: &i16| i64::from(*a).abs() << reach < 1 << (15 + state.b);
     let zeros = spare.iter().chain(more).all(|&place| place == 0);
     weights.iter().all(|w| (-16383..=16383).contains(w))
@@ -157,7 +159,7 @@ impl Walk {
     fn sample(&mut self, s: &Settings, gamma: i64, entry: i64) -> [i64; 5] {
         let (p, q) = (usize::from(s.p), usize::from(s.q));
         let longest = self.symbols.iter().map(|&v| bits(v)).max();
-        let nu = COUNTS[q - 1] + longest.unwrap_or(0);
+        let nu = count(s.q) + longest.unwrap_or(0);
         let held: Vec<i64> = self.symbols.iter().map(|v| v << (15 - nu)).collect();
         let common = gamma.max(nu);
         let f = scaled(sum(&self.weights[..p], &self.samples), gamma - common);
@@ -166,16 +168,16 @@ impl Walk {
         let end = (2 << s.r) - 1;
         let decision = (2 * (y >> (31 - xi)) + 1).clamp(-end, end);
         let v = if entry == 0 { decision } else { entry };
-        let theta = xi.max(COUNTS[q - 1] + bits(v));
+        let theta = xi.max(count(s.q) + bits(v));
         let z = (v << (30 - theta)) - scaled(y, xi - theta);
         let pull = |exponent| scaled(i64::from(s.m) * z, exponent + theta - self.psi - 30);
-        let forward = pull(gamma - COUNTS[p - 1]);
-        let back = pull(nu - COUNTS[q - 1]);
+        let forward = pull(gamma - count(s.p));
+        let back = pull(nu - count(s.q));
         for (w, a) in self.weights[..p].iter_mut().zip(&self.samples) {
-            *w += scaled(forward * a, COUNTS[p - 1] - 30);
+            *w += scaled(forward * a, count(s.p) - 30);
         }
         for (w, a) in self.weights[p..].iter_mut().zip(&held) {
-            *w += scaled(back * a, COUNTS[q - 1] - 30);
+            *w += scaled(back * a, count(s.q) - 30);
         }
         if self.weights.iter().any(|w| w.abs() > 16383) {
             self.weights.iter_mut().for_each(|w| *w /= 2);
@@ -189,12 +191,12 @@ impl Walk {
 
 /// The block: its number, the state that was reached and what was handed out.
 fn block(given: &State, inputs: Inputs<'_>, fault: &str) -> (u8, State, Vec<[i64; 5]>) {
-    let (s, count) = (&given.settings, COUNTS[usize::from(given.settings.p) - 1]);
+    let (s, scale) = (&given.settings, count(given.settings.p));
     let received = inputs.samples.iter().zip(inputs.gains);
     let x: Vec<i64> = received.map(|(&m, &g)| i64::from(m) << (15 - g)).collect();
     let b = x.iter().map(|&x| bits(x)).max().unwrap_or(0);
     let big_b = b.max(given.b.into());
-    let gamma = i64::from(s.r) - 30 + big_b + count;
+    let gamma = i64::from(s.r) - 30 + big_b + scale;
     let mut walk = Walk::start(given, i64::from(given.big_b) - big_b);
     let mut handed = Vec::new();
     let most = match fault {
@@ -207,7 +209,7 @@ fn block(given: &State, inputs: Inputs<'_>, fault: &str) -> (u8, State, Vec<[i64
         if !entry(t.into(), s.r) {
             return (5, before, handed);
         }
-        walk.samples.insert(0, scaled(x, 15 - big_b - count));
+        walk.samples.insert(0, scaled(x, 15 - big_b - scale));
         walk.samples.truncate(s.p.into());
         let sample = walk.sample(s, gamma, t.into());
         if walk.psi > most {
