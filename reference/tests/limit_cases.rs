@@ -3,11 +3,17 @@
 
 use reference::block::{run, Inputs, Outputs};
 use reference::image::save;
+use reference::numbers::scale_count;
 use reference::settings::Settings;
 use reference::state::{set_up, State};
 
 fn sizes(p: u8, q: u8, n: u8, r: u8, l: u8, m: u32) -> Settings {
     Settings { p, q, n, r, l, m }
+}
+
+fn scale_counts_line() -> String {
+    let counts: String = (1..=64).map(|k| format!(" {}", scale_count(k))).collect();
+    format!("scale counts of 1 to 64:{counts}\n")
 }
 
 fn set_up_line(s: Settings) -> String {
@@ -46,7 +52,7 @@ fn block(about: &str, s: &mut State, sample: i16, entry: i8) -> String {
 
 #[test]
 fn the_program_has_these_lines() {
-    let mut text = String::new();
+    let mut text = scale_counts_line();
     for s in [
         sizes(1, 1, 1, 0, 0, 67108864),
         sizes(1, 1, 1, 0, 0, 67108865),

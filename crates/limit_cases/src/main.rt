@@ -1,6 +1,7 @@
 // The cases beside the limits that a set-up, a block and a save can show, a line each with what comes of it.
 use libc::STDOUT_FILENO;
 use numbers::bit_length::magnitude;
+use numbers::scale_count::scale_count;
 use state::equaliser::Equaliser;
 use steps::limits::PLACES;
 use vectors::sample::IMAGE;
@@ -165,7 +166,18 @@ fn two_samples() {
     block(b"second sample: answer ", first, 16384, 0);
 }
 
+fn scale_counts() {
+    text(b"scale counts of 1 to 64:");
+    let mut k: usize = 0;
+    while k < 64 {
+        k += 1;
+        number(b" ", scale_count(k) as u64);
+    }
+    text(b"\n");
+}
+
 fn run() {
+    scale_counts();
     set_ups();
     loudness();
     ties();
