@@ -11,8 +11,6 @@
 // One bit in each of four lanes of sixteen.
 #define LANES 0x0001000100010001u
 
-static const uint8_t scale_count[TAPS + 1] = {0, 1, 2, 3, 3, 4, 4, 4, 4, 5, 5, 5, 5, 5, 5, 5, 5};
-
 // Bit lengths of −15 to 15.
 static const uint8_t symbol_length[31] = {4, 4, 4, 4, 4, 4, 4, 4, 3, 3, 3, 3, 2, 2, 1, 0,
                                           1, 2, 2, 3, 3, 3, 3, 4, 4, 4, 4, 4, 4, 4, 4};
@@ -41,6 +39,9 @@ INLINE int smaller(int a, int b) { return a < b ? a : b; }
 INLINE uint32_t size_of(int32_t x) { return x < 0 ? -(uint32_t)x : (uint32_t)x; }
 INLINE uint16_t size_of_16(int16_t x) { return (uint16_t)(x < 0 ? -x : x); }
 
+// The least s with 2^s at least 2k: the bit length of 2k − 1.
+INLINE int scale_count(int k) { return 32 - __builtin_clz(2u * (unsigned)k - 1); }
+
 // x / 2^k cut toward zero, k below 32.
 INLINE int32_t cut(int32_t x, int k) {
     return (x + (int32_t)((uint32_t)(x >> 31) & ((1u << k) - 1))) >> k;
@@ -58,7 +59,7 @@ static bool admitted(const tigbulode_equaliser *s) {
 
 static bool sound(const tigbulode_equaliser *s) {
     if (s->psi > 15 || s->b > s->big || s->big + s->l > 31) return false;
-    int taps = s->p + s->q, scale = s->big + scale_count[s->p], top = (2 << s->r) - 1, bad = 0;
+    int taps = s->p + s->q, scale = s->big + scale_count(s->p), top = (2 << s->r) - 1, bad = 0;
     for (int i = 0; i < taps; i++) bad |= s->weights[i] > 16383 || s->weights[i] < -16383;
     for (int i = taps; i < 32; i++) bad |= s->weights[i] | s->past[i];
     for (int i = 0; i < s->p - 1; i++)
@@ -215,7 +216,7 @@ INLINE void sample(work *k, int n, int entry) {
 }
 
 static void set_side(side *f, int taps, const int16_t *weights, const int16_t *past) {
-    f->taps = taps, f->scale = scale_count[taps];
+    f->taps = taps, f->scale = scale_count(taps);
     for (int i = 0; i < TAPS; i++) {
         f->weights[i] = i < taps ? weights[i] : 0;
         f->data[BLOCK + i] = i < taps ? past[i] : 0;
