@@ -15,6 +15,9 @@
 
 enum { PROVED, CAREFUL, NATIVE, PLAIN, CONTENDERS };
 
+// An earlier release's tigbulode_run, where bench/run was given its library.
+run_call before_tigbulode_run __attribute__((weak));
+
 static run_call *const runs[] = {tigbulode_run, careful_run, careful_native_run};
 static simulation *const simulations[] = {proved_simulation, careful_simulation, native_simulation};
 
@@ -86,6 +89,25 @@ static double timed_trial(int tried) {
             run_block(&current, PROVED, b, decided);
         else if (tigbulode_trial(s, b->m, N, b->gains, N, decided, N, y, N, xi, N, decision, N, z, N, theta, N).number)
             fail("a trial on the channel was refused");
+    }
+    return (now() - start) / (BLOCKS * N);
+}
+
+// Of this library and of the earlier one; samples in a block of theirs.
+static tigbulode_equaliser releases[2];
+static size_t piece;
+
+// Nanoseconds per sample of this library, or of the earlier one.
+static double timed_release(int earlier) {
+    run_call *run = earlier ? before_tigbulode_run : tigbulode_run;
+    const size_t k = piece;
+    double start = now();
+    for (int i = 0; i < BLOCKS; i++) {
+        const channel_block *b = &current.blocks[i];
+        for (size_t at = 0; at < N; at += k)
+            if (run(&releases[earlier], b->m + at, k, b->gains + at, k, decided, k, y, k, xi, k, decision, k, z, k,
+                    theta, k))
+                fail("a block of the channel was refused");
     }
     return (now() - start) / (BLOCKS * N);
 }
@@ -196,6 +218,23 @@ static void print_trials(const int (*sizes)[2], int rows) {
     }
 }
 
+static void print_releases(const int (*sizes)[3], int rows) {
+    unsigned counts[10] = {0};
+    printf("\nNanoseconds per sample beside an earlier release; over 200,000 random calls the two %s\n",
+           check_same(before_tigbulode_run, 200000, counts) ? "agree bit for bit" : "DIFFER");
+    printf("            |      before     |       now       |   now/before\n");
+    printf("  p   q   N |  median   least |  median   least | median   least\n");
+    for (int i = 0; i < rows; i++) {
+        prepare(&current, sizes[i][0], sizes[i][1]);
+        piece = (size_t)sizes[i][2];
+        releases[0] = current.state[PROVED], releases[0].n = (uint8_t)piece;
+        releases[1] = releases[0];
+        figures f = measure(timed_release, 2);
+        printf("%3d %3d %3d | %7.2f %7.2f | %7.2f %7.2f | %6.3f %7.3f\n", sizes[i][0], sizes[i][1], sizes[i][2],
+               f.median[1], f.least[1], f.median[0], f.least[0], f.ratio[1], f.least[0] / f.least[1]);
+    }
+}
+
 static void print_cable(void) {
     longest_cable(&longest);
     figures f = measure(timed_cable, PLAIN);
@@ -211,12 +250,15 @@ int main(void) {
     static const int main_sizes[][2] = {{3, 3}, {8, 8}, {16, 16}};
     static const int growth[][2] = {{1, 1}, {2, 2}, {4, 4}, {8, 8}, {12, 12}, {16, 16}};
     static const int uneven[][2] = {{1, 16}, {4, 12}, {8, 3}, {12, 4}, {16, 1}};
+    static const int releases_at[][3] = {{3, 3, 128},  {8, 8, 128}, {12, 12, 128}, {16, 16, 128},
+                                         {16, 16, 16}, {2, 16, 1},  {1, 1, 1}};
     check_answers();
     check_cable_answers();
     print_table("Nanoseconds per sample, N = 128, r = 2, L = 1, greatest admitted M, decided", main_sizes, 3);
     print_table("The same as p + q grows", growth, 6);
     print_table("The same with p + q split unevenly", uneven, 5);
     print_trials(main_sizes, 3);
+    if (before_tigbulode_run) print_releases(releases_at, 7);
     print_cable();
     printf("\nMemory of a station: %zu bytes of record, at most %d bytes of image\n", sizeof(tigbulode_equaliser),
            12 + 4 * 32);
