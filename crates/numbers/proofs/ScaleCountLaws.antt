@@ -1,4 +1,4 @@
--- Laws of the scale count: the rule, and what it says of 2^S.
+-- Laws of the scale count: the rule, the bit length, and what follows for 2^S.
 use mathlib.Core.Path.{_≡_, refl, sym, ap, _∙_, subst}
 use mathlib.Core.Bool.{Bool, true, false, cond}
 use Prim.Native.Nat.{ℕ, zero, suc, _+_, _*_, _-_, _^_, _≤_, _<_}
