@@ -93,8 +93,10 @@ static double timed_trial(int tried) {
     return (now() - start) / (BLOCKS * N);
 }
 
-// Of this library and of the earlier one; samples in a block of theirs.
-static tigbulode_equaliser releases[2];
+// The states of this library and of the earlier one, and the samples in a block of either.
+static struct {
+    _Alignas(64) tigbulode_equaliser state;
+} releases[2];
 static size_t piece;
 
 // Nanoseconds per sample of this library, or of the earlier one.
@@ -105,7 +107,7 @@ static double timed_release(int earlier) {
     for (int i = 0; i < BLOCKS; i++) {
         const channel_block *b = &current.blocks[i];
         for (size_t at = 0; at < N; at += k)
-            if (run(&releases[earlier], b->m + at, k, b->gains + at, k, decided, k, y, k, xi, k, decision, k, z, k,
+            if (run(&releases[earlier].state, b->m + at, k, b->gains + at, k, decided, k, y, k, xi, k, decision, k, z, k,
                     theta, k))
                 fail("a block of the channel was refused");
     }
@@ -227,7 +229,7 @@ static void print_releases(const int (*sizes)[3], int rows) {
     for (int i = 0; i < rows; i++) {
         prepare(&current, sizes[i][0], sizes[i][1]);
         piece = (size_t)sizes[i][2];
-        releases[0] = current.state[PROVED], releases[0].n = (uint8_t)piece;
+        releases[0].state = current.state[PROVED], releases[0].state.n = (uint8_t)piece;
         releases[1] = releases[0];
         figures f = measure(timed_release, 2);
         printf("%3d %3d %3d | %7.2f %7.2f | %7.2f %7.2f | %6.3f %7.3f\n", sizes[i][0], sizes[i][1], sizes[i][2],
