@@ -13,11 +13,11 @@ use lib.ListN.{length, getD, take, List·getD-map}
 use lib.Seq.{take-all}
 use borrow.Author.Tests.{lt-ltb, le-ltb, ltb-true, ltb-false}
 use Rattle.laws.specs.Machine.{or-assoc}
+use Rattle.laws.specs.Powers.{positive}
 use Rattle.laws.specs.Sums.{Each, each-map, each-of, each-weaken}
 use Rattle.numbers.specs.BitLength.{bitLength}
 use Rattle.numbers.proofs.BitLengthLaws.{bit-length-zero, bit-length-mono, bit-length-le, bit-length-lt}
-use Rattle.steps.specs.Limits.{halvingLimit}
-use Rattle.steps.specs.Side.{isSmall, allSmall, magnitudes, largest, together, longest}
+use Rattle.steps.specs.Side.{isBelow, allBelow, magnitudes, largest, together, longest}
 
 -- ---- every element and the largest
 
@@ -124,12 +124,12 @@ or-below k m n true true e f = lt-ltb (bitOr m n) (2 ^ k) (or-lt k m n (ltb-true
 or-below k m n true false e f = le-ltb (bitOr m n) (2 ^ k) (le-trans (ltb-false n (2 ^ k) f) (or-right m n))
 or-below k m n false b e f = le-ltb (bitOr m n) (2 ^ k) (le-trans (ltb-false m (2 ^ k) e) (or-left m n))
 
--- no weight has reached the halving limit where the bits together have not, on one side
-pub together-small : (w : List ℤ) → ltb (together (magnitudes w)) halvingLimit ≡ allSmall w
+-- no weight has reached a limit 2^k where the bits together have not, on one side
+pub together-below : (k : ℕ) (w : List ℤ) → ltb (together (magnitudes w)) (2 ^ k) ≡ allBelow (2 ^ k) w
 unfolding together
-together-small [] = refl
-together-small (x ∷ w) = or-below 14 (natAbs x) (together (magnitudes w)) (isSmall x) (allSmall w) refl (together-small w)
+together-below k [] = lt-ltb 0 (2 ^ k) (positive k)
+together-below k (x ∷ w) = or-below k (natAbs x) (together (magnitudes w)) (isBelow (2 ^ k) x) (allBelow (2 ^ k) w) refl (together-below k w)
 
 -- and on both
-pub both-small : (w u : List ℤ) → ltb (bitOr (together (magnitudes w)) (together (magnitudes u))) halvingLimit ≡ (allSmall w && allSmall u)
-both-small w u = or-below 14 (together (magnitudes w)) (together (magnitudes u)) (allSmall w) (allSmall u) (together-small w) (together-small u)
+pub both-below : (k : ℕ) (w u : List ℤ) → ltb (bitOr (together (magnitudes w)) (together (magnitudes u))) (2 ^ k) ≡ (allBelow (2 ^ k) w && allBelow (2 ^ k) u)
+both-below k w u = or-below k (together (magnitudes w)) (together (magnitudes u)) (allBelow (2 ^ k) w) (allBelow (2 ^ k) u) (together-below k w) (together-below k u)

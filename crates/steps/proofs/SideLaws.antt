@@ -7,7 +7,7 @@ use native.Mathlib.Nat.{le-of-lt, le-of-suc-le-suc, not-suc-le-zero, lt-of-le-of
 use lib.Bits.{bitOr}
 use lib.ListN.{length, getD, take, set, length-take, length-map, List·getD-map}
 use lib.Seq.{length-take-le, getD-take}
-use lib.IntN.{ℤ, pos, natAbs, _+ℤ_, _*ℤ_}
+use lib.IntN.{ℤ, pos, natAbs, _+ℤ_, _*ℤ_, zero-*ℤ, +ℤ-idr}
 use mir.Syntax.{w16, w32, w64}
 use mir.Val.{SFits}
 use mir.Facts.{sfits-widen}
@@ -17,9 +17,9 @@ use Rattle.laws.specs.Sums.{dot, dot-bound, Each, each-at, each-take, each-weak
 use Rattle.laws.specs.Powers.{rises}
 use Rattle.numbers.specs.Cut.{cut, raise, rescale}
 use Rattle.numbers.proofs.BitLengthLaws.{bit-length-le}
-use Rattle.numbers.proofs.CutLaws.{cut-zero, cut-lt, raise-mul, rescale-down}
-use Rattle.steps.specs.Limits.{halvingLimit}
-use Rattle.steps.specs.Side.{Small, adapted, adapt, halved, push, largest, longest, magnitudes, together}
+use Rattle.numbers.proofs.CutLaws.{cut-zero, cut-none, cut-lt, raise-abs, raise-mul, rescale-down, rescale-up}
+use Rattle.steps.specs.Limits.{halvingLimit, doublingLimit}
+use Rattle.steps.specs.Side.{Small, adapted, adapt, halved, doubled, push, largest, longest, magnitudes, together}
 use Rattle.steps.specs.Sound.{Summable, Adaptable, Storable}
 use Rattle.steps.proofs.GainLaws.{adapted-fits}
 use Rattle.steps.proofs.LargestLaws.{magnitude-at, each-magnitude, longest-above, together-longest, together-none, together-next, together-all}
@@ -109,7 +109,14 @@ pub adapt-room : (J : ℤ) (t : ℕ) (w a : List ℤ) (i : ℕ) → Adaptable J 
     (Small (getD w i (pos 0))) × (natAbs J * natAbs (getD a i (pos 0)) < 2 ^ (29 + t))
 adapt-room J t w a i s h = (each-at Small w i (pos 0) (s .small) h, lt-of-le-of-lt (mul-le-mul-left (natAbs J) (magnitude-at a i)) (s .bound))
 
--- ---- half of each weight
+-- where the factor is 0, no weight gains anything
+pub adapt-none : (w a : List ℤ) → adapt (pos 0) w a ≡ w
+unfolding adapt
+adapt-none [] a = refl
+adapt-none (w ∷ ws) [] = refl
+adapt-none (w ∷ ws) (a ∷ b) = ap₂ (λ (y : ℤ) (z : List ℤ). y ∷ z) (ap (λ (y : ℤ). w +ℤ cut y 30) (zero-*ℤ a) ∙ ap (λ (y : ℤ). w +ℤ y) (cut-zero 30) ∙ +ℤ-idr w) (adapt-none ws b)
+
+-- ---- half of each weight, and twice each weight
 
 pub halved-is : (w : List ℤ) → map (λ (x : ℤ). rescale x 0 1) w ≡ halved w
 halved-is [] = refl
@@ -118,19 +125,39 @@ halved-is (x ∷ w) = ap₂ (λ (y : ℤ) (l : List ℤ). y ∷ l) (rescale-down
 pub halved-at : (w : List ℤ) (i : ℕ) → getD (halved w) i (pos 0) ≡ cut (getD w i (pos 0)) 1
 halved-at w i = ap (λ (d : ℤ). getD (halved w) i d) (sym (cut-zero 1)) ∙ List·getD-map (λ (x : ℤ). cut x 1) w i (pos 0)
 
+pub doubled-is : (w : List ℤ) → map (λ (x : ℤ). rescale x 1 0) w ≡ doubled w
+doubled-is [] = refl
+doubled-is (x ∷ w) = ap₂ (λ (y : ℤ) (l : List ℤ). y ∷ l) (rescale-up x 1 0 1 refl) (doubled-is w)
+
+pub doubled-at : (w : List ℤ) (i : ℕ) → getD (doubled w) i (pos 0) ≡ raise (getD w i (pos 0)) 1
+doubled-at w i = List·getD-map (λ (x : ℤ). raise x 1) w i (pos 0)
+
+-- a doubling loses nothing
+pub halved-doubled : (w : List ℤ) → halved (doubled w) ≡ w
+halved-doubled [] = refl
+halved-doubled (x ∷ w) = ap₂ (λ (y : ℤ) (l : List ℤ). y ∷ l) (rescale-down x 1 1 0 refl ∙ cut-none x) (halved-doubled w)
+
+-- each number is below a power of two where the bits of all together are
+each-below : (k : ℕ) (w : List ℤ) → together (magnitudes w) < 2 ^ k → Each (λ (x : ℤ). natAbs x < 2 ^ k) w
+each-below k w h =
+    each-weaken (λ (x : ℤ). natAbs x < 2 ^ longest w) (λ (x : ℤ). natAbs x < 2 ^ k) (λ x l. lt-of-lt-of-le l (rises most)) w (longest-above w)
+  where
+    most : longest w ≤ k
+    most = rw (← together-longest) (bit-length-le (together (magnitudes w)) k h)
+
 -- a half fits 16 bits where the bits of all numbers together do without a sign
 pub halvable : (w : List ℤ) → together (magnitudes w) < 2 ^ 16 → Each (Storable 0 1) w
-halvable w h = each-weaken (λ (x : ℤ). natAbs x < 2 ^ longest w) (Storable 0 1) half w (longest-above w)
+halvable w h = each-weaken (λ (x : ℤ). natAbs x < 2 ^ 16) (Storable 0 1) half w (each-below 16 w h)
   where
-    half : (x : ℤ) → natAbs x < 2 ^ longest w → Storable 0 1 x
-    half x l =
-        let most : longest w ≤ 16 = rw (← together-longest) (bit-length-le (together (magnitudes w)) 16 h) in
-        let below : natAbs x < 2 ^ 16 = lt-of-lt-of-le l (rises most) in
-        record {
-          shift = omega arith;
-          room = omega arith;
-          bound = rw (rescale-down x 0 1 1 refl) (cut-lt x 16 15 1 refl below);
-        }
+    half : (x : ℤ) → natAbs x < 2 ^ 16 → Storable 0 1 x
+    half x l = record { shift = omega arith; room = omega arith; bound = rw (rescale-down x 0 1 1 refl) (cut-lt x 16 15 1 refl l) }
+
+-- and a double where they are below the doubling limit
+pub doublable : (w : List ℤ) → together (magnitudes w) < doublingLimit → Each (Storable 1 0) w
+doublable w h = each-weaken (λ (x : ℤ). natAbs x < doublingLimit) (Storable 1 0) twice w (each-below 12 w h)
+  where
+    twice : (x : ℤ) → natAbs x < doublingLimit → Storable 1 0 x
+    twice x l = record { shift = omega arith; room = omega arith; bound = rw (rescale-up x 1 0 1 refl) (omega (arith, raise-abs x 1)) }
 
 -- ---- a new element in front
 

@@ -25,6 +25,10 @@ exponentLimit = 15
 abbrev pub halvingLimit : ℕ
 halvingLimit = 2 ^ 14
 
+-- weights that are all below this are doubled, where ψ can fall
+abbrev pub doublingLimit : ℕ
+doublingLimit = 2 ^ 12
+
 -- ---- what follows
 
 -- S and S′: the scale count of the most taps

@@ -48,17 +48,25 @@ newWeights J f = adapt (raise J (f .scale)) (f .weights) (f .mantissas)
 abbrev pub Small : ℤ → Type 0
 Small w = natAbs w < halvingLimit
 
--- step 7: a weight has not reached the halving limit
-abbrev pub isSmall : ℤ → Bool
-isSmall w = ltb (natAbs w) halvingLimit
+-- a weight has not reached a limit
+abbrev pub isBelow : ℕ → ℤ → Bool
+isBelow limit w = ltb (natAbs w) limit
 
--- step 7: none has
+-- none has
+abbrev pub allBelow : ℕ → List ℤ → Bool
+allBelow limit w = all (isBelow limit) w
+
+-- step 7: none has reached the halving limit
 abbrev pub allSmall : List ℤ → Bool
-allSmall w = all isSmall w
+allSmall w = allBelow halvingLimit w
 
 -- step 7: half of each weight
 abbrev pub halved : List ℤ → List ℤ
 halved w = map (λ (x : ℤ). cut x 1) w
+
+-- after step 7: twice each weight
+abbrev pub doubled : List ℤ → List ℤ
+doubled w = map (λ (x : ℤ). raise x 1) w
 
 -- a new element in front, and the oldest falls off
 abbrev pub push : ℤ → List ℤ → List ℤ

@@ -18,6 +18,9 @@ pub const EXPONENT: u32 = 15;
 // Weights are halved from here on.
 pub const HALVING: u16 = 16384;
 
+// Weights that are all below this are doubled, where ψ can fall.
+pub const DOUBLING: u16 = 4096;
+
 // B and L together: the bits of a sample and the greatest gain.
 pub const LENGTH: u32 = 16 + GAIN;
 

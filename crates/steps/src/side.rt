@@ -153,7 +153,7 @@ fn restored(z: i64, i: u32, j: u32) -> i16
     numbers::cut::rescale(z, i, j) as i16
 }
 
-// A list at another exponent: stored samples, or in step 7 half of each weight.
+// A list at another exponent: stored samples, or half or twice of each weight.
 pub fn rescale_all(xs: &mut [i16], i: u32, j: u32)
     requires { ⌜ Each (Storable i j) (now xs) ⌝ }
     ensures { λ _. ⌜ now (xs .exit) ≡ map (λ (a : ℤ). rescale a i j) (now (xs .entry)) ⌝ }

@@ -4,7 +4,7 @@ use Prim.Native.Nat.{ℕ}
 use lib.Dec.{ltb}
 use borrow.Author.Needs.{needs}
 use Rattle.steps.specs.Limits.{halvingLimit}
-use Rattle.steps.proofs.LargestLaws.{together-small}
+use Rattle.steps.proofs.LargestLaws.{together-below}
 use Rattle.steps.proofs.side.all_small.Statement.{statement}
 use Rattle.steps.proofs.side.all_small.Tie as tie
 
@@ -12,7 +12,7 @@ bits-requires : tie.Need-bits-requires
 bits-requires c κs = search needs
 
 returns : tie.Need-returns
-returns c = ap (λ (n : ℕ). ltb n halvingLimit) (c .bits .ensures) ∙ together-small (c .before .args .w .now)
+returns c = ap (λ (n : ℕ). ltb n halvingLimit) (c .bits .ensures) ∙ together-below 14 (c .before .args .w .now)
 
 pub all-small-spec : {M : Type 1} → statement M
 all-small-spec = tie.close (tie.spec bits-requires returns)
