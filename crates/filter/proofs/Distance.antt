@@ -13,13 +13,14 @@ use Rattle.numbers.proofs.CutLaws.{raise-raise}
 use Rattle.numbers.proofs.BitLengthLaws.{bit-length-le}
 use Rattle.steps.specs.Settings.{Settings, isEntry, scaleBack}
 use Rattle.steps.specs.Side.{Side, newWeights}
-use Rattle.filter.specs.Sample.{Taps, ν, held, F, H, Y, ξ, v, κ, Z, θ, J, forwardSide, backSide, newForward, newBack, small, next, settled, settledExponent}
+use Rattle.filter.specs.Sample.{Taps, ν, held, F, H, Y, ξ, v, κ, Z, θ, J, forwardSide, backSide, newForward, newBack, outcome, next, settled, settledExponent}
 use Rattle.filter.specs.Sound.{Fit}
-use Rattle.filter.specs.Exact.{exactOutput, exactWeight, Near, Bounded, Faithful}
+use Rattle.filter.specs.Exact.{exactOutput, exactWeight, unitExponent, Near, Bounded, Faithful}
 use Rattle.filter.proofs.SampleForms.{ξ-form, θ-form}
 use Rattle.filter.proofs.SideBounds.{SideFit}
 use Rattle.filter.proofs.SampleSides.{ν-is, ν-most, longest-most, H-raised, forward-fit, back-fit, v-below}
 use Rattle.filter.proofs.DistanceOutput.{output-distance, error-distance}
+use Rattle.filter.proofs.OutcomeLaws.{sample-says}
 use Rattle.filter.proofs.DistanceWeight.{settled-near}
 use Rattle.filter.proofs.DistanceSide.{side-distance, step-small}
 
@@ -54,14 +55,14 @@ module _ (k : Settings) (g : ℕ) (t : Taps) (entry : ℤ) (h : Fit k g t) (e : 
   unfolding κ
   κ-within = omega (arith, bit-length-le (natAbs (v k g t entry)) (k .r + 1) (v-below k g t entry h e))
 
-  -- the new weights of a side, halved or not
+  -- the new weights of a side, kept, halved or doubled
   side-near : {n : ℕ} (f : Side) → SideFit (k .r) n f → (i : ℕ) → i < length (f .weights) →
-      Near (settledExponent (small k g t entry) (t .ψ)) (getD (settled (small k g t entry) (newWeights (J k g t entry f) f)) i (pos 0))
+      Near (unitExponent (outcome k g t entry) (t .ψ)) (settledExponent (outcome k g t entry) (t .ψ)) (getD (settled (outcome k g t entry) (newWeights (J k g t entry f) f)) i (pos 0))
       (exactWeight (k .M) (t .ψ) (exactOutput g t) (v k g t entry) (getD (f .mantissas) i (pos 0)) (f .exponent) (getD (f .weights) i (pos 0)))
   unfolding J
   side-near f fit i l =
-      settled-near (small k g t entry) (newWeights (J k g t entry f) f) i (t .ψ)
-      (exactWeight (k .M) (t .ψ) (exactOutput g t) (v k g t entry) (getD (f .mantissas) i (pos 0)) (f .exponent) (getD (f .weights) i (pos 0)))
+      settled-near (outcome k g t entry) (newForward k g t entry) (newBack k g t entry) (newWeights (J k g t entry f) f) i (t .ψ)
+      (exactWeight (k .M) (t .ψ) (exactOutput g t) (v k g t entry) (getD (f .mantissas) i (pos 0)) (f .exponent) (getD (f .weights) i (pos 0))) (sample-says k g t entry)
       (side-distance f fit (k .M) (t .ψ) (θ k g t entry) (Z k g t entry) (v k g t entry) (exactOutput g t) (h .within .r-most) (b .θ-most) error-near
       (step-small k (h .within) (h .admitted) f fit (t .ψ) g (ν k g t entry) (κ k g t entry) (ξ k g t entry) (θ k g t entry) (θ-form k g t entry) (ξ-form k g t entry)
       κ-within (omega (arith, ν-is k g t entry h, longest-most k g t entry h)) (h .g-most))
@@ -74,7 +75,7 @@ module _ (k : Settings) (g : ℕ) (t : Taps) (entry : ℤ) (h : Fit k g t) (e : 
     output-near = output-near;
     forward-near = side-near (forwardSide k g t entry) (forward-fit k g t entry h);
     back-near = λ i l.
-        subst (λ (d : ℤ). Near (settledExponent (small k g t entry) (t .ψ)) (getD (settled (small k g t entry) (newBack k g t entry)) i (pos 0))
+        subst (λ (d : ℤ). Near (unitExponent (outcome k g t entry) (t .ψ)) (settledExponent (outcome k g t entry) (t .ψ)) (getD (settled (outcome k g t entry) (newBack k g t entry)) i (pos 0))
         (raise (getD (t .back) i (pos 0)) (120 + t .ψ) +ℤ pos (k .M) *ℤ d *ℤ (raise (v k g t entry) 60 -ℤ exactOutput g t)))
         (held-at i (omega (arith, h .back-long, h .symbols-long))) (side-near (backSide k g t entry) (back-fit k g t entry h) i l);
   }

@@ -1,21 +1,21 @@
 -- One new weight and the exact one.
 use mathlib.Core.Path.{_≡_, refl, sym, ap, _∙_, subst}
-use mathlib.Core.Bool.{Bool, true, false}
 use mathlib.Core.List.{List, [], _∷_}
-use Prim.Native.Nat.{ℕ, suc, _+_, _*_, _^_, _≤_, _<_}
+use Prim.Native.Nat.{ℕ, suc, _+_, _*_, _-_, _^_, _≤_, _<_}
 use native.Mathlib.Omega.{arith}
 use native.Mathlib.Nat.{mul-le-mul-right, mul-le-mul-left, le-of-lt}
 use lib.ListN.{getD}
 use lib.IntN.{ℤ, pos, natAbs, _+ℤ_, _-ℤ_, _*ℤ_}
 use Rattle.laws.specs.Integers.{abs-add, abs-sub, abs-mul}
-use Rattle.laws.specs.Powers.{split, split3}
+use Rattle.laws.specs.Powers.{split, split3, rises}
 use Rattle.laws.specs.Ring.{ring, terms}
 use Rattle.numbers.specs.Cut.{cut, raise}
-use Rattle.numbers.proofs.CutLaws.{cut-error}
+use Rattle.numbers.proofs.CutLaws.{cut-error, raise-raise}
 use Rattle.steps.specs.Side.{adapted}
-use Rattle.filter.specs.Sample.{settled, settledExponent}
-use Rattle.filter.specs.Exact.{Near, distance}
-use Rattle.steps.proofs.SideLaws.{halved-at}
+use Rattle.filter.specs.Sample.{Outcome, keep, halve, double, settled, settledExponent}
+use Rattle.filter.specs.Exact.{Near, distance, unitExponent}
+use Rattle.steps.proofs.SideLaws.{halved-at, doubled-at}
+use Rattle.filter.proofs.OutcomeLaws.{Says}
 
 -- ---- over plain letters
 
@@ -138,13 +138,19 @@ halving-core w c e u h = omega (
     same = ring (w ∷ c ∷ e ∷ pos u ∷ []) (search terms depth 40) tt
 
 -- a halving counts in units twice as large
-halving : (w e : ℤ) (ψ : ℕ) → Close ψ w e → Near (suc ψ) (cut w 1) e
+halving : (w e : ℤ) (ψ : ℕ) → Close ψ w e → Near (suc ψ) (suc ψ) (cut w 1) e
 halving w e ψ h =
     subst (λ (u : ℕ). natAbs (cut w 1 *ℤ pos u -ℤ e) * 1024 ≤ distance * u) (sym (split (120 + suc ψ) 1 (120 + ψ) (omega arith)))
     (omega (arith, halving-core w (cut w 1) e (2 ^ (120 + ψ)) (cut-error w 1), split (120 + ψ) 30 (90 + ψ) (omega arith)))
 
-pub settled-near : (small : Bool) (l : List ℤ) (n ψ : ℕ) (e : ℤ) → Close ψ (getD l n (pos 0)) e →
-    Near (settledExponent small ψ) (getD (settled small l) n (pos 0)) e
-settled-near true l n ψ e h = omega (arith, split (120 + ψ) 30 (90 + ψ) (omega arith))
-settled-near false l n ψ e h =
-    subst (λ (w : ℤ). Near (suc ψ) w e) (sym (halved-at l n)) (halving (getD l n (pos 0)) e ψ h)
+-- a doubled weight means the same number, and no unit is smaller than the one before
+doubling : (w e : ℤ) (ψ : ℕ) → 1 ≤ ψ → Close ψ w e → Near (unitExponent double ψ) (ψ - 1) (raise w 1) e
+doubling w e ψ l h =
+    rw (raise-raise w 1 (120 + (ψ - 1)) (120 + ψ) (omega arith))
+    (omega (arith, split (120 + ψ) 30 (90 + ψ) (omega arith), rises {a = 120 + ψ} {b = 120 + unitExponent double ψ} (omega arith)))
+
+pub settled-near : (s : Outcome) (f b : List ℤ) (l : List ℤ) (n ψ : ℕ) (e : ℤ) → Says s ψ f b → Close ψ (getD l n (pos 0)) e →
+    Near (unitExponent s ψ) (settledExponent s ψ) (getD (settled s l) n (pos 0)) e
+settled-near keep f b l n ψ e c h = omega (arith, split (120 + ψ) 30 (90 + ψ) (omega arith))
+settled-near halve f b l n ψ e c h = subst (λ (w : ℤ). Near (suc ψ) (suc ψ) w e) (sym (halved-at l n)) (halving (getD l n (pos 0)) e ψ h)
+settled-near double f b l n ψ e c h = subst (λ (w : ℤ). Near (unitExponent double ψ) (ψ - 1) w e) (sym (doubled-at l n)) (doubling (getD l n (pos 0)) e ψ (c .0) h)

@@ -1,5 +1,6 @@
 pub mod SampleForms
 pub mod SideBounds
+pub mod OutcomeLaws
 pub mod ErrorSize
 pub mod StepAdmission
 pub mod SampleSides

@@ -1,30 +1,26 @@
 -- What a sample leaves, part by part.
 use mathlib.Core.Path.{_≡_, refl, ap, _∙_}
-use mathlib.Core.Bool.{Bool, true, false}
-use mathlib.Core.List.{List}
+use mathlib.Core.Bool.{true}
 use Prim.Native.Nat.{ℕ, _≤_}
-use lib.ListN.{length, length-map}
+use lib.ListN.{length}
 use lib.IntN.{ℤ}
 use Rattle.steps.specs.Limits.{exponentLimit}
 use Rattle.steps.specs.Settings.{Settings, isEntry}
 use Rattle.steps.specs.Side.{push}
 use Rattle.steps.proofs.SideLaws.{adapt-length, push-length, push-each}
 use Rattle.steps.proofs.SymbolLaws.{symbol-entry}
-use Rattle.filter.specs.Sample.{Taps, v, small, settled, settledExponent, newForward, newBack, next}
+use Rattle.filter.specs.Sample.{Taps, v, outcome, settled, settledExponent, newForward, newBack, next}
 use Rattle.filter.specs.Sound.{Fit}
 use Rattle.filter.proofs.SampleSides.{v-symbol}
 use Rattle.filter.proofs.SampleBounds.{bounded}
-
-settled-length : (b : Bool) (w : List ℤ) → length (settled b w) ≡ length w
-settled-length true w = refl
-settled-length false w = length-map w _
+use Rattle.filter.proofs.OutcomeLaws.{settled-length}
 
 module _ (k : Settings) (g : ℕ) (t : Taps) (entry : ℤ) where
-  pub next-forward : next k g t entry .forward ≡ settled (small k g t entry) (newForward k g t entry)
+  pub next-forward : next k g t entry .forward ≡ settled (outcome k g t entry) (newForward k g t entry)
   unfolding next
   next-forward = refl
 
-  pub next-back : next k g t entry .back ≡ settled (small k g t entry) (newBack k g t entry)
+  pub next-back : next k g t entry .back ≡ settled (outcome k g t entry) (newBack k g t entry)
   unfolding next
   next-back = refl
 
@@ -36,7 +32,7 @@ module _ (k : Settings) (g : ℕ) (t : Taps) (entry : ℤ) where
   unfolding next
   next-symbols = refl
 
-  pub next-ψ : next k g t entry .ψ ≡ settledExponent (small k g t entry) (t .ψ)
+  pub next-ψ : next k g t entry .ψ ≡ settledExponent (outcome k g t entry) (t .ψ)
   unfolding next
   next-ψ = refl
 
@@ -44,11 +40,11 @@ module _ (k : Settings) (g : ℕ) (t : Taps) (entry : ℤ) where
 
   pub next-forward-length : length (next k g t entry .forward) ≡ length (t .forward)
   unfolding newForward
-  next-forward-length = ap length next-forward ∙ settled-length (small k g t entry) (newForward k g t entry) ∙ adapt-length _ (t .forward) _
+  next-forward-length = ap length next-forward ∙ settled-length (outcome k g t entry) (newForward k g t entry) ∙ adapt-length _ (t .forward) _
 
   pub next-back-length : length (next k g t entry .back) ≡ length (t .back)
   unfolding newBack
-  next-back-length = ap length next-back ∙ settled-length (small k g t entry) (newBack k g t entry) ∙ adapt-length _ (t .back) _
+  next-back-length = ap length next-back ∙ settled-length (outcome k g t entry) (newBack k g t entry) ∙ adapt-length _ (t .back) _
 
   pub next-symbols-length : length (next k g t entry .symbols) ≡ length (t .symbols)
   next-symbols-length = ap length next-symbols ∙ push-length (v k g t entry) (t .symbols)

@@ -4,17 +4,17 @@ use mathlib.Core.Bool.{true}
 use Prim.Native.Nat.{ℕ, _+_, _*_, _-_, _^_, _≤_, _<_}
 use native.Mathlib.Omega.{arith}
 use lib.IntN.{ℤ, natAbs}
-use Rattle.laws.specs.Lists.{and-left, and-right}
 use Rattle.laws.specs.Powers.{split, positive}
 use Rattle.laws.specs.Sums.{Each}
 use Rattle.steps.specs.Limits.{outputExponentLimit, factorPlacesLeast}
 use Rattle.steps.specs.Settings.{Settings, scaleForward, scaleBack, isEntry}
-use Rattle.steps.specs.Side.{Small, Side, allSmall}
-use Rattle.filter.specs.Sample.{Taps, ν, F, H, Y, ξ, v, κ, Z, θ, J, forwardSide, backSide, newForward, newBack, small, next}
+use Rattle.steps.specs.Side.{Small, Side}
+use Rattle.filter.specs.Sample.{Taps, ν, F, H, Y, ξ, v, κ, Z, θ, J, forwardSide, backSide, newForward, newBack, outcome, next}
 use Rattle.filter.specs.Sound.{Fit}
 use Rattle.steps.specs.Sound.{Summable, Adaptable}
 use Rattle.filter.specs.Exact.{Bounded}
-use Rattle.filter.proofs.SideBounds.{SideFit, sum-small, sum-raised, summable, adaptable, newWeights-small, places-least, places-most, all-small, settled-small}
+use Rattle.filter.proofs.SideBounds.{SideFit, sum-small, sum-raised, summable, adaptable, newWeights-small, places-least, places-most}
+use Rattle.filter.proofs.OutcomeLaws.{sample-says, settled-small}
 use Rattle.filter.proofs.ErrorSize.{output-small, output-scaled, error-small, error-scaled}
 use Rattle.filter.proofs.StepAdmission.{error-weighed, factor-small}
 use Rattle.filter.proofs.SampleSides as Sides
@@ -123,15 +123,10 @@ module _ (k : Settings) (g : ℕ) (t : Taps) (entry : ℤ) (h : Fit k g t) where
     unfolding newBack
     new-back-small = newWeights-small (backSide k g t entry) (Sides.back-fit k g t entry h) (J k g t entry (backSide k g t entry)) J-back
 
-    next-forward-small : Each Small (next k g t entry .forward)
-    unfolding next small
-    next-forward-small = settled-small (small k g t entry) (newForward k g t entry)
-        (λ s. all-small (newForward k g t entry) (and-left (allSmall (newForward k g t entry)) (allSmall (newBack k g t entry)) s)) new-forward-small
-
-    next-back-small : Each Small (next k g t entry .back)
-    unfolding next small
-    next-back-small = settled-small (small k g t entry) (newBack k g t entry)
-        (λ s. all-small (newBack k g t entry) (and-right (allSmall (newForward k g t entry)) (allSmall (newBack k g t entry)) s)) new-back-small
+    next-small : Each Small (next k g t entry .forward) × Each Small (next k g t entry .back)
+    unfolding next
+    next-small = settled-small (outcome k g t entry) (t .ψ) (newForward k g t entry) (newBack k g t entry)
+        (sample-says k g t entry) new-forward-small new-back-small
 
 -- ---- the theorem
 
@@ -149,6 +144,6 @@ bounded k g t entry h e = record {
   J-back = J-back k g t entry h e;
   new-forward = new-forward-small k g t entry h e;
   new-back = new-back-small k g t entry h e;
-  next-forward = next-forward-small k g t entry h e;
-  next-back = next-back-small k g t entry h e;
+  next-forward = next-small k g t entry h e .0;
+  next-back = next-small k g t entry h e .1;
 }

@@ -1,10 +1,10 @@
 -- Laws for the functions of a sample.
-use mathlib.Core.Path.{_≡_, _∙_, subst, subst₂}
-use mathlib.Core.Bool.{true, false, _&&_}
+use mathlib.Core.Path.{_≡_, refl, _∙_, subst, subst₂}
+use mathlib.Core.Bool.{Bool, true, false, _&&_, cond}
 use mathlib.Core.List.{List}
-use Prim.Native.Nat.{ℕ, _+_, _-_, _≤_}
-use native.Mathlib.Numerals.{add-one}
+use Prim.Native.Nat.{ℕ, _-_, _≤_}
 use native.Mathlib.Omega.{arith}
+use lib.Dec.{ltb}
 use lib.IntN.{ℤ}
 use lib.ListN.{length, take, drop, set, length-drop}
 use lib.Seq.{take-all, drop-set-lt}
@@ -12,18 +12,38 @@ use Rattle.steps.specs.Settings.{Settings}
 use Rattle.steps.specs.Decision.{decide}
 use Rattle.steps.specs.Sound.{ErrorBounds}
 use Rattle.steps.proofs.SymbolLaws.{symbol-below, decide-symbol, chosen-symbol}
-use Rattle.steps.specs.Side.{allSmall, halved}
-use Rattle.filter.specs.Sample.{Taps}
+use Rattle.steps.specs.Limits.{doublingLimit}
+use Rattle.steps.specs.Side.{allBelow, allSmall}
+use Rattle.filter.specs.Sample.{Taps, Outcome, keep, halve, double, outcomeOf, settled, settledExponent}
 use Rattle.filter.specs.Calls.{DecisionBounds, Settled-is, SampleResult-is, chosen, tapsOf}
 use Rattle.filter.specs.declared.sample.SampleResult.{SampleResult}
 
 -- ---- step 7
 
-pub settled-kept : (ψ : ℕ) (f b : List ℤ) → (allSmall f && allSmall b) ≡ true → Settled-is ψ f b ψ f b
-settled-kept ψ f b e = record { exponent = simp e; ahead = simp e; behind = simp e }
+-- the outcome s, from the tests that the code makes
+pub settled-as : (s : Outcome) {ψ ψ′ : ℕ} {f b f′ b′ : List ℤ} → outcomeOf ψ f b ≡ s → ψ′ ≡ settledExponent s ψ → f′ ≡ settled s f → b′ ≡ settled s b → Settled-is ψ f b ψ′ f′ b′
+settled-as s e h i j = record { exponent = rw e h; ahead = rw e i; behind = rw e j }
 
-pub settled-halved : (ψ : ℕ) (f b f′ b′ : List ℤ) → (allSmall f && allSmall b) ≡ false → f′ ≡ halved f → b′ ≡ halved b → Settled-is ψ f b (ψ + 1) f′ b′
-settled-halved ψ f b f′ b′ e g h = record { exponent = simp e (add-one ψ); ahead = simp e g; behind = simp e h }
+module _ (ψ : ℕ) (f b : List ℤ) where
+  pub halves : (allSmall f && allSmall b) ≡ false → outcomeOf ψ f b ≡ halve
+  unfolding outcomeOf
+  halves e = simp e
+
+  pub keeps-lowest : (allSmall f && allSmall b) ≡ true → ψ ≡ 0 → outcomeOf ψ f b ≡ keep
+  unfolding outcomeOf
+  keeps-lowest e z = simp (e, z)
+
+  pub keeps : (allSmall f && allSmall b) ≡ true → (allBelow doublingLimit f && allBelow doublingLimit b) ≡ false → outcomeOf ψ f b ≡ keep
+  unfolding outcomeOf
+  keeps e d = rw (e, d) (go (ltb 0 ψ))
+    where
+      go : (p : Bool) → cond (p && false) double keep ≡ keep
+      go true = refl
+      go false = refl
+
+  pub doubles : (allSmall f && allSmall b) ≡ true → ltb 0 ψ ≡ true → (allBelow doublingLimit f && allBelow doublingLimit b) ≡ true → outcomeOf ψ f b ≡ double
+  unfolding outcomeOf
+  doubles e z d = simp (e, z, d)
 
 -- ---- steps 4 and 5
 

@@ -1,21 +1,16 @@
 -- Bounds of one side, over its lists: both filters are one filter.
 use mathlib.Core.Path.{_≡_, refl, sym, ap, _∙_}
-use mathlib.Core.Bool.{Bool, true, false}
-use mathlib.Core.List.{List}
 use Prim.Native.Nat.{ℕ, _+_, _*_, _-_, _^_, _≤_, _<_}
 use native.Mathlib.Omega.{arith}
 use native.Mathlib.Nat.{mul-le-mul-left, mul-le-mul-right}
-use borrow.Author.Tests.{ltb-true}
 use lib.ListN.{length}
-use lib.IntN.{ℤ, pos, natAbs}
-use Rattle.laws.specs.Lists.{all-at}
+use lib.IntN.{ℤ, natAbs}
 use Rattle.laws.specs.Powers.{split, split3, rises, cancel-le, lower}
-use Rattle.laws.specs.Sums.{Each, each-map, each-of, each-weaken, dot-bound}
-use Rattle.numbers.specs.Cut.{cut, raise}
-use Rattle.numbers.proofs.CutLaws.{cut-lt, raise-abs}
+use Rattle.laws.specs.Sums.{Each, each-weaken, dot-bound}
+use Rattle.numbers.specs.Cut.{raise}
+use Rattle.numbers.proofs.CutLaws.{raise-abs}
 use Rattle.steps.specs.Limits.{symbolLimit, halvingLimit, dataExponentLimit, lengthLimit, factorPlacesLeast}
-use Rattle.steps.specs.Side.{Small, Side, sum, newWeights, isSmall, allSmall, halved, largest, magnitudes}
-use Rattle.filter.specs.Sample.{settled}
+use Rattle.steps.specs.Side.{Small, Side, sum, newWeights, largest, magnitudes}
 use Rattle.steps.specs.Sound.{Summable, Adaptable}
 use Rattle.steps.proofs.LargestLaws.{largest-magnitude, each-magnitude}
 use Rattle.steps.proofs.SideLaws.{adapt-each}
@@ -29,20 +24,6 @@ pub record SideFit (r n : ℕ) (f : Side) : Type 0 where
   pub scale-enough : 2 * n ≤ 2 ^ f .scale
   pub exponent-least : f .scale ≤ f .exponent
   pub exponent-most : f .exponent ≤ r + lengthLimit + f .scale
-
--- ---- new weights
-
--- one halving makes them small again
-halved-small : (w : List ℤ) → Each (λ (x : ℤ). natAbs x < 2 ^ 15) w → Each Small (halved w)
-halved-small w h = each-map (λ (x : ℤ). natAbs x < 2 ^ 15) Small (λ (x : ℤ). cut x 1) (λ x l. cut-lt x 15 14 1 refl l) w h
-
-pub all-small : (w : List ℤ) → allSmall w ≡ true → Each Small w
-all-small w e = each-of Small (pos 0) w (λ i h. ltb-true _ _ (all-at isSmall w i (pos 0) e h))
-
--- new weights are kept if they are small, and halved if not
-pub settled-small : (b : Bool) (w : List ℤ) → (b ≡ true → Each Small w) → Each (λ (x : ℤ). natAbs x < 2 ^ 15) w → Each Small (settled b w)
-settled-small true w h g = h refl
-settled-small false w h g = halved-small w g
 
 -- ---- the sum and the update of a side
 

@@ -11,7 +11,7 @@ use Rattle.numbers.proofs.CutLaws.{raise-abs}
 use Rattle.steps.specs.Limits.{symbolLimit, outputExponentLimit}
 use Rattle.steps.specs.Settings.{Settings, scaleForward, scaleBack}
 use Rattle.steps.specs.Side.{Side}
-use Rattle.filter.specs.Sample.{Taps, ν, F, H, Y, ξ, decision, v, κ, Z, θ, J, forwardSide, backSide, newForward, newBack, small, next}
+use Rattle.filter.specs.Sample.{Taps, ν, F, H, Y, ξ, decision, v, κ, Z, θ, J, forwardSide, backSide, newForward, newBack, outcome, next}
 use Rattle.steps.specs.Side.{longest}
 use Rattle.steps.specs.Sound.{Adaptable}
 use Rattle.filter.specs.Calls.{LongestAt, SymbolBounds, FilterBounds, Output-is, DecisionBounds, Decision-is, UpdateBounds, ChangeBounds, Changed-is, Ready, SampleResult-is, resultOf, updatedForward, updatedBack}
@@ -148,7 +148,7 @@ module _ (k : Settings) (s sb g : ℕ) (t : Taps) (entry : ℤ) (r : Ready k s s
   pub result-as : (h : Output) (j : Decision) → Output-as h → Decision-as j → (ψ′ : ℕ) (f′ b′ y y′ : List ℤ) →
       Changed-is (k .M) s sb g (t .ψ) h j (t .forward) (t .back) (t .samples) y ψ′ f′ b′ → y ≡ t .symbols → y′ ≡ j .v ∷ t .symbols → (x : SampleResult) → x ≡ resultOf h j ψ′ →
       SampleResult-is k g t entry x f′ b′ y′
-  unfolding next small
+  unfolding next outcome
   result-as h j p q ψ′ f′ b′ y y′ c l d x e =
       let behind = ap (updatedBack (k .M) sb (h .nu) (t .ψ) j (t .back)) l ∙ back-updated h j p q in
       let w = settled-of (forward-updated j q) behind c in

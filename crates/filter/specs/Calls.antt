@@ -1,6 +1,6 @@
 -- What the functions of a sample ask and promise, as records with named parts.
 use mathlib.Core.Path.{_≡_}
-use mathlib.Core.Bool.{true, _&&_, cond}
+use mathlib.Core.Bool.{true, cond}
 use mathlib.Core.List.{List, _∷_}
 use Prim.Native.Nat.{ℕ, _+_, _-_, _*_, _^_, _≤_, _<_}
 use lib.Dec.{eqb, ltb}
@@ -11,11 +11,11 @@ use Rattle.numbers.specs.BitLength.{bitLength}
 use Rattle.numbers.specs.Cut.{cut, raise}
 use Rattle.steps.specs.Limits.{symbolLimit, exponentLimit, scaleLimit, dataExponentLimit, outputExponentLimit}
 use Rattle.steps.specs.Settings.{Settings, isEntry, scaleForward, scaleBack}
-use Rattle.steps.specs.Side.{adapt, allSmall}
+use Rattle.steps.specs.Side.{adapt}
 use Rattle.steps.specs.Output.{output, outputExponent}
 use Rattle.steps.specs.Decision.{decide}
 use Rattle.steps.specs.Error.{error, errorExponent}
-use Rattle.filter.specs.Sample.{Taps, settled, settledExponent, Y, ξ, decision, v, Z, θ, next}
+use Rattle.filter.specs.Sample.{Taps, outcomeOf, settled, settledExponent, Y, ξ, decision, v, Z, θ, next}
 use Rattle.steps.specs.Side.{longest}
 use Rattle.filter.specs.Sound.{Fit}
 use Rattle.steps.specs.Sound.{Summable, Adaptable, OutputBounds}
@@ -97,9 +97,9 @@ pub record UpdateBounds (m : ℕ) (z : ℤ) (ψ θ scale exponent more : ℕ) (w
 -- ---- step 7
 
 pub record Settled-is (ψ : ℕ) (forward back : List ℤ) (ψ′ : ℕ) (forward′ back′ : List ℤ) : Type 0 where
-  pub exponent : ψ′ ≡ settledExponent (allSmall forward && allSmall back) ψ
-  pub ahead : forward′ ≡ settled (allSmall forward && allSmall back) forward
-  pub behind : back′ ≡ settled (allSmall forward && allSmall back) back
+  pub exponent : ψ′ ≡ settledExponent (outcomeOf ψ forward back) ψ
+  pub ahead : forward′ ≡ settled (outcomeOf ψ forward back) forward
+  pub behind : back′ ≡ settled (outcomeOf ψ forward back) back
 
 -- ---- steps 6 and 7
 

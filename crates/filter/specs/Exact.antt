@@ -1,7 +1,7 @@
 -- The exact LMS step, and what holds at a sample. Each comparison is of whole numbers: both sides times the same power of two.
 use mathlib.Core.Path.{_≡_}
 use mathlib.Core.Bool.{cond}
-use mathlib.Core.List.{map}
+use mathlib.Core.List.{List, map}
 use Prim.Native.Nat.{ℕ, suc, _+_, _*_, _-_, _^_, _≤_, _<_}
 use lib.Dec.{ltb}
 use lib.ListN.{length, getD}
@@ -10,8 +10,8 @@ use Rattle.laws.specs.Sums.{dot, Each}
 use Rattle.numbers.specs.Cut.{cut, raise}
 use Rattle.steps.specs.Limits.{outputExponentLimit}
 use Rattle.steps.specs.Settings.{Settings, scaleForward, scaleBack}
-use Rattle.steps.specs.Side.{Small, adapt, halved}
-use Rattle.filter.specs.Sample.{Taps, ν, held, F, H, Y, ξ, Z, θ, κ, v, J, forwardSide, backSide, newForward, newBack, next}
+use Rattle.steps.specs.Side.{Small, adapt, halved, doubled}
+use Rattle.filter.specs.Sample.{Taps, Outcome, keep, halve, double, ν, held, F, H, Y, ξ, Z, θ, κ, v, J, forwardSide, backSide, newForward, newBack, outcome, next}
 
 -- y*·2^60: the unrounded sum of weight times data, W·2^(ψ−15)·A·2^(γ−15) and W·2^(ψ−15)·v
 abbrev pub exactOutput : ℕ → Taps → ℤ
@@ -25,9 +25,24 @@ exactWeight M ψ y v d x w = raise w (120 + ψ) +ℤ pos M *ℤ raise d x *ℤ (
 abbrev pub distance : ℕ
 distance = 1025
 
--- the stored weight w and the exact one are at most so many units of 2^(ψ−15) apart, with the new ψ
-abbrev pub Near : ℕ → ℤ → ℤ → Type 0
-Near ψ w e = natAbs (raise w (120 + ψ) -ℤ e) * 1024 ≤ distance * 2 ^ (120 + ψ)
+-- units of 2^(u−15), where u is the new ψ, but the ψ before the sample where the weights are doubled
+abbrev pub unitExponent : Outcome → ℕ → ℕ
+unitExponent keep ψ = ψ
+unitExponent halve ψ = suc ψ
+unitExponent double ψ = ψ
+
+-- the stored weight w, at its ψ, and the exact one are at most so many units of 2^(u−15) apart
+abbrev pub Near : ℕ → ℕ → ℤ → ℤ → Type 0
+Near u ψ w e = natAbs (raise w (120 + ψ) -ℤ e) * 1024 ≤ distance * 2 ^ (120 + u)
+
+-- the values of weights, times 2^15: W·2^ψ
+abbrev pub valuesOf : ℕ → List ℤ → List ℤ
+valuesOf ψ w = map (λ (x : ℤ). raise x ψ) w
+
+-- the weights of both filters at ψ′ mean the same numbers as those at ψ
+pub record SameValues (ψ : ℕ) (forward back : List ℤ) (ψ′ : ℕ) (forward′ back′ : List ℤ) : Type 0 where
+  pub ahead : valuesOf ψ′ forward′ ≡ valuesOf ψ forward
+  pub behind : valuesOf ψ′ back′ ≡ valuesOf ψ back
 
 -- what holds at a sample: its numbers keep their bounds
 pub record Bounded (k : Settings) (g : ℕ) (t : Taps) (entry : ℤ) : Type 0 where
@@ -52,10 +67,10 @@ pub record Faithful (k : Settings) (g : ℕ) (t : Taps) (entry : ℤ) : Type 0 w
   pub output-near : natAbs (raise (Y k g t entry) (ξ k g t entry + 30) -ℤ exactOutput g t) < 2 ^ (ξ k g t entry + 30)
   -- each new weight and the exact LMS step
   pub forward-near : (n : ℕ) → n < length (t .forward) →
-      Near (next k g t entry .ψ) (getD (next k g t entry .forward) n (pos 0))
+      Near (unitExponent (outcome k g t entry) (t .ψ)) (next k g t entry .ψ) (getD (next k g t entry .forward) n (pos 0))
       (exactWeight (k .M) (t .ψ) (exactOutput g t) (v k g t entry) (getD (t .samples) n (pos 0)) g (getD (t .forward) n (pos 0)))
   pub back-near : (n : ℕ) → n < length (t .back) →
-      Near (next k g t entry .ψ) (getD (next k g t entry .back) n (pos 0))
+      Near (unitExponent (outcome k g t entry) (t .ψ)) (next k g t entry .ψ) (getD (next k g t entry .back) n (pos 0))
       (exactWeight (k .M) (t .ψ) (exactOutput g t) (v k g t entry) (getD (t .symbols) n (pos 0)) 45 (getD (t .back) n (pos 0)))
 
 -- what holds at a sample: each number is what its step gives, and none is brought to an end of a range
@@ -77,8 +92,22 @@ pub record Unclipped (k : Settings) (g : ℕ) (t : Taps) (entry : ℤ) : Type 0 
   pub new-forward-is : newForward k g t entry ≡ adapt (raise (J k g t entry (forwardSide k g t entry)) (scaleForward k)) (t .forward) (t .samples)
   pub new-back-is : newBack k g t entry ≡ adapt (raise (J k g t entry (backSide k g t entry)) (scaleBack k)) (t .back) (map (held k g t entry) (t .symbols))
 
--- what step 7 leaves: the new weights as they are, or the cut half of every one of them, once
+-- twice every new weight, once: ψ falls by one, no weight changes its value, and their halves are the new weights again
+pub record DoubledOnce (k : Settings) (g : ℕ) (t : Taps) (entry : ℤ) : Type 0 where
+  pub forward-is : next k g t entry .forward ≡ doubled (newForward k g t entry)
+  pub back-is : next k g t entry .back ≡ doubled (newBack k g t entry)
+  pub ψ-is : suc (next k g t entry .ψ) ≡ t .ψ
+  pub values-same : SameValues (t .ψ) (newForward k g t entry) (newBack k g t entry) (next k g t entry .ψ) (next k g t entry .forward) (next k g t entry .back)
+  pub forward-whole : halved (next k g t entry .forward) ≡ newForward k g t entry
+  pub back-whole : halved (next k g t entry .back) ≡ newBack k g t entry
+
+-- what step 7 and the doubling after it leave: the new weights as they are, or the cut half of every one of them, once, or twice every one of them, once
 pub data Settled (k : Settings) (g : ℕ) (t : Taps) (entry : ℤ) : Type 0 where
   kept : next k g t entry .forward ≡ newForward k g t entry → next k g t entry .back ≡ newBack k g t entry → next k g t entry .ψ ≡ t .ψ → Settled k g t entry
   halved-once : next k g t entry .forward ≡ halved (newForward k g t entry) → next k g t entry .back ≡ halved (newBack k g t entry) → next k g t entry .ψ ≡ suc (t .ψ) →
       Settled k g t entry
+  doubled-once : DoubledOnce k g t entry → Settled k g t entry
+
+-- with M = 0 no weight changes its value
+abbrev pub Frozen : Settings → ℕ → Taps → ℤ → Type 0
+Frozen k g t entry = k .M ≡ 0 → SameValues (t .ψ) (t .forward) (t .back) (next k g t entry .ψ) (next k g t entry .forward) (next k g t entry .back)

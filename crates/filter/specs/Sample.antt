@@ -1,13 +1,14 @@
 -- One sample. γ + 30 is g, a natural number.
-use mathlib.Core.Bool.{Bool, _&&_, cond}
+use mathlib.Core.Bool.{_&&_, cond}
 use mathlib.Core.List.{List, map}
 use Prim.Native.Nat.{ℕ, suc, _+_, _-_}
-use lib.Dec.{eqb}
+use lib.Dec.{eqb, ltb}
 use lib.IntN.{ℤ, natAbs}
 use Rattle.numbers.specs.BitLength.{bitLength}
 use Rattle.numbers.specs.Cut.{raise}
 use Rattle.steps.specs.Settings.{Settings, scaleForward, scaleBack}
-use Rattle.steps.specs.Side.{Side, sum, factor, newWeights, allSmall, halved, push, longest}
+use Rattle.steps.specs.Limits.{doublingLimit}
+use Rattle.steps.specs.Side.{Side, sum, factor, newWeights, allBelow, allSmall, halved, doubled, push, longest}
 use Rattle.steps.specs.Output.{output, outputExponent}
 use Rattle.steps.specs.Decision.{decide}
 use Rattle.steps.specs.Error.{error, errorExponent}
@@ -20,12 +21,29 @@ pub record Taps : Type 0 where
   pub symbols : List ℤ
   pub ψ : ℕ
 
--- 7: what becomes of new weights, and of ψ
-abbrev pub settled : Bool → List ℤ → List ℤ
-settled small w = cond small w (halved w)
+-- 7, and what follows it: new weights are kept, or all halved, or all doubled
+pub data Outcome : Type 0 where
+  keep : Outcome
+  halve : Outcome
+  double : Outcome
 
-abbrev pub settledExponent : Bool → ℕ → ℕ
-settledExponent small ψ = cond small ψ (suc ψ)
+-- halved where one has reached the halving limit; else doubled where ψ can fall and none has reached the doubling limit
+unfoldable pub outcomeOf : ℕ → List ℤ → List ℤ → Outcome
+outcomeOf ψ forward back =
+    cond (allSmall forward && allSmall back)
+    (cond (ltb 0 ψ && (allBelow doublingLimit forward && allBelow doublingLimit back)) double keep)
+    halve
+
+-- the weights of a side, and ψ
+abbrev pub settled : Outcome → List ℤ → List ℤ
+settled keep w = w
+settled halve w = halved w
+settled double w = doubled w
+
+abbrev pub settledExponent : Outcome → ℕ → ℕ
+settledExponent keep ψ = ψ
+settledExponent halve ψ = suc ψ
+settledExponent double ψ = ψ - 1
 
 module _ (k : Settings) (g : ℕ) (t : Taps) (entry : ℤ) where
   -- 1
@@ -84,15 +102,15 @@ module _ (k : Settings) (g : ℕ) (t : Taps) (entry : ℤ) where
   newBack = newWeights (J backSide) backSide
 
   -- 7
-  unfoldable pub small : Bool
-  small = allSmall newForward && allSmall newBack
+  unfoldable pub outcome : Outcome
+  outcome = outcomeOf (t .ψ) newForward newBack
 
   -- 7 and 8
   unfoldable pub next : Taps
   next = record {
-    forward = settled small newForward;
-    back = settled small newBack;
+    forward = settled outcome newForward;
+    back = settled outcome newBack;
     samples = t .samples;
     symbols = push v (t .symbols);
-    ψ = settledExponent small (t .ψ);
+    ψ = settledExponent outcome (t .ψ);
   }

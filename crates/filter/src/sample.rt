@@ -1,11 +1,15 @@
 // One sample.
 ghost use mathlib.Core.Path.{_≡_};
+ghost use mathlib.Core.List.{map};
 ghost use Prim.Native.Nat.{_+_, _^_, _<_, _≤_};
 ghost use lib.Bits.{bitOr};
-ghost use lib.IntN.{natAbs};
+ghost use lib.IntN.{ℤ, natAbs};
 ghost use lib.ListN.{drop};
+ghost use Rattle.laws.specs.Sums.{Each};
+ghost use Rattle.numbers.specs.Cut.{rescale};
 ghost use Rattle.steps.specs.Limits.{symbolLimit, exponentLimit, outputExponentLimit, lineLength};
 ghost use Rattle.steps.specs.Side.{longest, magnitudes, together};
+ghost use Rattle.steps.specs.Sound.{Storable};
 ghost use Rattle.filter.specs.Calls.{LongestAt, nextDelay, SymbolBounds, FilterBounds, Output-is, DecisionBounds, Decision-is, chosen, UpdateBounds, updated, Settled-is, ChangeBounds, Changed-is, resultOf, Ready, SampleResult-is, settingsOf, tapsOf};
 
 // The settings of a station.
@@ -135,17 +139,32 @@ pub fn update(
     steps::side::adapt(w, a, j as i32, 15 - (scale + more))
 }
 
-// Step 7: the new ψ, where seen has the bits of all new magnitudes together.
+// The weights of both sides at another exponent.
+fn rescale_both(forward: &mut [i16], back: &mut [i16], i: u32, j: u32)
+    requires { ⌜ (Each (Storable i j) (now forward)) × (Each (Storable i j) (now back)) ⌝ }
+    ensures { λ _. ⌜ (now (forward .exit) ≡ map (λ (a : ℤ). rescale a i j) (now (forward .entry))) × (now (back .exit) ≡ map (λ (a : ℤ). rescale a i j) (now (back .entry))) ⌝ }
+{
+    steps::side::rescale_all(forward, i, j);
+    steps::side::rescale_all(back, i, j);
+}
+
+// Step 7 and what follows it: the new ψ, where seen has the bits of all new magnitudes together.
 pub fn settle(forward: &mut [i16], back: &mut [i16], seen: u16, psi: u32) -> u32
     requires { ⌜ (psi ≤ exponentLimit) × (seen ≡ bitOr (together (magnitudes (now forward))) (together (magnitudes (now back)))) ⌝ }
     ensures { λ r. ⌜ Settled-is psi (now (forward .entry)) (now (back .entry)) r (now (forward .exit)) (now (back .exit)) ⌝ }
 {
-    if seen < steps::limits::HALVING {
+    if steps::limits::HALVING <= seen {
+        rescale_both(forward, back, 0, 1);
+        return psi + 1;
+    }
+    if steps::limits::DOUBLING <= seen {
         return psi;
     }
-    steps::side::rescale_all(forward, 0, 1);
-    steps::side::rescale_all(back, 0, 1);
-    psi + 1
+    if psi == 0 {
+        return psi;
+    }
+    rescale_both(forward, back, 1, 0);
+    psi - 1
 }
 
 // Steps 6 and 7: the new weights and the new ψ.

@@ -1,48 +1,90 @@
--- Kept where the bits of all weights are below the halving limit, halved where they are not.
-use mathlib.Core.Path.{_≡_, sym, ap, _∙_}
-use mathlib.Core.Bool.{_&&_}
+-- Halved where the bits of all weights reach the halving limit; else kept, or doubled where ψ can fall and they are below the doubling limit.
+use mathlib.Core.Path.{_≡_, refl, sym, ap, _∙_}
+use mathlib.Core.Bool.{true, _&&_}
 use Prim.Native.Nat.{ℕ, _^_, _<_}
+use native.Mathlib.Numerals.{add-one}
 use native.Mathlib.Omega.{arith}
 use lib.Dec.{ltb}
 use borrow.Author.Needs.{needs}
 use borrow.Author.Tests.{lt-ltb, le-ltb}
-use Rattle.steps.specs.Limits.{halvingLimit}
-use Rattle.steps.specs.Side.{allSmall, magnitudes, together}
-use Rattle.steps.proofs.LargestLaws.{or-left, or-right, both-small}
-use Rattle.steps.proofs.SideLaws.{halvable, halved-is}
-use Rattle.filter.proofs.SampleLaws.{settled-kept, settled-halved}
+use Rattle.steps.specs.Limits.{halvingLimit, doublingLimit}
+use Rattle.steps.specs.Side.{allBelow, allSmall, magnitudes, together}
+use Rattle.steps.proofs.LargestLaws.{or-left, or-right, both-below}
+use Rattle.steps.proofs.SideLaws.{halvable, halved-is, doublable, doubled-is}
+use Rattle.filter.specs.Sample.{keep, halve, double}
+use Rattle.filter.proofs.SampleLaws.{settled-as, halves, keeps-lowest, keeps, doubles}
 use Rattle.filter.proofs.sample.settle.Statement.{statement}
 use Rattle.filter.proofs.sample.settle.Tie as tie
 
-kept : (c : tie.Start) → ltb (c .args .seen) halvingLimit ≡ (allSmall (c .args .forward .now) && allSmall (c .args .back .now))
-kept c = ap (λ (n : ℕ). ltb n halvingLimit) (c .pre .1) ∙ both-small (c .args .forward .now) (c .args .back .now)
-
-returns : tie.Need-returns
-returns c = settled-kept _ _ _ (sym (kept (c .before)) ∙ lt-ltb (c .before .args .seen) halvingLimit (c .if1 .taken))
+-- no weight has reached the limit 2^k where the bits of all have not
+tested : (k : ℕ) (c : tie.Start) → ltb (c .args .seen) (2 ^ k) ≡ (allBelow (2 ^ k) (c .args .forward .now) && allBelow (2 ^ k) (c .args .back .now))
+tested k c = ap (λ (n : ℕ). ltb n (2 ^ k)) (c .pre .1) ∙ both-below k (c .args .forward .now) (c .args .back .now)
 
 -- the bits of each side are among them
-short : (c : tie.Start) → (together (magnitudes (c .args .forward .now)) < 2 ^ 16) × (together (magnitudes (c .args .back .now)) < 2 ^ 16)
-short c =
+short : (k : ℕ) (c : tie.Start) → c .args .seen < 2 ^ k → (together (magnitudes (c .args .forward .now)) < 2 ^ k) × (together (magnitudes (c .args .back .now)) < 2 ^ k)
+short k c h =
     let m = together (magnitudes (c .args .forward .now)) in
     let n = together (magnitudes (c .args .back .now)) in
-    omega (arith, c .pre .1, or-left m n, or-right m n, c .fits .seen .fits)
+    (omega (arith, c .pre .1, or-left m n), omega (arith, c .pre .1, or-right m n))
 
-rescale-all-requires : tie.Need-rescale-all-requires
-rescale-all-requires c κs = let s = c .before .before in halvable (s .args .forward .now) (short s .0)
+-- ---- halved
 
-rescale-all-requires-2 : tie.Need-rescale-all-requires-2
-rescale-all-requires-2 c κs = let s = c .before .before .before .before .before in halvable (s .args .back .now) (short s .1)
+rescale-both-requires : tie.Need-rescale-both-requires
+rescale-both-requires c κs =
+    let s = c .before .before .before in
+    let b = short 16 s (omega (arith, s .fits .seen .fits)) in
+    (halvable (s .args .forward .now) (b .0), halvable (s .args .back .now) (b .1))
+
+returns : tie.Need-returns
+returns c =
+    let r = c .before .before in
+    let d = r .before .before .before in
+    let s = d .before in
+    settled-as halve (halves _ _ _ (sym (tested 14 s) ∙ le-ltb (s .args .seen) halvingLimit (omega (arith, d .if1 .taken)))) (add-one (s .args .psi))
+    (r .rescale-both .ensures .0 ∙ halved-is (s .args .forward .now)) (r .rescale-both .ensures .1 ∙ halved-is (s .args .back .now))
+
+-- ---- kept
+
+small : (c : tie.Else1) → (allSmall (c .before .args .forward .now) && allSmall (c .before .args .back .now)) ≡ true
+small c = sym (tested 14 (c .before)) ∙ lt-ltb (c .before .args .seen) halvingLimit (omega (arith, c .if1 .left))
 
 returns-2 : tie.Need-returns-2
 returns-2 c =
-    let d = c .before .before .before .before .before .before in
+    let d = c .before in
     let s = d .before in
-    settled-halved _ _ _ _ _ (sym (kept s) ∙ le-ltb (s .args .seen) halvingLimit (d .if1 .left))
-    (c .before .before .before .before .rescale-all .ensures ∙ halved-is (s .args .forward .now)) (c .before .rescale-all2 .ensures ∙ halved-is (s .args .back .now))
+    settled-as keep (keeps _ _ _ (small d) (sym (tested 12 s) ∙ le-ltb (s .args .seen) doublingLimit (omega (arith, c .if2 .taken)))) refl refl refl
+
+returns-3 : tie.Need-returns-3
+returns-3 c = settled-as keep (keeps-lowest _ _ _ (small (c .before .before)) (c .if3 .taken)) refl refl refl
+
+-- ---- doubled
+
+below : (c : tie.Else2) → c .before .before .args .seen < doublingLimit
+below c = omega (arith, c .if2 .left)
+
+rescale-both-requires-2 : tie.Need-rescale-both-requires-2
+rescale-both-requires-2 c κs =
+    let d = c .before .before .before in
+    let s = d .before .before in
+    let b = short 12 s (below d) in
+    (doublable (s .args .forward .now) (b .0), doublable (s .args .back .now) (b .1))
+
+sub-result : tie.Need-sub-result
+sub-result c = let d = c .before .before .before .before .before in omega (arith, d .if3 .left)
+
+returns-4 : tie.Need-returns-4
+returns-4 c =
+    let r = c .before .before in
+    let d = r .before .before .before in
+    let e = d .before in
+    let s = e .before .before in
+    settled-as double
+    (doubles _ _ _ (small (e .before)) (lt-ltb 0 (s .args .psi) (omega (arith, d .if3 .left))) (sym (tested 12 s) ∙ lt-ltb (s .args .seen) doublingLimit (below e))) refl
+    (r .rescale-both2 .ensures .0 ∙ doubled-is (s .args .forward .now)) (r .rescale-both2 .ensures .1 ∙ doubled-is (s .args .back .now))
 
 pub settle-spec : {M : Type 1} → statement M
 settle-spec =
     tie.close
     (tie.spec
-    returns rescale-all-requires rescale-all-requires-2 (λ c. search needs) (λ c. search needs)
-    (λ c. search needs) returns-2)
+    rescale-both-requires (λ c. search needs) (λ c. search needs) (λ c. search needs) returns returns-2
+    returns-3 rescale-both-requires-2 sub-result (λ c. search needs) (λ c. search needs) returns-4)

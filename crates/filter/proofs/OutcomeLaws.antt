@@ -1,0 +1,93 @@
+-- What becomes of new weights: each outcome, and what it says of them.
+use mathlib.Core.Path.{_≡_, refl, sym, ap₂, _∙_, subst}
+use mathlib.Core.Bool.{Bool, true, false, _&&_, cond}
+use mathlib.Core.List.{List, [], _∷_}
+use Prim.Native.Nat.{ℕ, _-_, _^_, _≤_, _<_}
+use native.Mathlib.Omega.{arith}
+use lib.Dec.{T, ltb}
+use lib.ListN.{length, length-map}
+use lib.IntN.{ℤ, pos, natAbs}
+use borrow.Author.Tests.{ltb-true, lt-ltb}
+use Rattle.laws.specs.Lists.{all-at, and-left, and-right}
+use Rattle.laws.specs.Sums.{Each, each-map, each-of}
+use Rattle.laws.specs.Tests.{tested-each}
+use Rattle.numbers.specs.Cut.{cut, raise}
+use Rattle.numbers.proofs.CutLaws.{cut-lt, raise-abs, raise-raise}
+use Rattle.steps.specs.Limits.{exponentLimit, halvingLimit, doublingLimit}
+use Rattle.steps.specs.Settings.{Settings}
+use Rattle.steps.specs.Side.{Small, isBelow, allBelow, allSmall, halved, doubled}
+use Rattle.filter.specs.Sample.{Taps, Outcome, keep, halve, double, outcomeOf, settled, settledExponent, newForward, newBack, outcome}
+use Rattle.filter.specs.Exact.{valuesOf, SameValues}
+
+pub all-below : (limit : ℕ) (w : List ℤ) → allBelow limit w ≡ true → Each (λ (x : ℤ). natAbs x < limit) w
+all-below limit w e = each-of (λ (x : ℤ). natAbs x < limit) (pos 0) w (λ i h. ltb-true _ _ (all-at (isBelow limit) w i (pos 0) e h))
+
+-- ---- what an outcome says of ψ and of the new weights
+
+abbrev pub Says : Outcome → ℕ → List ℤ → List ℤ → Type 0
+Says keep ψ f b = Each Small f × Each Small b
+Says halve ψ f b = (allSmall f && allSmall b) ≡ false
+Says double ψ f b = (1 ≤ ψ) × (Each (λ (x : ℤ). natAbs x < doublingLimit) f × Each (λ (x : ℤ). natAbs x < doublingLimit) b)
+
+outcome-says : (ψ : ℕ) (f b : List ℤ) → Says (outcomeOf ψ f b) ψ f b
+unfolding outcomeOf
+outcome-says ψ f b = go (allSmall f && allSmall b) refl (ltb 0 ψ) refl (allBelow doublingLimit f && allBelow doublingLimit b) refl
+  where
+    both : (limit : ℕ) → (allBelow limit f && allBelow limit b) ≡ true → Each (λ (x : ℤ). natAbs x < limit) f × Each (λ (x : ℤ). natAbs x < limit) b
+    both limit e = (all-below limit f (and-left (allBelow limit f) (allBelow limit b) e), all-below limit b (and-right (allBelow limit f) (allBelow limit b) e))
+
+    go : (s : Bool) → (allSmall f && allSmall b) ≡ s → (p : Bool) → ltb 0 ψ ≡ p → (d : Bool) → (allBelow doublingLimit f && allBelow doublingLimit b) ≡ d →
+        Says (cond s (cond (p && d) double keep) halve) ψ f b
+    go false e p q d r = e
+    go true e true q true r = (ltb-true 0 ψ q, both doublingLimit r)
+    go true e true q false r = both halvingLimit e
+    go true e false q d r = both halvingLimit e
+
+pub sample-says : (k : Settings) (g : ℕ) (t : Taps) (entry : ℤ) → Says (outcome k g t entry) (t .ψ) (newForward k g t entry) (newBack k g t entry)
+unfolding outcome
+sample-says k g t entry = outcome-says (t .ψ) (newForward k g t entry) (newBack k g t entry)
+
+-- ---- the weights that are left are small
+
+-- one halving is enough
+halved-small : (w : List ℤ) → Each (λ (x : ℤ). natAbs x < 2 ^ 15) w → Each Small (halved w)
+halved-small w h = each-map (λ (x : ℤ). natAbs x < 2 ^ 15) Small (λ (x : ℤ). cut x 1) (λ x l. cut-lt x 15 14 1 refl l) w h
+
+doubled-small : (w : List ℤ) → Each (λ (x : ℤ). natAbs x < doublingLimit) w → Each Small (doubled w)
+doubled-small w h = each-map (λ (x : ℤ). natAbs x < doublingLimit) Small (λ (x : ℤ). raise x 1) (λ x l. omega (arith, raise-abs x 1)) w h
+
+pub settled-small : (s : Outcome) (ψ : ℕ) (f b : List ℤ) → Says s ψ f b → Each (λ (x : ℤ). natAbs x < 2 ^ 15) f → Each (λ (x : ℤ). natAbs x < 2 ^ 15) b →
+    Each Small (settled s f) × Each Small (settled s b)
+settled-small keep ψ f b h g i = h
+settled-small halve ψ f b h g i = (halved-small f g, halved-small b i)
+settled-small double ψ f b h g i = (doubled-small f (h .1 .0), doubled-small b (h .1 .1))
+
+pub settled-length : (s : Outcome) (w : List ℤ) → length (settled s w) ≡ length w
+settled-length keep w = refl
+settled-length halve w = length-map w _
+settled-length double w = length-map w _
+
+-- ---- a doubled weight at the lower ψ means the same number
+
+doubled-values : (ψ : ℕ) (w : List ℤ) → 1 ≤ ψ → valuesOf (ψ - 1) (doubled w) ≡ valuesOf ψ w
+doubled-values ψ [] h = refl
+doubled-values ψ (x ∷ w) h = ap₂ (λ (y : ℤ) (l : List ℤ). y ∷ l) (raise-raise x 1 (ψ - 1) ψ (omega arith)) (doubled-values ψ w h)
+
+pub doubled-same : (ψ : ℕ) (f b : List ℤ) → 1 ≤ ψ → SameValues ψ f b (ψ - 1) (doubled f) (doubled b)
+doubled-same ψ f b h = record { ahead = doubled-values ψ f h; behind = doubled-values ψ b h }
+
+-- weights that are small already are kept or doubled
+pub small-same : (s : Outcome) (ψ : ℕ) (f b : List ℤ) → Says s ψ f b → Each Small f → Each Small b → SameValues ψ f b (settledExponent s ψ) (settled s f) (settled s b)
+small-same keep ψ f b h g i = record { ahead = refl; behind = refl }
+small-same halve ψ f b h g i = absurd (subst T (sym (ap₂ (λ (x y : Bool). x && y) (tests f g) (tests b i)) ∙ h) tt)
+  where
+    tests : (w : List ℤ) → Each Small w → allSmall w ≡ true
+    tests w g = tested-each (isBelow halvingLimit) Small (λ x l. lt-ltb (natAbs x) halvingLimit l) w g
+small-same double ψ f b h g i = doubled-same ψ f b (h .0)
+
+-- ---- ψ passes its limit only by a halving from its limit
+
+pub passes : (s : Outcome) (ψ : ℕ) → ψ ≤ exponentLimit → exponentLimit < settledExponent s ψ → (s ≡ halve) × (ψ ≡ exponentLimit)
+passes keep ψ h l = absurd (omega arith)
+passes halve ψ h l = (refl, omega arith)
+passes double ψ h l = absurd (omega arith)
