@@ -24,7 +24,7 @@ module _ (k : Settings) (o : Memory) (i : Block) where
       go (inr l) rest = rest (omega arith)
 
   -- and once it has passed it, every later count fails
-  goes-never : (m n : ℕ) → m < n → exponentLimit < after k o i (suc m) .ψ → goes k o i n ≡ false
+  pub goes-never : (m n : ℕ) → m < n → exponentLimit < after k o i (suc m) .ψ → goes k o i n ≡ false
   unfolding goes
   goes-never m n h l = go (goes k o i n) refl
     where

@@ -13,7 +13,7 @@ use Rattle.block.specs.Sound.{Sound, Acceptable}
 use Rattle.filter.specs.Exact.{Bounded, Faithful}
 use Rattle.filter.proofs.SampleBounds as S
 use Rattle.filter.proofs.Distance as D
-use Rattle.filter.proofs.SampleSteps.{unclipped, settled-once}
+use Rattle.filter.proofs.SampleSteps.{unclipped, settled-once, frozen}
 use Rattle.block.proofs.ValuesLaws.{values-at}
 use Rattle.block.proofs.BlockCount.{goes-before}
 use Rattle.block.proofs.BlockSound.{fit-at}
@@ -51,4 +51,5 @@ module _ (k : Settings) (o : Memory) (i : Block) (s : Sound k o) (a : Acceptable
     given = given;
     settled = settled-once k (g k o i) (at k o i n) (entryAt k o i n);
     faithful = faithful-at;
+    frozen = λ m. frozen k (g k o i) (at k o i n) (entryAt k o i n) m (fit .forward-small) (fit .back-small);
   }

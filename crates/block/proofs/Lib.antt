@@ -12,4 +12,5 @@ pub mod BlockLeft
 pub mod RunStart
 pub mod RunLaws
 pub mod BlockHolds
+pub mod BlockOutcomes
 pub mod ValueLists

@@ -13,7 +13,7 @@ use Rattle.steps.specs.Side.{largest, adapt}
 use Rattle.steps.specs.Output.{output, outputExponent}
 use Rattle.steps.specs.Decision.{decide}
 use Rattle.steps.specs.Error.{error, errorExponent}
-use Rattle.filter.specs.Sample.{ν, F, H, Y, ξ, decision, v, κ, Z, θ, J, newForward, newBack, small, next}
+use Rattle.filter.specs.Sample.{ν, F, H, Y, ξ, decision, v, κ, Z, θ, J, outcomeOf, newForward, newBack, outcome, next}
 use Rattle.steps.specs.Side.{longest}
 use Rattle.block.specs.Block.{Block, Memory, receivedAll, newb, newB, g, stored, old, start, after, at, left}
 
@@ -36,7 +36,7 @@ lowest = record { samples = negsuc 32767 ∷ []; gains = 0 ∷ []; entries = pos
 
 -- all definitions, opened
 steps : Unit {0}
-unfolding scaleCount bitLength cut dot largest adapt longest output outputExponent decide error errorExponent ν F H Y ξ decision v κ Z θ J newForward newBack small next receivedAll newb newB g stored old start after at left settings
+unfolding scaleCount bitLength cut dot largest adapt longest output outputExponent decide error errorExponent ν F H Y ξ decision v κ Z θ J outcomeOf newForward newBack outcome next receivedAll newb newB g stored old start after at left settings
 steps = tt
 
 then : Memory

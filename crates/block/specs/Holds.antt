@@ -1,13 +1,14 @@
 -- What holds at every sample of an accepted block.
 use mathlib.Core.Path.{_≡_}
-use Prim.Native.Nat.{ℕ, suc}
+use Prim.Native.Nat.{ℕ, suc, _≤_, _<_}
 use lib.ListN.{getD}
 use lib.IntN.{pos}
 use Rattle.laws.specs.Sums.{Each}
+use Rattle.steps.specs.Limits.{exponentLimit}
 use Rattle.steps.specs.Settings.{Settings}
-use Rattle.filter.specs.Sample.{Y, ξ, decision, Z, θ, next}
+use Rattle.filter.specs.Sample.{halve, Y, ξ, decision, Z, θ, outcome, next}
 use Rattle.steps.specs.Side.{Small}
-use Rattle.filter.specs.Exact.{Bounded, Faithful, Unclipped, Settled}
+use Rattle.filter.specs.Exact.{Bounded, Faithful, Unclipped, SameValues, Settled, Frozen}
 use Rattle.block.specs.Block.{Block, Memory, g, after, at, entryAt, handedY, handedξ, handedDecision, handedZ, handedθ}
 
 module _ (k : Settings) (o : Memory) (i : Block) (n : ℕ) where
@@ -29,7 +30,25 @@ module _ (k : Settings) (o : Memory) (i : Block) (n : ℕ) where
     -- nothing is clipped
     pub unclipped : Unclipped k (g k o i) (at k o i n) (entryAt k o i n)
     pub given : Given
-    -- one halving is enough
+    -- one halving is enough, and a doubling changes no weight's value
     pub settled : Settled k (g k o i) (at k o i n) (entryAt k o i n)
     -- the distances of y and of each new weight to the exact ones
     pub faithful : Faithful k (g k o i) (at k o i n) (entryAt k o i n)
+    -- with M = 0 no weight changes its value, though mantissas and ψ may change
+    pub frozen : Frozen k (g k o i) (at k o i n) (entryAt k o i n)
+
+  -- step 7 would raise ψ to 16 here, and at no sample before
+  pub record RaisesAt : Type 0 where
+    pub within : (j : ℕ) → j ≤ n → after k o i j .ψ ≤ exponentLimit
+    pub highest : after k o i n .ψ ≡ exponentLimit
+    pub halves : outcome k (g k o i) (at k o i n) (entryAt k o i n) ≡ halve
+
+-- step 7 would raise ψ to 16 at some sample
+pub record Raises (k : Settings) (o : Memory) (i : Block) : Type 0 where
+  pub place : ℕ
+  pub in-block : place < k .N
+  pub raises : RaisesAt k o i place
+
+-- the weights that a block left mean the same numbers as those that it found
+abbrev pub SameWeights : Memory → Memory → Type 0
+SameWeights o o′ = SameValues (o .ψ) (o .forward) (o .back) (o′ .ψ) (o′ .forward) (o′ .back)

@@ -13,7 +13,7 @@ use Rattle.laws.specs.Tests.{both, tested-each, all-replicate}
 use Rattle.laws.specs.Sums.{each-append}
 use Rattle.steps.specs.Limits.{exponentLimit, halvingLimit, lengthLimit, places}
 use Rattle.steps.specs.Settings.{Settings, scaleForward, isEntry}
-use Rattle.steps.specs.Side.{Small, allSmall, isSmall}
+use Rattle.steps.specs.Side.{Small, allSmall, isBelow}
 use Rattle.block.specs.Block.{Memory}
 use Rattle.block.specs.Sound.{Sound}
 use Rattle.state.specs.Sizes.{sizesFit, admits}
@@ -90,7 +90,7 @@ module _ (k : Settings) (o : Memory) (s : Sound k o) where
       both _ _ (ap allSmall (whole weights (k .p + k .q) weights-size) ∙ small) (spare weights (k .p + k .q) weights-size)
     where
       small : allSmall weights ≡ true
-      small = tested-each isSmall Small (λ w h. lt-ltb (natAbs w) halvingLimit h) weights (each-append Small (o .forward) (o .back) (s .forward-small) (s .back-small))
+      small = tested-each (isBelow halvingLimit) Small (λ w h. lt-ltb (natAbs w) halvingLimit h) weights (each-append Small (o .forward) (o .back) (s .forward-small) (s .back-small))
 
   past-pass : soundPast (stateOf k o) ≡ true
   unfolding stateOf

@@ -12,11 +12,11 @@ use lib.IntN.{ℤ, pos}
 use borrow.Author.Tests.{leb-true, le-leb, ltb-true, lt-ltb, eqb-true}
 use Rattle.laws.specs.Lists.{all, and-left, and-right}
 use Rattle.laws.specs.Tests.{both, last-le, each-tested, each-parts, all-take, all-drop, all-replicate}
-use Rattle.steps.specs.Limits.{exponentLimit, lengthLimit, places}
+use Rattle.steps.specs.Limits.{exponentLimit, halvingLimit, lengthLimit, places}
 use Rattle.steps.specs.Settings.{Settings, Within, scaleForward, isEntry}
-use Rattle.steps.specs.Side.{Small, isSmall}
+use Rattle.steps.specs.Side.{Small, isBelow}
 use Rattle.block.specs.Sound.{Sound}
-use Rattle.filter.proofs.SideBounds.{all-small}
+use Rattle.filter.proofs.OutcomeLaws.{all-below}
 use Rattle.state.specs.Sizes.{sizesFit, admits, settingsNumber, given}
 use Rattle.state.specs.State.{settings, memory, taps, samples, filler, symbols, isZero, isStored, soundExponents, soundWeights, soundPast, isSound, fresh, refused}
 use Rattle.state.specs.Answers.{setUpState, examined}
@@ -73,7 +73,7 @@ module _ (e : Equaliser) (sizes : sizesFit (settings e) ≡ true) (weights : len
       let t = sound-tests e sound in
       let x = exponents-bound e (t .0) in
       let w = each-parts Small (take (e .p) (e .weights)) (take (e .q) (drop (e .p) (e .weights)))
-      (rw (take-add (e .p) (e .q) (e .weights)) at (all-small (take (taps e) (e .weights)) (and-left _ _ (t .1)))) in
+      (rw (take-add (e .p) (e .q) (e .weights)) at (all-below halvingLimit (take (taps e) (e .weights)) (and-left _ _ (t .1)))) in
       let d = past-tests e (t .2) in
       record {
         within = within;
@@ -152,7 +152,7 @@ fresh-exponents k w = le-leb (0 + k .L) lengthLimit (omega (arith, w .L-most))
 
 fresh-weights : (k : Settings) → soundWeights (fresh k) ≡ true
 unfolding fresh
-fresh-weights k = both _ _ (front-passes isSmall refl (k .p + k .q)) (rest-passes isZero refl (k .p + k .q))
+fresh-weights k = both _ _ (front-passes (isBelow halvingLimit) refl (k .p + k .q)) (rest-passes isZero refl (k .p + k .q))
 
 fresh-past : (k : Settings) → Within k → soundPast (fresh k) ≡ true
 unfolding fresh

@@ -11,7 +11,7 @@ use Rattle.steps.specs.Side.{largest, adapt}
 use Rattle.steps.specs.Output.{output, outputExponent}
 use Rattle.steps.specs.Decision.{decide}
 use Rattle.steps.specs.Error.{error, errorExponent}
-use Rattle.filter.specs.Sample.{ν, F, H, Y, ξ, decision, v, κ, Z, θ, J, newForward, newBack, small, next}
+use Rattle.filter.specs.Sample.{ν, F, H, Y, ξ, decision, v, κ, Z, θ, J, outcomeOf, newForward, newBack, outcome, next}
 use Rattle.steps.specs.Side.{longest}
 use Rattle.block.specs.Block.{receivedAll, values, newb, newB, g, stored, old, start, after, at, goes, handedY, handedξ, handedDecision, left}
 use Rattle.state.specs.Sizes.{settingsNumber}
@@ -26,7 +26,7 @@ use Rattle.trace_text.proofs.DecimalLaws.{decimal-one, decimal-steps}
 
 -- all definitions but those of the digits, opened
 steps : Unit {0}
-unfolding scaleCount bitLength cut dot largest adapt longest output outputExponent decide error errorExponent ν F H Y ξ decision v κ Z θ J newForward newBack small next receivedAll values newb newB g stored old start after at goes handedY handedξ handedDecision left settingsNumber isSound stateOf fresh examined checkNumber runNumber runState signedDecimal wellFormed lentWith field line stopLine lines blockLines blockText textFrom traceText
+unfolding scaleCount bitLength cut dot largest adapt longest output outputExponent decide error errorExponent ν F H Y ξ decision v κ Z θ J outcomeOf newForward newBack outcome next receivedAll values newb newB g stored old start after at goes handedY handedξ handedDecision left settingsNumber isSound stateOf fresh examined checkNumber runNumber runState signedDecimal wellFormed lentWith field line stopLine lines blockLines blockText textFrom traceText
 steps = tt
 
 -- p = q = N = 1, r = L = 0, two blocks, M = 67108864; m = 16384 with gain 0 twice; trained on 1, then decided
