@@ -3,6 +3,7 @@ use mathlib.Core.Path.{_≡_, refl, sym, ap, _∙_, subst}
 use mathlib.Core.Bool.{Bool, true, false, cond}
 use mathlib.Core.List.{List, [], _∷_}
 use Prim.Native.Nat.{ℕ, _+_, _-_, _<_, max}
+use native.Mathlib.Omega.{arith}
 use lib.Dec.{eqb}
 use lib.ListN.{getD}
 use lib.IntN.{pos}
@@ -17,7 +18,9 @@ use Rattle.block.specs.Block as Block
 use Rattle.block.specs.Sound.{Sound}
 use Rattle.block.specs.Stored.{Off, MetNear}
 use Rattle.block.proofs.BlockSound.{left-sound}
+use Rattle.block.specs.Holds.{Raises, SameWeights}
 use Rattle.block.proofs.BlockHolds.{at-sample}
+use Rattle.block.proofs.BlockOutcomes.{stopped-raises, raises-stopped, frozen-left}
 use Rattle.block.proofs.BlockNear.{stored-near, met-near}
 use Rattle.state.specs.State.{settings, memory, stateOf}
 use Rattle.state.specs.Answers.{examined}
@@ -146,10 +149,52 @@ module _ (s : Equaliser) (sound : examined s ≡ 0) where
   save-accepted : (buffer : List ℕ) → StateAccepted (saveNumber s buffer)
   save-accepted buffer = save-number s buffer StateAccepted sound (other 0 refl refl refl) (other 7 refl refl refl)
 
+-- ---- 6
+
+module _ (s : Equaliser) (g : WithinLimits s) (l : Lent) where
+  -- none of the checks before answers 6
+  six-tests : runNumber s l ≡ 6 → (checkNumber s l ≡ 0) × (goes (settings s) (memory s) (block l) (s .n) ≡ false)
+  unfolding runNumber
+  six-tests h = go (eqb (checkNumber s l) 0) refl (goes (settings s) (memory s) (block l) (s .n)) refl h
+    where
+      go : (t : Bool) → eqb (checkNumber s l) 0 ≡ t → (a : Bool) → goes (settings s) (memory s) (block l) (s .n) ≡ a → cond t (cond a 0 6) (checkNumber s l) ≡ 6 →
+          (checkNumber s l ≡ 0) × (goes (settings s) (memory s) (block l) (s .n) ≡ false)
+      go true e true f h = absurd (omega arith)
+      go true e false f h = (eqb-true (checkNumber s l) 0 e, f)
+      go false e a f h =
+          absurd (check-number s l (λ (n : ℕ). n ≡ 6 → ⊥) (within-accepted g .number) (λ q. omega arith) (λ q. omega arith) (λ q. omega arith) (λ q. omega arith) h)
+
+  raised : runNumber s l ≡ 6 → (checkNumber s l ≡ 0) × Raises (settings s) (memory s) (block l)
+  raised h = let t = six-tests h in (t .0, stopped-raises (settings s) (memory s) (block l) (g .bounds .ψ-most) (t .1))
+
+  raised-only : checkNumber s l ≡ 0 → Raises (settings s) (memory s) (block l) → runNumber s l ≡ 6
+  unfolding runNumber
+  raised-only e r = simp (e, raises-stopped (settings s) (memory s) (block l) r)
+
+-- ---- with M = 0
+
+frozen : (s : Equaliser) → WithinLimits s → (l : Lent) → Typed l → s .m ≡ 0 → SameWeights (memory s) (memory (runState s l))
+frozen s g l t m = go (eqb (runNumber s l) 0) refl
+  where
+    go : (b : Bool) → eqb (runNumber s l) 0 ≡ b → SameWeights (memory s) (memory (runState s l))
+    go true e =
+        let ok = eqb-true (runNumber s l) 0 e in
+        let c = checked s g l t ok in
+        subst (SameWeights (memory s)) (sym (ap memory (accepted-leaves s l ok) ∙ memory-is (settings s) (next s g l t ok) (next-sound s g l t ok)))
+        (frozen-left (settings s) (memory s) (block l) (c .sound) (c .acceptable) (run-tests s l ok .1) m)
+    go false e = subst (λ (s′ : Equaliser). SameWeights (memory s) (memory s′)) (sym (refused-same s l (eqb-false (runNumber s l) 0 e))) (record { ahead = refl; behind = refl })
+
 -- ---- every call, and every list of calls
 
 run-holds : (s : Equaliser) → WithinLimits s → (l : Lent) → Typed l → RunHolds s l
-run-holds s g l t = record { number = run-accepted s (within-accepted g .number) l; accepted = accepted-block s g l t; refused = refused-same s l }
+run-holds s g l t = record {
+  number = run-accepted s (within-accepted g .number) l;
+  accepted = accepted-block s g l t;
+  refused = refused-same s l;
+  raised = raised s g l;
+  raised-only = raised-only s g l;
+  frozen = frozen s g l t;
+}
 
 call-holds : (s : Equaliser) → WithinLimits s → (c : Call) → CallHolds s c
 call-holds s g (run l t) = run-holds s g l t

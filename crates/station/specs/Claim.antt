@@ -14,7 +14,7 @@ use Rattle.block.specs.Block.{receivedAll, newB, at}
 use Rattle.block.specs.Block as Block
 use Rattle.block.specs.Sound.{Sound}
 use Rattle.block.specs.Stored.{Off, StoredNear, MetNear}
-use Rattle.block.specs.Holds.{AtSample}
+use Rattle.block.specs.Holds.{AtSample, Raises, SameWeights}
 use Rattle.state.specs.Sizes.{sizesFit, admits}
 use Rattle.steps.specs.Limits.{places}
 use Rattle.state.specs.State.{settings, memory, isSound, stateOf}
@@ -23,7 +23,7 @@ use Rattle.image.specs.Image.{Byte, image, saveNumber}
 use Rattle.image.specs.Load.{loadNumber, loadState}
 use Rattle.state.specs.declared.equaliser.Equaliser.{Equaliser}
 use Rattle.station.specs.Answers.{runNumber, runState}
-use Rattle.checks.specs.Checks.{Lent, block}
+use Rattle.checks.specs.Checks.{Lent, block, checkNumber}
 
 -- ---- calls
 
@@ -107,7 +107,8 @@ pub record LaterNear (s : Equaliser) (l : Lent) (s′ : Equaliser) (l′ : Lent)
 
 -- a block of l that is accepted on s
 pub record AcceptedBlock (s : Equaliser) (l : Lent) : Type 0 where
-  -- at each sample: the bounds of weights, outputs, their sum and the error; nothing clipped; one halving is enough; the distances of y and of each weight to the exact ones
+  -- at each sample: the bounds of weights, outputs, their sum and the error; nothing clipped; one halving is enough, and a doubling changes no weight's value; the distances of y and
+  -- of each weight to the exact ones; with M = 0 no weight changes its value
   pub sample : (n : ℕ) → n < s .n → AtSample (settings s) (memory s) (block l) n
   -- the state that it leaves is the one that its last sample gives
   pub leaves : runState s l ≡ stateOf (settings s) (Block.left (settings s) (memory s) (block l))
@@ -122,6 +123,11 @@ pub record RunHolds (s : Equaliser) (l : Lent) : Type 0 where
   pub number : StateAccepted (runNumber s l)
   pub accepted : runNumber s l ≡ 0 → AcceptedBlock s l
   pub refused : (runNumber s l ≡ 0 → ⊥) → runState s l ≡ s
+  -- 6 is the answer exactly where a block that passes the checks before would raise ψ to 16 at step 7 of some sample
+  pub raised : runNumber s l ≡ 6 → (checkNumber s l ≡ 0) × Raises (settings s) (memory s) (block l)
+  pub raised-only : checkNumber s l ≡ 0 → Raises (settings s) (memory s) (block l) → runNumber s l ≡ 6
+  -- with M = 0 every weight keeps its value, though mantissas and ψ may change
+  pub frozen : s .m ≡ 0 → SameWeights (memory s) (memory (runState s l))
 
 -- a trial is not turned down for its state, all that is said of a block holds of it, and the state that it hands back is within its limits too
 pub record TrialHolds (s : Equaliser) (l : Lent) : Type 0 where
