@@ -156,6 +156,30 @@ fn halvings() {
     );
 }
 
+// A block of silence with M = 0.
+fn silent(about: &[u8], s: Equaliser) -> Equaliser {
+    block(about, s, 0, 1)
+}
+
+fn doublings() {
+    silent(
+        b"weights 4095 at psi 1: answer ",
+        state(0, 1, 0, 4095, 4095, 0),
+    );
+    silent(b"a weight of 4096: answer ", state(0, 1, 0, 4096, 4095, 0));
+    silent(
+        b"a weight of -4096: answer ",
+        state(0, 1, 0, 4095, -4096, 0),
+    );
+    silent(
+        b"weights 4095 at psi 0: answer ",
+        state(0, 0, 0, 4095, 4095, 0),
+    );
+    let two = silent(b"weights 0 at psi 2: answer ", state(0, 2, 0, 0, 0, 0));
+    let one = silent(b"the same once more: answer ", two);
+    silent(b"the same at psi 0: answer ", one);
+}
+
 fn two_samples() {
     let first = block(
         b"first sample: answer ",
@@ -182,6 +206,7 @@ fn run() {
     loudness();
     ties();
     halvings();
+    doublings();
     two_samples();
 }
 

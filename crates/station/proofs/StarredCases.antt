@@ -9,11 +9,11 @@ use Rattle.numbers.specs.ScaleCount.{scaleCount}
 use Rattle.numbers.specs.BitLength.{bitLength}
 use Rattle.numbers.specs.Cut.{cut}
 use Rattle.steps.specs.Settings.{Settings, stepBound}
-use Rattle.steps.specs.Side.{largest, adapt, allSmall}
+use Rattle.steps.specs.Side.{largest, adapt}
 use Rattle.steps.specs.Output.{output, outputExponent}
 use Rattle.steps.specs.Decision.{decide}
 use Rattle.steps.specs.Error.{error, errorExponent}
-use Rattle.filter.specs.Sample.{settled, ν, F, H, Y, ξ, decision, v, κ, Z, θ, J, newForward, newBack, small, next}
+use Rattle.filter.specs.Sample.{outcomeOf, settled, settledExponent, ν, F, H, Y, ξ, decision, v, κ, Z, θ, J, newForward, newBack, outcome, next}
 use Rattle.steps.specs.Side.{longest}
 use Rattle.block.specs.Block.{Block, Memory, receivedAll, newb, newB, g, stored, old, start, after, at, left}
 use Rattle.state.specs.Sizes.{settingsNumber, given}
@@ -34,9 +34,19 @@ one m entry = record { samples = m ∷ []; gains = 0 ∷ []; entries = entry ∷
 begun : Memory
 begun = memory (fresh smallest)
 
+-- weights of 0 at ψ = 3, and a block of silence
+still : Settings
+still = given 1 1 5 0 0 0
+
+low : Memory
+low = record { forward = pos 0 ∷ []; back = pos 0 ∷ []; samples = []; symbols = pos 0 ∷ []; ψ = 3; b = 0; B = 0 }
+
+silence : Block
+silence = record { samples = replicate 5 (pos 0); gains = replicate 5 0; entries = replicate 5 (pos 0) }
+
 -- all definitions, opened
 steps : Unit {0}
-unfolding scaleCount bitLength cut dot largest adapt longest output outputExponent decide error errorExponent ν F H Y ξ decision v κ Z θ J newForward newBack small next receivedAll newb newB g stored old start after at left settingsNumber fresh smallest one begun
+unfolding scaleCount bitLength cut dot largest adapt longest output outputExponent decide error errorExponent ν F H Y ξ decision v κ Z θ J outcomeOf newForward newBack outcome next receivedAll newb newB g stored old start after at left settingsNumber fresh smallest one begun still low silence
 steps = tt
 
 trained : Memory
@@ -50,9 +60,14 @@ decided = left smallest trained (one (pos 16384) (pos 0))
 weights : Memory → List ℤ
 weights o = o .forward ++ o .back
 
--- step 7 on new weights
-kept : List ℤ → List ℤ
-kept w = settled (allSmall w) w
+-- step 7, and what follows it, on new weights of both filters at ψ: the weights that are left, then ψ
+settles : ℕ → List ℤ → List ℤ → List ℤ
+settles ψ f b = let s = outcomeOf ψ f b in settled s f ++ settled s b ++ (pos (settledExponent s ψ) ∷ [])
+
+-- ψ after each of n samples of silence in one block, where all weights are 0 and ψ is 3
+falling : ℕ → List ℤ
+falling zero = []
+falling (suc n) = falling n ++ (pos (after still low silence (suc n) .ψ) ∷ [])
 
 answers : ℕ → ℕ → ℕ → ℕ → ℕ → List ℤ
 answers p N r L M = pos (settingsNumber (given p p N r L M)) ∷ []
@@ -80,12 +95,18 @@ cases =
     ∷ record { gives = scales 1 16; says = map pos (1 ∷ 2 ∷ 3 ∷ 3 ∷ 4 ∷ 4 ∷ 4 ∷ 4 ∷ 5 ∷ 5 ∷ 5 ∷ 5 ∷ 5 ∷ 5 ∷ 5 ∷ 5 ∷ []) }
     ∷ record { gives = scales 17 16; says = replicate 16 (pos 6) }
     ∷ record { gives = scales 33 32; says = replicate 32 (pos 7) }
-    ∷ record { gives = kept (pos 16383 ∷ negsuc 2 ∷ []); says = pos 16383 ∷ negsuc 2 ∷ [] }
-    ∷ record { gives = kept (pos 16384 ∷ negsuc 2 ∷ []); says = pos 8192 ∷ negsuc 0 ∷ [] }
-    ∷ record { gives = kept (negsuc 16384 ∷ []); says = negsuc 8191 ∷ [] }
+    ∷ record { gives = settles 0 (pos 16383 ∷ []) (negsuc 2 ∷ []); says = pos 16383 ∷ negsuc 2 ∷ pos 0 ∷ [] }
+    ∷ record { gives = settles 0 (pos 16384 ∷ []) (negsuc 2 ∷ []); says = pos 8192 ∷ negsuc 0 ∷ pos 1 ∷ [] }
+    ∷ record { gives = settles 0 (negsuc 16384 ∷ []) (pos 0 ∷ []); says = negsuc 8191 ∷ pos 0 ∷ pos 1 ∷ [] }
+    ∷ record { gives = settles 1 (pos 4095 ∷ pos 4095 ∷ []) (pos 4095 ∷ []); says = pos 8190 ∷ pos 8190 ∷ pos 8190 ∷ pos 0 ∷ [] }
+    ∷ record { gives = settles 1 (pos 4095 ∷ pos 4096 ∷ []) (pos 4095 ∷ []); says = pos 4095 ∷ pos 4096 ∷ pos 4095 ∷ pos 1 ∷ [] }
+    ∷ record { gives = settles 1 (pos 4095 ∷ []) (pos 4095 ∷ negsuc 4095 ∷ []); says = pos 4095 ∷ pos 4095 ∷ negsuc 4095 ∷ pos 1 ∷ [] }
+    ∷ record { gives = settles 0 (pos 4095 ∷ []) (negsuc 4094 ∷ []); says = pos 4095 ∷ negsuc 4094 ∷ pos 0 ∷ [] }
+    ∷ record { gives = settles 5 (pos 16384 ∷ []) (pos 4095 ∷ []); says = pos 8192 ∷ pos 2047 ∷ pos 6 ∷ [] }
+    ∷ record { gives = falling 5; says = pos 2 ∷ pos 1 ∷ pos 0 ∷ pos 0 ∷ pos 0 ∷ [] }
     ∷ record { gives = weights trained; says = pos 1024 ∷ pos 0 ∷ [] }
     ∷ record { gives = weights decided; says = pos 2032 ∷ pos 2016 ∷ [] } ∷ []
 
 pub starred : map (λ (c : Case). c .gives) cases ≡ map (λ (c : Case). c .says) cases
-unfolding cases steps trained decided weights kept answers scales
+unfolding cases steps trained decided weights settles falling answers scales
 starred = refl
