@@ -77,7 +77,7 @@ pub struct SampleDetail {
     pub weights_before: Vec<i128>,
     /// The new weights before step 7.
     pub weights_new: Vec<i128>,
-    /// The weights after step 7.
+    /// The weights after step 7, kept, halved or doubled.
     pub weights_after: Vec<i128>,
 }
 
@@ -104,14 +104,27 @@ pub fn decide(y: Dyadic, settings: &Settings) -> i128 {
     decision.clamp(-end, end)
 }
 
-/// Step 7: whether the new weights are halved, and the weights that remain.
-pub fn step7(new: &[i128]) -> (bool, Vec<i128>) {
+/// How ψ moves in step 7.
+#[derive(Clone, Copy, Debug, PartialEq, Eq)]
+pub enum Rule {
+    /// Up by a halving, down by a doubling.
+    Amended,
+    /// Up by a halving only: the rule before request 2026-04, for comparison
+    /// only.
+    RisesOnly,
+}
+
+/// Step 7 on the new weights of both filters: they are halved once, or doubled
+/// once, or kept. Gives ψ and the weights after it.
+pub fn step7(rule: Rule, psi: i32, new: &[i128]) -> (i32, Vec<i128>) {
+    let scaled = |by: i32| new.iter().map(|&w| Dyadic::new(w, by).cut()).collect();
     if new.iter().any(|w| w.abs() >= 16384) {
-        let halved = new.iter().map(|&w| Dyadic::new(w, -1).cut()).collect();
-        (true, halved)
-    } else {
-        (false, new.to_vec())
+        return (psi + 1, scaled(-1));
     }
+    if rule == Rule::Amended && psi > 0 && new.iter().all(|w| w.abs() < 4096) {
+        return (psi - 1, scaled(1));
+    }
+    (psi, new.to_vec())
 }
 
 /// The sum of products of two lists of one length.
@@ -120,8 +133,8 @@ fn sum_of_products(a: &[i128], b: &[i128]) -> i128 {
     a.iter().zip(b).map(|(x, y)| x * y).sum()
 }
 
-/// One sample. `a` holds the stored samples newest first, `symbols` the last
-/// q symbols newest first, `entry` is the training entry.
+/// One sample, by the amended rule. `a` holds the stored samples newest first,
+/// `symbols` the last q symbols newest first, `entry` is the training entry.
 pub fn one_sample(
     settings: &Settings,
     psi: i32,
@@ -181,9 +194,8 @@ pub fn one_sample(
         .map(|(w, gain)| w + gain)
         .collect();
 
-    // 7. Halving.
-    let (halved, weights_after) = step7(&weights_new);
-    let psi_after = if halved { psi + 1 } else { psi };
+    // 7. Halving or doubling.
+    let (psi_after, weights_after) = step7(Rule::Amended, psi, &weights_new);
 
     SampleDetail {
         psi_before: psi,
@@ -216,6 +228,11 @@ pub fn scaled_sample(m: i16, g: u8) -> i128 {
 /// The whole block on a state and lists that passed refusals 1 to 5. Gives
 /// the detail and the state after it, or 6.
 pub fn work(state: &State, inputs: Inputs<'_>) -> Result<(BlockDetail, State), u8> {
+    work_by(Rule::Amended, state, inputs)
+}
+
+/// The same by one of the rules.
+fn work_by(rule: Rule, state: &State, inputs: Inputs<'_>) -> Result<(BlockDetail, State), u8> {
     let settings = &state.settings;
     let p = usize::from(settings.p);
     let q = usize::from(settings.q);
@@ -260,7 +277,7 @@ pub fn work(state: &State, inputs: Inputs<'_>) -> Result<(BlockDetail, State), u
     let mut samples = Vec::new();
     for (&newest, &entry) in stored.iter().zip(inputs.training) {
         line.insert(0, newest);
-        let detail = one_sample(
+        let mut detail = one_sample(
             settings,
             psi,
             &weights,
@@ -269,6 +286,9 @@ pub fn work(state: &State, inputs: Inputs<'_>) -> Result<(BlockDetail, State), u
             &symbols,
             i128::from(entry),
         );
+        if rule != Rule::Amended {
+            (detail.psi_after, detail.weights_after) = step7(rule, psi, &detail.weights_new);
+        }
         if detail.psi_after > i32::from(Settings::MOST_EXPONENT) {
             return Err(EXPONENT);
         }
@@ -346,11 +366,16 @@ pub fn examine(state: &State, inputs: Inputs<'_>, outputs: &Outputs) -> u8 {
 /// Runs a block on a lent state. Refused, the state and the outputs stay as
 /// they are.
 pub fn run(state: &mut State, inputs: Inputs<'_>, outputs: &mut Outputs) -> u8 {
+    run_by(Rule::Amended, state, inputs, outputs)
+}
+
+/// Runs a block by one of the rules.
+pub fn run_by(rule: Rule, state: &mut State, inputs: Inputs<'_>, outputs: &mut Outputs) -> u8 {
     let number = examine(state, inputs, outputs);
     if number != ACCEPTED {
         return number;
     }
-    let (detail, after) = match work(state, inputs) {
+    let (detail, after) = match work_by(rule, state, inputs) {
         Ok(done) => done,
         Err(number) => return number,
     };

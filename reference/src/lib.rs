@@ -36,7 +36,7 @@ pub mod state;
 pub mod trace;
 pub mod vectors;
 
-pub use block::{run, trial, Inputs, Outputs};
+pub use block::{run, run_by, trial, Inputs, Outputs, Rule};
 pub use image::{image_length, load, save};
 pub use settings::Settings;
 pub use state::{set_up, State};

@@ -1,6 +1,6 @@
 //! The worked example and the cases beside the limits.
 
-use reference::block::{decide, step7, work};
+use reference::block::{decide, step7, work, Rule};
 use reference::numbers::Dyadic;
 use reference::trace::trace_with_state;
 use reference::{run, save, set_up, trace, Inputs, Outputs, Settings, State};
@@ -137,10 +137,13 @@ fn ties_in_a_block() {
 
 #[test]
 fn halving_at_the_limit() {
-    assert_eq!(step7(&[16383, -16383, 7]), (false, vec![16383, -16383, 7]));
-    assert_eq!(step7(&[16384, 9, -9]), (true, vec![8192, 4, -4]));
-    assert_eq!(step7(&[1, -16385]), (true, vec![0, -8192]));
-    assert_eq!(step7(&[1, -16384]), (true, vec![0, -8192]));
+    for rule in [Rule::Amended, Rule::RisesOnly] {
+        let after = |new: &[i128]| step7(rule, 3, new);
+        assert_eq!(after(&[16383, -16383, 7]), (3, vec![16383, -16383, 7]));
+        assert_eq!(after(&[16384, 9, -9]), (4, vec![8192, 4, -4]));
+        assert_eq!(after(&[1, -16385]), (4, vec![0, -8192]));
+        assert_eq!(after(&[1, -16384]), (4, vec![0, -8192]));
+    }
 }
 
 /// The same within a block. The feedback weight makes the output far too low,
