@@ -14,6 +14,8 @@ pub struct Worst {
     pub samples: u64,
     /// Halvings among them.
     pub halvings: u64,
+    /// Doublings among them.
+    pub doublings: u64,
     /// The largest |W| before or after a sample.
     pub weight: i128,
     /// The largest |F|.
@@ -27,10 +29,12 @@ pub struct Worst {
     /// The largest new |W| before step 7.
     pub new_weight: i128,
     /// The greatest distance to the exact LMS step, in units of 2^(ψ−15) with
-    /// the new ψ.
+    /// the new ψ, or with the old one where the weights were doubled.
     pub step: Exact,
     /// The same where the weights were halved.
     pub halved_step: Exact,
+    /// The same where they were doubled.
+    pub doubled_step: Exact,
     /// The greatest |y − y*|, in units of 2^(ξ−30).
     pub output: Exact,
     /// The greatest distance of a stored sample in its own block, in units of
@@ -46,6 +50,7 @@ impl Worst {
         Worst {
             samples: 0,
             halvings: 0,
+            doublings: 0,
             weight: 0,
             f: 0,
             h: 0,
@@ -54,6 +59,7 @@ impl Worst {
             new_weight: 0,
             step: Exact::zero(),
             halved_step: Exact::zero(),
+            doubled_step: Exact::zero(),
             output: Exact::zero(),
             stored: Exact::zero(),
             past: Exact::zero(),
@@ -64,14 +70,15 @@ impl Worst {
     pub fn report(&self) -> String {
         let part = |a: i128, bits: u32| a as f64 / f64::from(bits).exp2();
         format!(
-            "samples {}, halvings {}\n\
+            "samples {}, halvings {}, doublings {}\n\
              |W| {}, new |W| {}\n\
              |F| / 2^28 {:.6}, |H| / 2^28 {:.6}, |Y| / 2^29 {:.6}, |Z| / 2^30 {:.6}\n\
-             distance to the exact step {:.9} units, where halved {:.9} units\n\
+             distance to the exact step {:.9} units, where halved {:.9}, where doubled {:.9}\n\
              |y - y*| {:.9} of 2^(xi-30)\n\
              stored sample {:.9} of its unit, in the next block {:.9}\n",
             self.samples,
             self.halvings,
+            self.doublings,
             self.weight,
             self.new_weight,
             part(self.f, 28),
@@ -80,6 +87,7 @@ impl Worst {
             part(self.z, 30),
             self.step.roughly(),
             self.halved_step.roughly(),
+            self.doubled_step.roughly(),
             self.output.roughly(),
             self.stored.roughly(),
             self.past.roughly(),
@@ -228,9 +236,11 @@ impl Checker {
             y_star = y_star.plus(&weight.times(datum));
         }
         self.output(d, &y_star)?;
+        exponent(d)?;
         let mu = Exact::new(i128::from(settings.m), -30);
         let pull = mu.times(&Exact::new(d.v, 0).minus(&y_star));
-        self.steps(d, &weights, &data, &pull)
+        self.steps(d, &weights, &data, &pull)?;
+        values(settings, d)
     }
 
     /// The bounds of whole numbers. |W| after step 7 is among them: one
@@ -283,16 +293,19 @@ impl Checker {
         let worst = &mut self.worst;
         let bound = Exact::new(1025, -10);
         let halved = d.psi_after > d.psi_before;
-        if d.psi_after != d.psi_before + i32::from(halved) || d.psi_after > 15 {
-            return Err("ψ goes elsewhere than up by one, to 15 at most,");
-        }
+        let doubled = d.psi_after < d.psi_before;
+        let unit = if doubled { d.psi_before } else { d.psi_after };
         worst.halvings += u64::from(halved);
+        worst.doublings += u64::from(doubled);
         for (i, (weight, datum)) in weights.iter().zip(data).enumerate() {
             let step = weight.plus(&pull.times(datum));
             let reached = Exact::new(d.weights_after[i], d.psi_after - 15);
-            let units = reached.minus(&step).magnitude().scaled(15 - d.psi_after);
+            let units = reached.minus(&step).magnitude().scaled(15 - unit);
             if halved {
                 keep_greater(&mut worst.halved_step, units.clone());
+            }
+            if doubled {
+                keep_greater(&mut worst.doubled_step, units.clone());
             }
             let near = units.at_most(&bound);
             keep_greater(&mut worst.step, units);
@@ -302,6 +315,43 @@ impl Checker {
         }
         Ok(())
     }
+}
+
+/// ψ rises by one exactly where the weights are halved, so that no such sample
+/// doubles them; else it falls by one or stays. It is 0 to 15.
+fn exponent(d: &SampleDetail) -> Result<(), &'static str> {
+    let halving = d.weights_new.iter().any(|w| w.abs() >= 16384);
+    let change = d.psi_after - d.psi_before;
+    let moved = match halving {
+        true => change == 1,
+        false => change == 0 || change == -1,
+    };
+    if moved && (0..=15).contains(&d.psi_after) {
+        Ok(())
+    } else {
+        Err("ψ goes elsewhere than up by one with a halving, else down by one or nowhere,")
+    }
+}
+
+/// Step 7 changes no weight's value unless it halves: a doubling does not. With
+/// M = 0 no sample changes any.
+fn values(settings: &Settings, d: &SampleDetail) -> Result<(), &'static str> {
+    let after = (&d.weights_after[..], d.psi_after);
+    let halved = d.psi_after > d.psi_before;
+    if !halved && !same_values((&d.weights_new, d.psi_before), after) {
+        return Err("without a halving the value of a weight changes in step 7");
+    }
+    if settings.m == 0 && !same_values((&d.weights_before, d.psi_before), after) {
+        return Err("with M = 0 the value of a weight changes");
+    }
+    Ok(())
+}
+
+/// Whether W·2^(ψ−15) is the same for each weight of two lists.
+fn same_values((before, old): (&[i128], i32), (after, new): (&[i128], i32)) -> bool {
+    let value = |w: i128, psi: i32| Exact::new(w, psi - 15);
+    let same = |(&w, &u): (&i128, &i128)| value(w, old).order(&value(u, new)).is_eq();
+    before.len() == after.len() && before.iter().zip(after).all(same)
 }
 
 /// The greatest distance of A·2^(γ−15) to x, in units of 2^(`unit`−15).

@@ -184,6 +184,25 @@ impl Random {
         state
     }
 
+    /// A sound state with ψ from 1 to 15 and weights about to be doubled: of
+    /// at most 12 bits, often all of one length, and sometimes one of them
+    /// right beside 4096.
+    pub fn falling_state(&mut self, settings: Settings) -> State {
+        let mut state = self.sound_state(settings);
+        state.psi = self.byte(1, 15);
+        let bits = self.pick(&[0, 0, 1, 4, 8, 11, 12, 12]);
+        let most = (1i64 << bits) - 1;
+        let least = self.pick(&[0, (most - 3).max(0)]);
+        for place in 0..settings.taps() {
+            state.weights[place] = (self.sign() * self.between(least, most)) as i16;
+        }
+        if self.chance(1, 3) {
+            let place = self.below(settings.taps() as u64) as usize;
+            state.weights[place] = (self.sign() * self.between(4094, 4097)) as i16;
+        }
+        state
+    }
+
     /// The samples and gains of one block: the style says how loud.
     pub fn samples(&mut self, settings: &Settings, style: Loudness) -> (Vec<i16>, Vec<u8>) {
         let l = settings.l;
