@@ -185,6 +185,140 @@ fn halving_at_the_limit_in_a_block() {
 }
 
 #[test]
+fn doubling_at_the_limit() {
+    let after = |psi: i32, new: &[i128]| step7(Rule::Amended, psi, new);
+    assert_eq!(after(1, &[4095, -4095, 7]), (0, vec![8190, -8190, 14]));
+    assert_eq!(after(15, &[0, 0]), (14, vec![0, 0]));
+    for place in 0..3 {
+        for weight in [4096, -4096, 8191, 16383, -16383] {
+            let mut new = vec![4095, -1, 0];
+            new[place] = weight;
+            assert_eq!(after(9, &new), (9, new.clone()));
+        }
+    }
+    assert_eq!(after(0, &[4095, -4095]), (0, vec![4095, -4095]));
+    // A halving leaves one of 8192 at least: no doubling can follow it.
+    assert_eq!(after(3, &[16384, 0]), (4, vec![8192, 0]));
+    let old = |new: &[i128]| step7(Rule::RisesOnly, 5, new);
+    assert_eq!(old(&[4095, 0]), (5, vec![4095, 0]));
+}
+
+/// A state of one tap each with M = 0, with its weights, and its exponent.
+fn frozen(psi: u8, weights: [i16; 2]) -> State {
+    let (_, mut state) = set_up(sizes(1, 1, 1, 0, 0, 0));
+    state.psi = psi;
+    state.weights = weights.to_vec();
+    state
+}
+
+/// ψ and the weights after a block of a 0.
+fn after_a_zero(state: &State) -> (u8, Vec<i16>) {
+    let inputs = Inputs {
+        samples: &[0],
+        gains: &[0],
+        training: &[1],
+    };
+    let (_, after) = work(state, inputs).unwrap();
+    (after.psi, after.weights)
+}
+
+#[test]
+fn doubling_at_the_limit_in_a_block() {
+    let after = |psi, weights| after_a_zero(&frozen(psi, weights));
+    for (w, doubled) in [(4095, 8190), (-4095, -8190), (1, 2), (0, 0)] {
+        assert_eq!(after(1, [w, 4095]), (0, vec![doubled, 8190]));
+        assert_eq!(after(15, [-4095, w]), (14, vec![-8190, doubled]));
+    }
+    for w in [4096, -4096, 8190, 16383] {
+        assert_eq!(after(1, [w, 4095]), (1, vec![w, 4095]));
+        assert_eq!(after(15, [-4095, w]), (15, vec![-4095, w]));
+    }
+    assert_eq!(after(0, [4095, -4095]), (0, vec![4095, -4095]));
+    assert_eq!(after(0, [0, 0]), (0, vec![0, 0]));
+}
+
+/// The new weights decide: a step takes one to 4096 or from it.
+#[test]
+fn the_weights_after_the_step_decide() {
+    let (_, mut state) = set_up(sizes(1, 1, 1, 0, 0, 1 << 20));
+    state.psi = 1;
+    let mut seen = Vec::new();
+    for start in 4000..4200 {
+        for symbol in [1, -1] {
+            state.weights = vec![start, 100];
+            let inputs = Inputs {
+                samples: &[0x4000],
+                gains: &[0],
+                training: &[symbol],
+            };
+            let (detail, after) = work(&state, inputs).unwrap();
+            let new = detail.samples[0].weights_new[0];
+            let (psi, w) = if new < 4096 { (0, 2 * new) } else { (1, new) };
+            assert_eq!((after.psi, i128::from(after.weights[0])), (psi, w));
+            seen.push((start < 4096, new < 4096));
+        }
+    }
+    for both in [(true, false), (false, true), (true, true), (false, false)] {
+        assert!(seen.contains(&both), "{both:?}");
+    }
+}
+
+/// A sample that halves does not double, small as the other weight is.
+#[test]
+fn a_halving_is_no_doubling() {
+    let (_, mut state) = set_up(sizes(1, 1, 1, 0, 0, 1 << 21));
+    state.psi = 2;
+    for small in [0, 1, -4095] {
+        state.weights = vec![16383, small];
+        let inputs = Inputs {
+            samples: &[0x2000],
+            gains: &[0],
+            training: &[1],
+        };
+        let (detail, after) = work(&state, inputs).unwrap();
+        let new = &detail.samples[0].weights_new;
+        assert_eq!(*new, [16385, small.into()]);
+        assert_eq!((after.psi, after.weights), (3, vec![8192, small / 2]));
+    }
+}
+
+#[test]
+fn weights_of_zero_come_down_to_the_end() {
+    let mut state = frozen(15, [0, 0]);
+    let mut seen = Vec::new();
+    for _ in 0..20 {
+        let weights;
+        (state.psi, weights) = after_a_zero(&state);
+        assert_eq!(weights, [0, 0]);
+        seen.push(state.psi);
+    }
+    let wanted: Vec<u8> = (0..15).rev().chain([0; 5]).collect();
+    assert_eq!(seen, wanted);
+}
+
+/// The same within one block of 20 samples.
+#[test]
+fn once_a_sample() {
+    let (_, mut state) = set_up(sizes(2, 3, 20, 1, 0, 0));
+    state.psi = 15;
+    let inputs = Inputs {
+        samples: &[0x2000; 20],
+        gains: &[3; 20],
+        training: &[1; 20],
+    };
+    let exponents = |state: &State| -> Vec<i32> {
+        let (detail, _) = work(state, inputs).unwrap();
+        detail.samples.iter().map(|d| d.psi_after).collect()
+    };
+    let zeros: Vec<i32> = (0..15).rev().chain([0; 5]).collect();
+    assert_eq!(exponents(&state), zeros);
+    // One weight of 1 stays at 4096, twelve doublings later.
+    state.weights[4] = 1;
+    let one: Vec<i32> = (3..15).rev().chain([3; 8]).collect();
+    assert_eq!(exponents(&state), one);
+}
+
+#[test]
 fn block_length_beside_the_taps() {
     assert_eq!(set_up(sizes(4, 1, 2, 0, 0, 0)), (1, State::fresh()));
     assert_eq!(set_up(sizes(4, 1, 3, 0, 0, 0)).0, 0);
