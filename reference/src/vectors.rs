@@ -4,6 +4,7 @@
 mod blocks;
 mod cables;
 mod descriptions;
+pub mod gathering;
 mod images;
 pub mod spoiled;
 mod traces;

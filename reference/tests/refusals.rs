@@ -1,7 +1,9 @@
 //! What each operation turns down, in its order, with nothing touched.
 
+use reference::block::work;
 use reference::state::PLACES;
-use reference::{load, run, save, set_up, trace, Inputs, Outputs, Settings, State};
+use reference::vectors::gathering::{gathering, Gathering};
+use reference::{load, run, run_by, save, set_up, trace, Inputs, Outputs, Rule, Settings, State};
 
 fn sizes() -> Settings {
     Settings {
@@ -365,6 +367,64 @@ fn a_block_turns_down_the_last_exponent() {
     let mut frozen = full_record();
     frozen.settings.m = 0;
     assert_eq!(answer(&frozen, &full_lists(1, 0)), 0);
+}
+
+/// ψ after each of the first `n` samples, or 6.
+fn exponents(block: &Gathering, n: usize) -> Result<Vec<i32>, u8> {
+    let mut state = block.state.clone();
+    state.settings.n = n as u8;
+    let inputs = Inputs {
+        samples: &block.samples[..n],
+        gains: &block.gains[..n],
+        training: &block.training[..n],
+    };
+    let (detail, _) = work(&state, inputs)?;
+    Ok(detail.samples.iter().map(|d| d.psi_after).collect())
+}
+
+/// ψ falls from 15 and comes up again: 6 is answered exactly where it would
+/// come to 16.
+#[test]
+fn six_after_a_fall() {
+    let block = gathering(3850, 0);
+    let refused = (15..=128).find(|&n| exponents(&block, n) == Err(6));
+    let last = refused.unwrap() - 1;
+    let seen = exponents(&block, last).unwrap();
+    assert_eq!((seen[0], seen[last - 1]), (14, 15));
+    assert!(seen.windows(2).all(|two| two[0] <= two[1]));
+    let answers = (15..=128).map(|n| exponents(&block, n).err());
+    let wanted = (15..=128).map(|n| (n > last).then_some(6));
+    assert!(answers.eq(wanted));
+    // A little less, and it stays at 15.
+    let seen = exponents(&gathering(3800, 0), 128).unwrap();
+    assert_eq!((seen[0], seen[127]), (14, 15));
+}
+
+/// A fall keeps a digit more: it decides whether the block is accepted.
+#[test]
+fn a_fall_decides_about_six() {
+    for (size, larger, number, without) in [
+        (3800, 0, 0, 0),
+        (3804, 13, 6, 0),
+        (3804, 24, 6, 0),
+        (3804, 23, 0, 6),
+        (3805, 1, 0, 6),
+        (3850, 0, 6, 6),
+    ] {
+        let block = gathering(size, larger);
+        for (rule, wanted) in [(Rule::Amended, number), (Rule::RisesOnly, without)] {
+            let mut state = block.state.clone();
+            let mut outputs = Outputs::zeros(128);
+            let inputs = Inputs {
+                samples: &block.samples,
+                gains: &block.gains,
+                training: &block.training,
+            };
+            let answer = run_by(rule, &mut state, inputs, &mut outputs);
+            assert_eq!(answer, wanted, "{size} {larger} {rule:?}");
+            assert_eq!(answer == 6, state == block.state);
+        }
+    }
 }
 
 #[test]
