@@ -90,10 +90,14 @@ struct Call {
 }
 
 impl Call {
-    /// A sound state, as a lent record or without spare places, and good lists.
+    /// A sound state, one in four with weights about to be doubled, as a lent
+    /// record or without spare places, and good lists.
     fn good(random: &mut Random) -> Call {
         let settings = random.settings();
-        let state = random.sound_state(settings);
+        let state = match random.chance(1, 4) {
+            true => random.falling_state(settings),
+            false => random.sound_state(settings),
+        };
         let state = if random.chance(1, 2) {
             state.lent()
         } else {

@@ -5,7 +5,7 @@ use reference::{Inputs, Outputs, Settings, State};
 
 /// What can be wrong, and who finds it: the tests over any blocks, over
 /// refusals, over lists of calls.
-pub const FAULTS: [(&str, [bool; 3]); 32] = [
+pub const FAULTS: [(&str, [bool; 3]); 43] = [
     ("accepted, the given state comes back", [true, false, false]),
     ("accepted, the given state advances", [true, false, true]),
     ("accepted, the outputs stay", [true, false, false]),
@@ -38,6 +38,17 @@ pub const FAULTS: [(&str, [bool; 3]); 32] = [
     ("5 before 4", [false, true, false]),
     ("4 and 5 sample by sample", [false, true, false]),
     ("5 and 6 sample by sample", [false, true, false]),
+    ("never doubled", [true, false, false]),
+    ("doubled at 4096 too", [true, false, false]),
+    ("doubled below 4095 only", [true, false, false]),
+    ("doubled at ψ = 0 too", [true, false, false]),
+    ("doubled until some reach 4096", [true, false, false]),
+    ("doubled right after a halving", [true, true, false]),
+    ("doubled feed forward only", [true, false, false]),
+    ("doubled feedback only", [true, false, false]),
+    ("doubled by the weights before step 6", [true, false, false]),
+    ("doubled by the feed forward weights", [true, false, false]),
+    ("doubled by the feedback weights", [true, false, false]),
 ];
 
 /// T(a·2^places).
@@ -156,8 +167,9 @@ fn sum(weights: &[i64], data: &[i64]) -> i64 {
 
 impl Walk {
     /// One sample, already the newest: Y, ξ, decision, Z, θ.
-    fn sample(&mut self, s: &Settings, gamma: i64, entry: i64) -> [i64; 5] {
+    fn sample(&mut self, s: &Settings, gamma: i64, entry: i64, fault: &str) -> [i64; 5] {
         let (p, q) = (usize::from(s.p), usize::from(s.q));
+        let before = self.weights.clone();
         let longest = self.symbols.iter().map(|&v| bits(v)).max();
         let nu = count(s.q) + longest.unwrap_or(0);
         let held: Vec<i64> = self.symbols.iter().map(|v| v << (15 - nu)).collect();
@@ -179,13 +191,60 @@ impl Walk {
         for (w, a) in self.weights[p..].iter_mut().zip(&held) {
             *w += scaled(back * a, count(s.q) - 30);
         }
-        if self.weights.iter().any(|w| w.abs() > 16383) {
-            self.weights.iter_mut().for_each(|w| *w /= 2);
-            self.psi += 1;
-        }
+        self.step7(p, &before, fault);
         self.symbols.insert(0, v);
         self.symbols.truncate(q);
         [y, xi, decision, z, theta]
+    }
+}
+
+impl Walk {
+    /// One halving, one doubling or neither. `before` are the weights before
+    /// step 6.
+    fn step7(&mut self, p: usize, before: &[i64], fault: &str) {
+        if self.weights.iter().any(|w| w.abs() > 16383) {
+            self.weights.iter_mut().for_each(|w| *w /= 2);
+            self.psi += 1;
+            if fault == "doubled right after a halving" {
+                self.double(p, fault);
+            }
+            return;
+        }
+        while self.doubles(p, before, fault) {
+            self.double(p, fault);
+            if fault != "doubled until some reach 4096" {
+                return;
+            }
+        }
+    }
+
+    /// Whether the weights are to be doubled.
+    fn doubles(&self, p: usize, before: &[i64], fault: &str) -> bool {
+        let end = match fault {
+            "doubled at 4096 too" => 4097,
+            "doubled below 4095 only" => 4095,
+            "never doubled" => 0,
+            _ => 4096,
+        };
+        let looked_at = match fault {
+            "doubled by the weights before step 6" => before,
+            "doubled by the feed forward weights" => &self.weights[..p],
+            "doubled by the feedback weights" => &self.weights[p..],
+            _ => &self.weights,
+        };
+        // ψ falls to -1, a byte of 255, and no further.
+        let least = i64::from(fault == "doubled at ψ = 0 too");
+        self.psi > -least && looked_at.iter().all(|w| w.abs() < end)
+    }
+
+    fn double(&mut self, p: usize, fault: &str) {
+        let doubled = match fault {
+            "doubled feed forward only" => &mut self.weights[..p],
+            "doubled feedback only" => &mut self.weights[p..],
+            _ => &mut self.weights,
+        };
+        doubled.iter_mut().for_each(|w| *w *= 2);
+        self.psi -= 1;
     }
 }
 
@@ -211,7 +270,7 @@ fn block(given: &State, inputs: Inputs<'_>, fault: &str) -> (u8, State, Vec<[i64
         }
         walk.samples.insert(0, scaled(x, 15 - big_b - scale));
         walk.samples.truncate(s.p.into());
-        let sample = walk.sample(s, gamma, t.into());
+        let sample = walk.sample(s, gamma, t.into(), fault);
         if walk.psi > most {
             return (6, before, handed);
         }
