@@ -50,6 +50,28 @@ fn block(about: &str, s: &mut State, sample: i16, entry: i8) -> String {
     )
 }
 
+/// Weights beside the doubling, with M = 0.
+fn doublings() -> String {
+    let mut text = String::new();
+    for (about, psi, forward, back) in [
+        ("weights 4095 at psi 1", 1, 4095, 4095),
+        ("a weight of 4096", 1, 4096, 4095),
+        ("a weight of -4096", 1, 4095, -4096),
+        ("weights 4095 at psi 0", 0, 4095, 4095),
+    ] {
+        text += &block(about, &mut state(0, psi, 0, forward, back, 0), 0, 1);
+    }
+    let mut s = state(0, 2, 0, 0, 0, 0);
+    for about in [
+        "weights 0 at psi 2",
+        "the same once more",
+        "the same at psi 0",
+    ] {
+        text += &block(about, &mut s, 0, 1);
+    }
+    text
+}
+
 #[test]
 fn the_program_has_these_lines() {
     let mut text = scale_counts_line();
@@ -88,6 +110,7 @@ fn the_program_has_these_lines() {
         16384,
         -1,
     );
+    text += &doublings();
     let mut s = state(0, 0, 67108864, 0, 0, 0);
     text += &block("first sample", &mut s, 16384, 1);
     text += &block("second sample", &mut s, 16384, 0);
