@@ -4,6 +4,7 @@
 mod blocks;
 mod cables;
 mod descriptions;
+mod falls;
 pub mod gathering;
 mod images;
 pub mod spoiled;

@@ -2,13 +2,15 @@
 //! from their bytes.
 
 mod reader;
+mod wrong_trial;
 
 use reader::Reader;
-use reference::block::{Inputs, Outputs};
-use reference::vectors::{block_vectors, image_vectors, trace_vectors, TraceVector};
-use reference::{image_length, load, run, save, trace, Settings, State};
+use reference::block::{work, Inputs, Outputs};
+use reference::vectors::{block_vectors, image_vectors, trace_vectors, BlockVector, TraceVector};
+use reference::{image_length, load, run, run_by, save, set_up, trace, Rule, Settings, State};
 use std::collections::BTreeSet;
 use std::sync::OnceLock;
+use wrong_trial::{wrong_trial, FAULTS};
 
 /// The traces, made once.
 fn traces() -> &'static [TraceVector] {
@@ -113,10 +115,162 @@ fn traces_have_every_kind() {
     assert_eq!(longest, Some(16_381));
 }
 
+/// The blocks, made once.
+fn blocks() -> &'static [BlockVector] {
+    static BLOCKS: OnceLock<Vec<BlockVector>> = OnceLock::new();
+    BLOCKS.get_or_init(block_vectors)
+}
+
+/// ψ before the first and after each sample, up to a refusal.
+fn exponents_of(state: &mut State, inputs: Inputs<'_>) -> Vec<i32> {
+    let Ok((detail, after)) = work(state, inputs) else {
+        return Vec::new();
+    };
+    let before = i32::from(state.psi);
+    *state = after;
+    let samples = detail.samples.iter().map(|d| d.psi_after);
+    [before].into_iter().chain(samples).collect()
+}
+
+/// How often ψ rises and falls.
+fn moves(exponents: &[i32]) -> [usize; 2] {
+    let count = |by: i32| {
+        let pairs = exponents.windows(2);
+        pairs.filter(|two| two[1] - two[0] == by).count()
+    };
+    [count(1), count(-1)]
+}
+
+/// ψ from the set-up of a good trace on.
+fn exponents_of_trace(input: &[u8]) -> Vec<i32> {
+    let h = &input[..12];
+    let (_, mut state) = set_up(Settings {
+        p: h[0],
+        q: h[1],
+        n: h[2],
+        r: h[3],
+        l: h[4],
+        m: u32::from_le_bytes(h[8..].try_into().unwrap()),
+    });
+    let n = usize::from(h[2]);
+    let (entries, training) = input[12..].split_at((input.len() - 12) / 4 * 3);
+    let training: Vec<i8> = training.iter().map(|&byte| byte as i8).collect();
+    let mut exponents = Vec::new();
+    for (own, training) in entries.chunks(3 * n).zip(training.chunks(n)) {
+        let sample = |entry: &[u8]| i16::from_le_bytes([entry[0], entry[1]]);
+        let samples: Vec<i16> = own.chunks(3).map(sample).collect();
+        let gains: Vec<u8> = own.chunks(3).map(|entry| entry[2]).collect();
+        let inputs = Inputs {
+            samples: &samples,
+            gains: &gains,
+            training,
+        };
+        exponents.extend(exponents_of(&mut state, inputs));
+    }
+    exponents
+}
+
+#[test]
+fn traces_go_up_and_down() {
+    let (mut both, mut highest) = (0, 0);
+    let good = |vector: &&TraceVector| !vector.text.is_empty() && !vector.text.contains("stop");
+    for vector in traces().iter().filter(good) {
+        let exponents = exponents_of_trace(&vector.input);
+        let [up, down] = moves(&exponents);
+        both += u32::from(up > 0 && down > 0);
+        highest = highest.max(*exponents.iter().max().unwrap());
+        if vector.about == "up and down" {
+            assert!(up >= 3 && down >= 1, "{up} {down}");
+        }
+    }
+    assert!(both >= 8 && highest >= 3, "{both} {highest}");
+}
+
+fn inputs_of(vector: &BlockVector) -> Inputs<'_> {
+    Inputs {
+        samples: &vector.samples,
+        gains: &vector.gains,
+        training: &vector.training,
+    }
+}
+
+#[test]
+fn blocks_go_up_and_down() {
+    let accepted = blocks().iter().filter(|vector| vector.number == 0);
+    let (mut falls, mut both, mut whole, mut to_8190, mut frozen) = (0, 0, 0, 0, 0);
+    let mut ends = BTreeSet::new();
+    for vector in accepted {
+        let exponents = exponents_of(&mut vector.before.clone(), inputs_of(vector));
+        let [up, down] = moves(&exponents);
+        let (first, last) = (exponents[0], exponents[exponents.len() - 1]);
+        falls += u32::from(down > 0);
+        both += u32::from(up > 0 && down > 0);
+        whole += u32::from(first == 15 && last == 0);
+        to_8190 += u32::from(first == 1 && last == 0 && vector.after.weights.contains(&8190));
+        frozen += u32::from(down > 0 && vector.before.settings.m == 0);
+        if down > 0 {
+            ends.insert((first, last));
+        }
+    }
+    assert!(falls >= 100 && both >= 12, "{falls} {both}");
+    assert!(whole >= 6 && to_8190 >= 2 && frozen >= 15);
+    let from: BTreeSet<i32> = ends.iter().map(|(first, _)| *first).collect();
+    assert!((1..=15).all(|psi| from.contains(&psi)), "{from:?}");
+}
+
+/// 6 by the amended rule and by the one that ψ only rises.
+#[test]
+fn falls_decide_about_six_in_blocks() {
+    let answer = |vector: &BlockVector| {
+        let mut outputs = Outputs::zeros(vector.before.settings.n.into());
+        let mut state = vector.before.clone();
+        run_by(Rule::RisesOnly, &mut state, inputs_of(vector), &mut outputs)
+    };
+    let count = |number: u8, without: u8| {
+        let own = blocks().iter().filter(|vector| vector.number == number);
+        own.filter(|vector| answer(vector) == without).count()
+    };
+    assert!(count(0, 6) >= 2);
+    assert!(count(6, 0) >= 2);
+}
+
+/// Whether a trial of the block with a fault shows that fault.
+fn shows(vector: &BlockVector, fault: &str) -> bool {
+    let marks = |length: usize| vec![-7; length];
+    let [y, xi, decision, z, theta] = vector.output_lengths;
+    let marked = Outputs {
+        y: marks(y),
+        xi: vec![99; xi],
+        decision: vec![99; decision],
+        z: marks(z),
+        theta: vec![99; theta],
+    };
+    let (mut given, mut outputs) = (vector.before.clone(), marked.clone());
+    let (number, back) = wrong_trial(&mut given, inputs_of(vector), &mut outputs, fault);
+    let handed_out = match vector.number {
+        0 => &vector.outputs,
+        _ => &marked,
+    };
+    let right = (vector.number, &vector.after, handed_out);
+    (number, &back, &outputs) != right || given != vector.before
+}
+
+#[test]
+fn blocks_show_every_fault_of_a_trial() {
+    assert!(!blocks().iter().any(|vector| shows(vector, "")));
+    for (fault, _) in FAULTS {
+        let found = blocks().iter().filter(|vector| shows(vector, fault));
+        let doubling = fault.contains("doubled");
+        let least = if doubling { 20 } else { 1 };
+        assert!(found.count() >= least, "{fault}");
+    }
+}
+
 #[test]
 fn blocks_replay() {
-    let vectors = block_vectors();
+    let vectors = blocks();
     let bytes: Vec<u8> = vectors.iter().flat_map(|vector| vector.bytes()).collect();
+    assert!(bytes.len() < 300_000);
     let mut reader = Reader(&bytes);
     let mut count = 0;
     while !reader.0.is_empty() {
@@ -162,11 +316,10 @@ fn blocks_replay() {
 
 #[test]
 fn blocks_have_every_kind() {
-    let vectors = block_vectors();
     let mut numbers = [0; 10];
     let mut exponents = BTreeSet::new();
     let mut rises = 0;
-    for vector in &vectors {
+    for vector in blocks() {
         numbers[usize::from(vector.number)] += 1;
         if vector.number == 0 {
             exponents.insert(vector.before.psi);
@@ -326,9 +479,10 @@ fn the_stored_images_are_these() {
 #[test]
 fn the_vectors_are_the_same_every_time() {
     let bytes = |list: &[TraceVector]| -> Vec<u8> { list.iter().flat_map(|v| v.bytes()).collect() };
-    let blocks = || -> Vec<u8> { block_vectors().iter().flat_map(|v| v.bytes()).collect() };
+    let joined =
+        |list: &[BlockVector]| -> Vec<u8> { list.iter().flat_map(|v| v.bytes()).collect() };
     let images = || -> Vec<u8> { image_vectors().iter().flat_map(|v| v.bytes()).collect() };
     assert!(bytes(traces()) == bytes(&trace_vectors()));
-    assert!(blocks() == blocks());
+    assert!(joined(blocks()) == joined(&block_vectors()));
     assert!(images() == images());
 }

@@ -1,5 +1,6 @@
 //! Blocks on lent records.
 
+use super::falls::falls;
 use crate::block::{run, work, BlockDetail, Inputs, Outputs};
 use crate::image::header;
 use crate::numbers::{bit_length, scale_count, Dyadic};
@@ -68,22 +69,22 @@ impl BlockVector {
 
 /// A record and lists that are being made.
 #[derive(Clone, Debug)]
-struct Call {
-    state: State,
-    samples: Vec<i16>,
-    gains: Vec<u8>,
-    training: Vec<i8>,
-    output_lengths: [usize; 5],
+pub(super) struct Call {
+    pub state: State,
+    pub samples: Vec<i16>,
+    pub gains: Vec<u8>,
+    pub training: Vec<i8>,
+    pub output_lengths: [usize; 5],
 }
 
 impl Call {
-    fn any(random: &mut Random, state: State) -> Call {
+    pub fn any(random: &mut Random, state: State) -> Call {
         let loudness = random.loudness();
         let aim = random.aim();
         Call::with(random, state, loudness, aim)
     }
 
-    fn with(random: &mut Random, state: State, loudness: Loudness, aim: Aim) -> Call {
+    pub fn with(random: &mut Random, state: State, loudness: Loudness, aim: Aim) -> Call {
         let (samples, gains) = random.samples(&state.settings, loudness);
         let training = random.training(&state.settings, aim);
         let n = usize::from(state.settings.n);
@@ -105,19 +106,19 @@ impl Call {
     }
 
     /// The detail of an accepted block, or its number.
-    fn detail(&self) -> Result<BlockDetail, u8> {
+    pub fn detail(&self) -> Result<BlockDetail, u8> {
         assert_eq!(self.state.examine(), 0);
         work(&self.state, self.inputs()).map(|(detail, _)| detail)
     }
 }
 
-struct Collection {
-    random: Random,
+pub(super) struct Collection {
+    pub random: Random,
     list: Vec<BlockVector>,
 }
 
 impl Collection {
-    fn put(&mut self, about: &'static str, call: &Call) -> u8 {
+    pub fn put(&mut self, about: &'static str, call: &Call) -> u8 {
         let mut after = call.state.clone();
         let [y, xi, decision, z, theta] = call.output_lengths;
         let mut outputs = Outputs {
@@ -143,12 +144,17 @@ impl Collection {
         number
     }
 
-    fn expect(&mut self, about: &'static str, call: &Call, number: u8) {
+    pub fn expect(&mut self, about: &'static str, call: &Call, number: u8) {
         assert_eq!(self.put(about, call), number, "{about}: {call:?}");
     }
 
+    /// The record that the last block left.
+    pub fn left(&self) -> &State {
+        &self.list.last().expect("a block").after
+    }
+
     /// Settings with blocks of moderate length.
-    fn settings(&mut self) -> Settings {
+    pub fn settings(&mut self) -> Settings {
         let mut settings = self.random.settings();
         settings.n = settings.n.min(24);
         settings
@@ -175,6 +181,7 @@ pub fn block_vectors() -> Vec<BlockVector> {
     refused_lists(&mut all);
     refused_gains_and_training(&mut all);
     refusals_in_order(&mut all);
+    falls(&mut all);
     all.list
 }
 

@@ -78,6 +78,18 @@ impl Plan {
         plan
     }
 
+    /// Blocks in which each sample has the sign of its symbol, of one size
+    /// each, with the least gain.
+    fn spell(&mut self, random: &mut Random, blocks: u16, sample: i16, symbol: i8) {
+        for _ in 0..usize::from(self.settings.n) * usize::from(blocks) {
+            let sign = random.sign();
+            self.samples.push(sign as i16 * sample);
+            self.gains.push(self.settings.l);
+            self.training.push(sign as i8 * symbol);
+        }
+        self.count += blocks;
+    }
+
     /// Symbols sent over a channel with four taps and a little noise. The
     /// first `trained` samples have their symbol as training entry.
     fn channel(random: &mut Random, settings: Settings, count: u16, trained: usize) -> Plan {
@@ -161,6 +173,7 @@ pub fn trace_vectors() -> Vec<TraceVector> {
     refused_bytes(&mut all);
     long_traces(&mut all);
     any_traces(&mut all);
+    up_and_down(&mut all);
     all.list
 }
 
@@ -567,5 +580,20 @@ fn any_traces(all: &mut Collection) {
             plan.add(&mut all.random, loudness, aim);
         }
         all.plan("any trace", &plan);
+    }
+}
+
+/// Quiet samples for the end symbol make large weights, loud ones for 1 small
+/// weights again.
+fn up_and_down(all: &mut Collection) {
+    for (p, q, n, r) in [(1, 1, 16, 3), (3, 2, 8, 3), (1, 2, 1, 1), (2, 1, 5, 2)] {
+        let settings = with_largest(sizes(p, q, n, r, 0));
+        let end = settings.end_symbol() as i8;
+        let mut plan = Plan::empty(settings);
+        let blocks = |samples: u16| samples / u16::from(n);
+        plan.spell(&mut all.random, blocks(160), 8000, end);
+        plan.spell(&mut all.random, blocks(80), 32767, 1);
+        plan.spell(&mut all.random, blocks(60), 12000, end);
+        all.plan("up and down", &plan);
     }
 }
