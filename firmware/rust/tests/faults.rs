@@ -19,6 +19,8 @@ enum Fault {
     Marked(u8),
     /// Answers 6 where psi would rise to 15.
     Early,
+    /// Undoes the last doubling of a block that lowers psi.
+    Undoubled,
     /// Does not look at spare places.
     Spare,
     /// Hands back the given state beside an accepted trial.
@@ -89,6 +91,10 @@ impl Operations for Faulty {
         match (self.fault, number) {
             (Fault::Frozen, 0) => (s.weights, s.psi) = (before.weights, before.psi),
             (Fault::LostB, 0) => s.b = s.big,
+            (Fault::Undoubled, 0) if s.psi < before.psi => {
+                s.weights.iter_mut().for_each(|w| *w /= 2);
+                s.psi += 1;
+            }
             (Fault::Marked(wanted), _) if wanted == number => cleared(xi),
             (Fault::Early, 0) if s.psi == 15 && before.psi < 15 => {
                 *s = before;
@@ -147,6 +153,7 @@ fn every_fault_is_told_apart_by_its_own_part() {
         (Fault::Frozen, "block: record"),
         (Fault::LostB, "block: record, b"),
         (Fault::Early, "block: answer"),
+        (Fault::Undoubled, "block: record, psi"),
         (Fault::Spare, "block: record"),
         (Fault::TrialStands, "trial: state"),
         (Fault::TrialFresh, "trial: state"),
@@ -209,8 +216,10 @@ fn the_list_covers_every_answer() {
     }
     let (blocks, trials) = (&list.tally.blocks, &list.tally.trials);
     assert!(blocks.rises >= 100 && blocks.rises_to_15 >= 10);
+    assert!(blocks.falls >= 50 && blocks.falls_from_15 >= 5 && blocks.falls_to_0 >= 10);
     assert!(blocks.larger >= 100 && blocks.smaller >= 100);
-    assert!(trials.rises >= 20 && trials.larger >= 100 && trials.smaller >= 100);
+    assert!(trials.rises >= 20 && trials.falls >= 10);
+    assert!(trials.larger >= 100 && trials.smaller >= 100);
     assert!(list.tally.saved_earlier >= 100);
     assert!(blocks.wrong_lengths.iter().all(|&count| count >= 20));
     assert!(trials.wrong_lengths.iter().all(|&count| count >= 5));
