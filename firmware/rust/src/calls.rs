@@ -193,8 +193,8 @@ impl Maker {
             7..=11 => self.wrong_gain(&mut lists, record.l),
             12..=16 => self.wrong_entry(&mut lists, record.r),
             17..=20 => self.several_wrong(&mut lists, record),
-            21..=24 => lent = Some(self.wrong_record(record)),
-            25 => {
+            21..=25 => lent = Some(self.wrong_record(record)),
+            26 => {
                 lent = Some(self.wrong_record(record));
                 self.several_wrong(&mut lists, record);
             }
@@ -311,8 +311,10 @@ impl Maker {
         }
         let settings = self.random.settings();
         let mut record = record_of(&self.random.sound_state(settings));
-        if self.random.chance(1, 3) {
-            self.near_the_limit(&mut record);
+        match self.random.below(6) {
+            0 | 1 => self.near_a_fall(&mut record),
+            2 | 3 => self.near_the_limit(&mut record),
+            _ => (),
         }
         raw_image(&record)
     }
@@ -325,6 +327,21 @@ impl Maker {
         let taps = usize::from(e.p + e.q);
         for weight in &mut e.weights[..taps] {
             *weight = (self.random.sign() * self.random.between(16380, 16383)) as i16;
+        }
+    }
+
+    /// A record whose exponent is about to fall: by some steps, since all
+    /// weights are small, or by one or none, since one of them is beside 4096.
+    pub fn near_a_fall(&mut self, e: &mut Equaliser) {
+        e.psi = self.random.pick(&[0, 1, 1, 2, 7, 14, 15]);
+        let most = self.random.pick(&[1, 63, 1023, 4095, 4095, 4095]);
+        let taps = usize::from(e.p + e.q);
+        for weight in &mut e.weights[..taps] {
+            *weight = self.random.between(-most, most) as i16;
+        }
+        if most == 4095 {
+            let tap = self.random.below(taps as u64) as usize;
+            e.weights[tap] = (self.random.sign() * self.random.between(4092, 4099)) as i16;
         }
     }
 

@@ -19,8 +19,12 @@ enum Fault {
     Marked(u8),
     /// Answers 6 where psi would rise to 15.
     Early,
-    /// Undoes the last doubling of a block that lowers psi.
-    Undoubled,
+    /// Leaves out one doubling.
+    Fall,
+    /// Doubles the weights and leaves psi.
+    FallUnsaid,
+    /// Doubles the feed forward weights alone.
+    FallOfOne,
     /// Does not look at spare places.
     Spare,
     /// Hands back the given state beside an accepted trial.
@@ -35,6 +39,8 @@ enum Fault {
     TrialTouches(u8),
     /// Does not see that psi would rise to 16 in a trial.
     TrialUnseen,
+    /// Leaves out one doubling in a trial.
+    TrialFall,
     /// Looks at the gains of a trial before the lists' lengths.
     TrialOrder,
     /// Gives a smaller M in a set-up after an accepted trial.
@@ -69,6 +75,12 @@ fn cleared(list: &mut [u8]) {
     list.iter_mut().for_each(|place| *place = 0);
 }
 
+/// Halves the weights from a place on.
+fn halved(s: &mut Equaliser, first: u8) {
+    let weights = s.weights.iter_mut().skip(first.into());
+    weights.for_each(|w| *w /= 2);
+}
+
 impl Operations for Faulty {
     fn set_up(&self, mut s: Settings) -> Answer {
         if self.fault == Fault::Step && s.examine() == 0 && s.m == s.largest_m() {
@@ -91,15 +103,17 @@ impl Operations for Faulty {
         match (self.fault, number) {
             (Fault::Frozen, 0) => (s.weights, s.psi) = (before.weights, before.psi),
             (Fault::LostB, 0) => s.b = s.big,
-            (Fault::Undoubled, 0) if s.psi < before.psi => {
-                s.weights.iter_mut().for_each(|w| *w /= 2);
-                s.psi += 1;
-            }
             (Fault::Marked(wanted), _) if wanted == number => cleared(xi),
             (Fault::Early, 0) if s.psi == 15 && before.psi < 15 => {
                 *s = before;
                 return 6;
             }
+            (Fault::Fall, 0) if s.psi < before.psi => {
+                halved(s, 0);
+                s.psi += 1;
+            }
+            (Fault::FallUnsaid, 0) if s.psi < before.psi => s.psi = before.psi,
+            (Fault::FallOfOne, 0) if s.psi < before.psi => halved(s, s.p),
             _ => (),
         }
         number
@@ -113,6 +127,10 @@ impl Operations for Faulty {
             (Fault::TrialRuns, 0) => *s = answer.state,
             (Fault::TrialKept, 0) => self.tried.set(true),
             (Fault::TrialUnseen, 6) => answer.number = 0,
+            (Fault::TrialFall, 0) if answer.state.psi < s.psi => {
+                halved(&mut answer.state, 0);
+                answer.state.psi += 1;
+            }
             (Fault::TrialOrder, 3) if block.gains.iter().any(|&g| g > 15) => answer.number = 4,
             (Fault::TrialFresh, 1..) => answer.state = Second.load(&[]).state,
             (Fault::TrialMarked(wanted), number) if wanted == number => cleared(xi),
@@ -153,12 +171,15 @@ fn every_fault_is_told_apart_by_its_own_part() {
         (Fault::Frozen, "block: record"),
         (Fault::LostB, "block: record, b"),
         (Fault::Early, "block: answer"),
-        (Fault::Undoubled, "block: record, psi"),
-        (Fault::Spare, "block: record"),
+        (Fault::Fall, ", psi: "),
+        (Fault::FallUnsaid, ", psi: "),
+        (Fault::FallOfOne, ", weight "),
+        (Fault::Spare, ", weight "),
         (Fault::TrialStands, "trial: state"),
         (Fault::TrialFresh, "trial: state"),
         (Fault::TrialRuns, "trial: record"),
         (Fault::TrialUnseen, "trial: answer"),
+        (Fault::TrialFall, "trial: state, psi"),
         (Fault::TrialOrder, "trial: answer"),
         (Fault::TrialKept, "set-up: record, M"),
         (Fault::SaveTouches, "save: record, b"),
@@ -185,6 +206,7 @@ fn trials_are_told_apart_where_both_sides_have_the_fault() {
         (Fault::TrialRuns, "trial: library: record, "),
         (Fault::TrialTouches(5), "trial: library: record, psi: "),
         (Fault::TrialUnseen, "trial: library: answer, "),
+        (Fault::TrialFall, "trial: library: state, psi: "),
         (
             Fault::TrialKept,
             "set-up: library: record, M: with the trials ",
@@ -216,10 +238,10 @@ fn the_list_covers_every_answer() {
     }
     let (blocks, trials) = (&list.tally.blocks, &list.tally.trials);
     assert!(blocks.rises >= 100 && blocks.rises_to_15 >= 10);
-    assert!(blocks.falls >= 50 && blocks.falls_from_15 >= 5 && blocks.falls_to_0 >= 10);
+    assert!(blocks.falls >= 100 && blocks.falls_to_0 >= 10 && blocks.falls_by_more >= 10);
     assert!(blocks.larger >= 100 && blocks.smaller >= 100);
-    assert!(trials.rises >= 20 && trials.falls >= 10);
-    assert!(trials.larger >= 100 && trials.smaller >= 100);
+    assert!(trials.rises >= 20 && trials.larger >= 100 && trials.smaller >= 100);
+    assert!(trials.falls >= 20 && trials.falls_by_more >= 5);
     assert!(list.tally.saved_earlier >= 100);
     assert!(blocks.wrong_lengths.iter().all(|&count| count >= 20));
     assert!(trials.wrong_lengths.iter().all(|&count| count >= 5));
