@@ -7,6 +7,14 @@
 #define BLOCK 128
 #define FEW 4
 #define INLINE static inline __attribute__((always_inline))
+#define SELDOM static __attribute__((noinline))
+
+#ifdef COUNTED
+unsigned careful_halvings, careful_doublings;
+#define COUNT(what) what++
+#else
+#define COUNT(what)
+#endif
 
 // One bit in each of four lanes of sixteen.
 #define LANES 0x0001000100010001u
@@ -27,6 +35,8 @@ typedef struct {
     side forward, back;
     int n, r, top, b, big, gamma, psi;
     uint32_t m;
+    // Weights that are all below this are doubled.
+    uint16_t least;
     // Lane i: which of the last q symbols, newest lowest, have a bit length above i.
     uint64_t lengths, older;
     int32_t y[BLOCK], z[BLOCK];
@@ -160,10 +170,23 @@ INLINE uint16_t adapt(side *f, const int16_t *data, uint32_t j, int16_t sign, in
     return adapt_many(f, data, j, sign, larger(down - 16, 0));
 }
 
-static void halve(work *k) {
+static void set_exponent(work *k, int psi) {
+    k->psi = psi;
+    k->least = psi > 0 ? 4096 : 0;
+}
+
+SELDOM void halve_weights(work *k) {
     for (int i = 0; i < TAPS; i++) k->forward.weights[i] = (int16_t)(k->forward.weights[i] / 2);
     for (int i = 0; i < TAPS; i++) k->back.weights[i] = (int16_t)(k->back.weights[i] / 2);
-    k->psi++;
+    set_exponent(k, k->psi + 1);
+    COUNT(careful_halvings);
+}
+
+SELDOM void double_weights(work *k) {
+    for (int i = 0; i < TAPS; i++) k->forward.weights[i] = (int16_t)(k->forward.weights[i] * 2);
+    for (int i = 0; i < TAPS; i++) k->back.weights[i] = (int16_t)(k->back.weights[i] * 2);
+    set_exponent(k, k->psi - 1);
+    COUNT(careful_doublings);
 }
 
 INLINE void note_length(work *k, int length) {
@@ -187,7 +210,7 @@ INLINE int32_t error(const work *k, int v, int length, int32_t y, int xi, int *t
     return v * (1 << (30 - *theta)) - cut(y, *theta - xi);
 }
 
-// Step 6 and 7.
+// Steps 6 and 7, and the doubling.
 INLINE void learn(work *k, const int16_t *a, const int16_t *v, int32_t z, int theta, int c) {
     uint64_t step = (uint64_t)k->m * size_of(z);
     int16_t sign = (int16_t)(z >> 31);
@@ -195,7 +218,10 @@ INLINE void learn(work *k, const int16_t *a, const int16_t *v, int32_t z, int th
     uint32_t jf = (uint32_t)(step >> (places - k->gamma + s)), jb = (uint32_t)(step >> (places - c));
     uint16_t merged = adapt(&k->forward, a, jf, sign, 30 - s);
     merged |= adapt(&k->back, v, jb, sign, 15 + c);
-    if (merged & 0x4000) halve(k);
+    if (merged < k->least)
+        double_weights(k);
+    else if (merged & 0x4000)
+        halve_weights(k);
 }
 
 // Steps 1 to 8 of the sample at a place. T does nothing to H, as γ is at most 9.
@@ -228,7 +254,8 @@ static void set_work(work *k, const tigbulode_equaliser *e) {
     int p = e->p, q = e->q;
     set_side(&k->forward, p, e->weights, e->past);
     set_side(&k->back, q, e->weights + p, e->past + p);
-    k->n = e->n, k->r = e->r, k->top = (2 << e->r) - 1, k->psi = e->psi, k->m = e->step;
+    k->n = e->n, k->r = e->r, k->top = (2 << e->r) - 1, k->m = e->step;
+    set_exponent(k, e->psi);
     k->older = LANES * (((1u << q) - 1) & 0xfffe);
     k->lengths = 0;
     for (int i = p + q - 1; i >= p; i--) note_length(k, symbol_length[e->past[i] + 15]);

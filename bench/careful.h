@@ -15,4 +15,8 @@ run_call careful_run;
 // The same source, compiled for the processor it runs on.
 run_call careful_native_run;
 
+// The same source, which counts the samples that halve the weights and those that double them.
+run_call careful_counted_run;
+extern unsigned careful_halvings, careful_doublings;
+
 #endif
