@@ -1,6 +1,7 @@
 #define _POSIX_C_SOURCE 200809L
 #include <stdio.h>
 #include <stdlib.h>
+#include <string.h>
 #include <time.h>
 
 #include "cables.h"
@@ -12,8 +13,13 @@
 #define BLOCKS 32
 #define ROUNDS 301
 #define N LONGEST_BLOCK
+#define FALLS 15
 
 enum { PROVED, CAREFUL, NATIVE, PLAIN, CONTENDERS };
+
+// The record that the timed blocks begin with: trained on a channel with psi above 0, on a loud one with psi 0, or
+// that one frozen with a quarter of its weights, all below 4096.
+typedef enum { USUAL, LOUD, SMALL } kind;
 
 // An earlier release's tigbulode_run, where bench/run was given its library.
 run_call before_tigbulode_run __attribute__((weak));
@@ -23,7 +29,7 @@ static simulation *const simulations[] = {proved_simulation, careful_simulation,
 
 typedef struct {
     channel_block blocks[BLOCKS];
-    tigbulode_equaliser state[PLAIN];
+    tigbulode_equaliser state[PLAIN], begun;
     plain_equaliser plain;
 } setting;
 
@@ -48,9 +54,20 @@ static void run_block(setting *s, int who, const channel_block *b, const int8_t 
         fail("a block of the channel was refused");
 }
 
+static void quarter(tigbulode_equaliser *s) {
+    for (int i = 0; i < s->p + s->q; i++) s->weights[i] /= 4;
+    s->step = 0;
+}
+
+// Ends where the record is not of its kind.
+static void check_kind(const tigbulode_equaliser *s, kind what) {
+    if ((s->psi > 0) != (what == USUAL)) fail("psi to be timed is not of its kind");
+    if ((tigbulode_largest_weight(s) < 4096) != (what == SMALL)) fail("weights to be timed are not of their kind");
+}
+
 // Trained on the channel, so that the timed blocks run on decisions.
-static void prepare(setting *s, int p, int q) {
-    channel c = {.r = 2, .l = 1};
+static void prepare(setting *s, int p, int q, kind what) {
+    channel c = {.r = 2, .l = what == USUAL, .loud = what != USUAL};
     channel_block b;
     uint32_t m = tigbulode_greatest_step((uint8_t)p, (uint8_t)q, (uint8_t)c.r, (uint8_t)c.l);
     for (int who = 0; who < PLAIN; who++)
@@ -61,6 +78,9 @@ static void prepare(setting *s, int p, int q) {
         for (int who = 0; who < CONTENDERS; who++) run_block(s, who, &b, b.sent);
     }
     for (int i = 0; i < BLOCKS; i++) channel_next(&c, &s->blocks[i]);
+    for (int who = 0; who < PLAIN && what == SMALL; who++) quarter(&s->state[who]);
+    s->begun = s->state[PROVED];
+    check_kind(&s->begun, what);
 }
 
 static double now(void) {
@@ -93,6 +113,16 @@ static double timed_trial(int tried) {
     return (now() - start) / (BLOCKS * N);
 }
 
+// The timed blocks in pieces of k samples.
+static void run_pieces(run_call *run, tigbulode_equaliser *s, size_t k) {
+    for (int i = 0; i < BLOCKS; i++) {
+        const channel_block *b = &current.blocks[i];
+        for (size_t at = 0; at < N; at += k)
+            if (run(s, b->m + at, k, b->gains + at, k, decided, k, y, k, xi, k, decision, k, z, k, theta, k))
+                fail("a block of the channel was refused");
+    }
+}
+
 // The states of this library and of the earlier one, and the samples in a block of either.
 static struct {
     _Alignas(64) tigbulode_equaliser state;
@@ -102,16 +132,53 @@ static size_t piece;
 // Nanoseconds per sample of this library, or of the earlier one.
 static double timed_release(int earlier) {
     run_call *run = earlier ? before_tigbulode_run : tigbulode_run;
-    const size_t k = piece;
     double start = now();
-    for (int i = 0; i < BLOCKS; i++) {
-        const channel_block *b = &current.blocks[i];
-        for (size_t at = 0; at < N; at += k)
-            if (run(&releases[earlier].state, b->m + at, k, b->gains + at, k, decided, k, y, k, xi, k, decision, k, z, k,
-                    theta, k))
-                fail("a block of the channel was refused");
-    }
+    run_pieces(run, &releases[earlier].state, piece);
     return (now() - start) / (BLOCKS * N);
+}
+
+// Runs the rounds that were timed once more: how many samples halve the weights. Ends where one doubles them.
+static unsigned count_halvings(tigbulode_equaliser begun, const tigbulode_equaliser *ended, size_t k) {
+    careful_halvings = careful_doublings = 0;
+    for (int i = 0; i < ROUNDS; i++) run_pieces(careful_counted_run, &begun, k);
+    if (careful_doublings > 0) fail("a sample of a timed block doubles the weights");
+    if (memcmp(&begun, ended, sizeof begun) != 0) fail("counted rounds left another record than the timed ones");
+    return careful_halvings;
+}
+
+// Records with psi 15, which falls at each of 15 samples, and with psi 0. The weights are 0 at first, and the step is
+// so small that they stay below 4096.
+static tigbulode_equaliser falling[2];
+
+static void run_falling(run_call *run, const tigbulode_equaliser *from, const channel_block *b) {
+    const size_t k = FALLS;
+    tigbulode_equaliser s = *from;
+    if (run(&s, b->m, k, b->gains, k, b->sent, k, y, k, xi, k, decision, k, z, k, theta, k))
+        fail("a block of the channel was refused");
+    if (s.psi != 0) fail("psi does not fall at each sample");
+}
+
+// Nanoseconds per sample where psi falls, then where it is 0; of the library and of careful C.
+static double timed_falling(int who) {
+    double start = now();
+    for (int i = 0; i < BLOCKS; i++) run_falling(runs[who % 2], &falling[who / 2], &current.blocks[i]);
+    return (now() - start) / (BLOCKS * FALLS);
+}
+
+// How many samples double the weights in the blocks of either record.
+static unsigned doublings(const tigbulode_equaliser *from) {
+    careful_halvings = careful_doublings = 0;
+    for (int i = 0; i < BLOCKS; i++) run_falling(careful_counted_run, from, &current.blocks[i]);
+    return careful_doublings;
+}
+
+static void prepare_falling(int p, int q) {
+    prepare(&current, p, q, USUAL);
+    falling[0] = falling[1] =
+        tigbulode_set_up((uint8_t)p, (uint8_t)q, FALLS, 2, 1, current.begun.step / 64).state;
+    falling[0].psi = FALLS;
+    if (doublings(&falling[0]) != BLOCKS * FALLS || doublings(&falling[1]) != 0)
+        fail("psi does not fall at each sample");
 }
 
 // Microseconds for a cable.
@@ -172,19 +239,31 @@ static void check_cable_answers(void) {
     printf("\n");
 }
 
-static void check_answers(void) {
-    unsigned counts[10] = {0}, tried[10] = {0}, unused[10] = {0}, wrong[3];
-    const int sizes[] = {3, 8, 16}, numbers[] = {0, 1, 2, 3, 4, 5, 6, 9};
-    if (!check_same(careful_run, 200000, counts)) fail("careful C and the proved code differ");
-    if (!check_same(careful_native_run, 50000, counts)) fail("careful C for this processor and the proved code differ");
-    if (!check_trials(false, 50000, tried)) fail("a trial and a run differ");
-    if (check_trials(true, 50000, unused)) fail("a trial with a fault was not found");
+static void print_answers(const shown *seen, const shown *tried) {
+    const int numbers[] = {0, 1, 2, 3, 4, 5, 6, 9};
     printf("careful C and the proved code agree bit for bit, and trials and runs; random calls by answer:");
     for (int i = 0; i < 8; i++) {
-        printf(" %d: %u", numbers[i], counts[numbers[i]]);
-        if (counts[numbers[i]] == 0 || tried[numbers[i]] == 0) fail("an answer was never seen");
+        printf(" %d: %u", numbers[i], seen->answers[numbers[i]]);
+        if (seen->answers[numbers[i]] == 0 || tried->answers[numbers[i]] == 0) fail("an answer was never seen");
     }
-    printf("\n");
+    printf("\nblocks that raise psi: %u, that lower it: %u; ", seen->raised, seen->lowered);
+    printf("samples in 50,000 of the calls that halve the weights: %u, that double them: %u\n", careful_halvings,
+           careful_doublings);
+    if (seen->raised == 0 || seen->lowered == 0 || tried->raised == 0 || tried->lowered == 0)
+        fail("psi never rose or never fell");
+    if (careful_halvings == 0 || careful_doublings == 0) fail("no sample halved the weights, or none doubled them");
+}
+
+static void check_answers(void) {
+    shown seen = {0}, tried = {0}, unused = {0};
+    unsigned wrong[3];
+    const int sizes[] = {3, 8, 16};
+    if (!check_same(careful_run, 200000, &seen)) fail("careful C and the proved code differ");
+    if (!check_same(careful_native_run, 50000, &seen)) fail("careful C for this processor and the proved code differ");
+    if (!check_same(careful_counted_run, 50000, &seen)) fail("careful C that counts and the proved code differ");
+    if (!check_trials(false, 50000, &tried)) fail("a trial and a run differ");
+    if (check_trials(true, 50000, &unused)) fail("a trial with a fault was not found");
+    print_answers(&seen, &tried);
     for (int i = 0; i < 3; i++) {
         if (!check_channel(sizes[i], sizes[i], wrong)) fail("a block of the channel was refused");
         printf("p = q = %d, easy channel: wrong decisions proved %u, careful %u, float %u\n", sizes[i], wrong[0],
@@ -193,48 +272,89 @@ static void check_answers(void) {
     }
 }
 
+static void print_halvings(unsigned halvings) {
+    printf("samples that double the weights: 0, that halve them: %u\n", halvings);
+    fflush(stdout);
+}
+
 static void print_table(const char *title, const int (*sizes)[2], int rows) {
+    unsigned halvings = 0;
     printf("\n%s\n", title);
     printf("        |      proved     |  (a) careful C  | (b) plain float | proved/careful | proved | native\n");
     printf("  p   q |  median   least |  median   least |  median   least | median   least | /plain | median\n");
     for (int i = 0; i < rows; i++) {
-        prepare(&current, sizes[i][0], sizes[i][1]);
+        prepare(&current, sizes[i][0], sizes[i][1], USUAL);
         figures f = measure(timed_run, CONTENDERS);
         printf("%3d %3d | %7.2f %7.2f | %7.2f %7.2f | %7.2f %7.2f | %6.2f %7.2f | %6.2f | %6.2f\n", sizes[i][0],
                sizes[i][1], f.median[PROVED], f.least[PROVED], f.median[CAREFUL], f.least[CAREFUL],
                f.median[PLAIN], f.least[PLAIN], f.ratio[CAREFUL], f.least[PROVED] / f.least[CAREFUL],
                f.ratio[PLAIN], f.median[NATIVE]);
         fflush(stdout);
+        halvings += count_halvings(current.begun, &current.state[PROVED], N);
     }
+    print_halvings(halvings);
 }
 
 static void print_trials(const int (*sizes)[2], int rows) {
+    unsigned halvings = 0;
     printf("\nNanoseconds per sample of a trial beside a run\n");
     printf("        |       run       |      trial      |    trial/run\n");
     printf("  p   q |  median   least |  median   least | median   least\n");
     for (int i = 0; i < rows; i++) {
-        prepare(&current, sizes[i][0], sizes[i][1]);
+        prepare(&current, sizes[i][0], sizes[i][1], USUAL);
         figures f = measure(timed_trial, 2);
         printf("%3d %3d | %7.2f %7.2f | %7.2f %7.2f | %6.2f %7.2f\n", sizes[i][0], sizes[i][1], f.median[0], f.least[0],
                f.median[1], f.least[1], 1 / f.ratio[1], f.least[1] / f.least[0]);
+        halvings += count_halvings(current.begun, &current.state[PROVED], N);
+    }
+    print_halvings(halvings);
+}
+
+// What a doubling costs: the least time where each sample doubles, less that where none does.
+static void print_falling(const int (*sizes)[2], int rows) {
+    printf("\nNanoseconds per sample where each doubles the weights: N = 15, psi from 15 to 0\n");
+    printf("        |      proved     |  (a) careful C  | proved/careful |  for the doubling\n");
+    printf("  p   q |  median   least |  median   least | median   least |  proved  careful\n");
+    for (int i = 0; i < rows; i++) {
+        prepare_falling(sizes[i][0], sizes[i][1]);
+        figures f = measure(timed_falling, 4);
+        printf("%3d %3d | %7.2f %7.2f | %7.2f %7.2f | %6.2f %7.2f | %7.2f %8.2f\n", sizes[i][0], sizes[i][1],
+               f.median[0], f.least[0], f.median[1], f.least[1], f.ratio[1], f.least[0] / f.least[1],
+               f.least[0] - f.least[2], f.least[1] - f.least[3]);
     }
 }
 
-static void print_releases(const int (*sizes)[3], int rows) {
-    unsigned counts[10] = {0};
-    printf("\nNanoseconds per sample beside an earlier release; over 200,000 random calls the two %s\n",
-           check_same(before_tigbulode_run, 200000, counts) ? "agree bit for bit" : "DIFFER");
+static bool same_records(void) { return memcmp(&releases[0].state, &releases[1].state, sizeof releases[0].state) == 0; }
+
+static void print_release_rows(const char *about, kind what, const int (*sizes)[3], int rows) {
+    unsigned halvings = 0;
+    bool same = true;
+    printf("%s\n", about);
     printf("            |      before     |       now       |   now/before\n");
     printf("  p   q   N |  median   least |  median   least | median   least\n");
     for (int i = 0; i < rows; i++) {
-        prepare(&current, sizes[i][0], sizes[i][1]);
+        prepare(&current, sizes[i][0], sizes[i][1], what);
         piece = (size_t)sizes[i][2];
-        releases[0].state = current.state[PROVED], releases[0].state.n = (uint8_t)piece;
-        releases[1] = releases[0];
+        current.begun.n = (uint8_t)piece;
+        releases[0].state = releases[1].state = current.begun;
         figures f = measure(timed_release, 2);
         printf("%3d %3d %3d | %7.2f %7.2f | %7.2f %7.2f | %6.3f %7.3f\n", sizes[i][0], sizes[i][1], sizes[i][2],
                f.median[1], f.least[1], f.median[0], f.least[0], f.ratio[1], f.least[0] / f.least[1]);
+        halvings += count_halvings(current.begun, &releases[0].state, piece);
+        same &= same_records();
     }
+    printf("the two left %s records; ", same ? "the same" : "OTHER");
+    print_halvings(halvings);
+}
+
+static void print_releases(const int (*sizes)[3], int rows) {
+    const beside seen = check_release(before_tigbulode_run, 200000);
+    printf("\nNanoseconds per sample beside an earlier release; over random calls the two differ in\n");
+    printf("%u of %u in which no sample doubles the weights, and in %u of %u in which one does\n", seen.differ[0],
+           seen.calls[0], seen.differ[1], seen.calls[1]);
+    print_release_rows("psi above 0, a weight of 4096 or more", USUAL, sizes, rows);
+    print_release_rows("psi 0, a weight of 4096 or more", LOUD, sizes, rows);
+    print_release_rows("psi 0, all weights below 4096, frozen", SMALL, sizes, rows);
 }
 
 static void print_cable(void) {
@@ -260,6 +380,7 @@ int main(void) {
     print_table("The same as p + q grows", growth, 6);
     print_table("The same with p + q split unevenly", uneven, 5);
     print_trials(main_sizes, 3);
+    print_falling(main_sizes, 3);
     if (before_tigbulode_run) print_releases(releases_at, 7);
     print_cable();
     printf("\nMemory of a station: %zu bytes of record, at most %d bytes of image\n", sizeof(tigbulode_equaliser),

@@ -16,10 +16,10 @@ uint32_t any_below(uint32_t limit) { return (uint32_t)((uint64_t)any_number() * 
 int any_symbol(int r) { return 2 * (int)any_below(2u << r) - ((2 << r) - 1); }
 
 void channel_next(channel *c, channel_block *b) {
-    float unit = 1.0f / (float)(4 << c->l);
+    float unit = c->loud ? 2.4f : 1.0f / (float)(4 << c->l);
     uint8_t gain = (uint8_t)(c->l + (int)any_below(2));
     for (int i = 0; i < LONGEST_BLOCK; i++) {
-        int s = any_symbol(c->r);
+        int s = any_symbol(c->loud ? 0 : c->r);
         float noise = ((float)any_below(2001) - 1000.0f) * 0.00002f;
         float x = unit * ((float)s + 0.3f * (float)c->past[0] - 0.2f * (float)c->past[1] +
                           0.1f * (float)c->past[2] + noise);
@@ -37,10 +37,16 @@ static int scale_count(int taps) {
     return s;
 }
 
-static void any_contents(tigbulode_equaliser *e) {
+static void any_weights(int16_t *weights, int taps) {
     int limit = any_below(2) ? 1 << 14 : 1 << any_below(15);
-    for (int i = 0; i < e->p + e->q; i++)
-        e->weights[i] = (int16_t)((int)any_below(2u * (uint32_t)limit - 1) - (limit - 1));
+    for (int i = 0; i < taps; i++) weights[i] = (int16_t)((int)any_below(2u * (uint32_t)limit - 1) - (limit - 1));
+    int beside = 4094 + (int)any_below(4);
+    if (limit <= 4096 && any_below(4) == 0)
+        weights[any_below((uint32_t)taps)] = (int16_t)(any_below(2) ? beside : -beside);
+}
+
+static void any_contents(tigbulode_equaliser *e) {
+    any_weights(e->weights, e->p + e->q);
     int room = 15 + e->b - e->big - scale_count(e->p);
     for (int i = 0; i < e->p - 1; i++) {
         uint32_t size = room > 0 ? any_below(1u << room) : 0;

@@ -2,6 +2,8 @@
 #ifndef CHANNEL_H
 #define CHANNEL_H
 
+#include <stdbool.h>
+
 #include "../firmware/tigbulode.h"
 
 #define LONGEST_BLOCK 128
@@ -13,8 +15,10 @@ typedef struct {
     float x[LONGEST_BLOCK];
 } channel_block;
 
+// A loud one carries symbols of magnitude 1 alone, so that its weights are below one half; l is then 0.
 typedef struct {
     int r, l;
+    bool loud;
     int past[3];
 } channel;
 

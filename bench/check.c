@@ -76,7 +76,13 @@ static void prepare(outcome *o, lent *b) {
     spoil(&o->state, b);
 }
 
-int check_same(run_call *other, unsigned calls, unsigned counts[10]) {
+static void count(shown *seen, uint8_t number, int before, int after) {
+    seen->answers[number]++;
+    seen->raised += number == 0 && after > before;
+    seen->lowered += number == 0 && after < before;
+}
+
+int check_same(run_call *other, unsigned calls, shown *seen) {
     outcome one, two;
     lent b;
     memset(&one, 0x5a, sizeof one);
@@ -85,18 +91,39 @@ int check_same(run_call *other, unsigned calls, unsigned counts[10]) {
         if (any_below(8) == 0) one.state = any_state();
         prepare(&one, &b);
         two = one;
+        int psi = one.state.psi;
         uint8_t number = call(tigbulode_run, &one, &b);
         if (number > 9 || call(other, &two, &b) != number) return 0;
         if (memcmp(&one, &two, sizeof one) != 0) return 0;
-        counts[number]++;
+        count(seen, number, psi, one.state.psi);
         if (number != 0) one.state = any_state();
     }
     return 1;
 }
 
-int check_trials(bool at_fault, unsigned calls, unsigned counts[10]) {
+int check_trials(bool at_fault, unsigned calls, shown *seen) {
     trial_at_fault = at_fault;
-    return check_same(tried_run, calls, counts);
+    return check_same(tried_run, calls, seen);
+}
+
+beside check_release(run_call *earlier, unsigned calls) {
+    beside seen = {{0}, {0}};
+    outcome one, two, counted;
+    lent b;
+    uint8_t number = 9;
+    memset(&one, 0x5a, sizeof one);
+    for (unsigned i = 0; i < calls; i++) {
+        if (number != 0 || any_below(8) == 0) one.state = any_state();
+        prepare(&one, &b);
+        two = counted = one;
+        careful_doublings = 0;
+        call(careful_counted_run, &counted, &b);
+        int doubled = careful_doublings > 0;
+        number = call(tigbulode_run, &one, &b);
+        int same = call(earlier, &two, &b) == number && memcmp(&one, &two, sizeof one) == 0;
+        seen.calls[doubled]++, seen.differ[doubled] += !same;
+    }
+    return seen;
 }
 
 static void channel_lent(lent *b, const channel_block *c, int trained) {
