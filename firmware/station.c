@@ -380,13 +380,15 @@ static void recover_from_anything(kept k) {
     recover_from("memory of FF bytes", &k);
 }
 
-/* The rule of a trained station. It takes a block whose trial is accepted, leaves psi as it is, and changes the largest
- * weight by less than a sixteenth. */
+/* The largest weight in units of 2^-15, whatever psi is. */
+static int64_t largest_value(const tigbulode_equaliser *s) { return (int64_t)tigbulode_largest_weight(s) << s->psi; }
+
+/* The rule of a trained station. It takes a block whose trial is accepted, does not raise psi, and changes the value of
+ * the largest weight by less than a sixteenth. */
 static bool is_taken(const trial *t) {
-    const tigbulode_equaliser *after = &t->answer.state;
-    const int weight = tigbulode_largest_weight(&t->before);
-    const int change = abs(tigbulode_largest_weight(after) - weight);
-    return t->answer.number == TIGBULODE_ACCEPTED && after->psi == t->before.psi && 16 * change < weight;
+    const tigbulode_equaliser *before = &t->before, *after = &t->answer.state;
+    if (t->answer.number != TIGBULODE_ACCEPTED || after->psi > before->psi) return false;
+    return 16 * llabs(largest_value(after) - largest_value(before)) < largest_value(before);
 }
 
 /* Runs a block that was tried: whether the number, the state and the lists are those of its trial. */
@@ -425,22 +427,39 @@ static block known_block(cable *c, int32_t level) {
     return in;
 }
 
-/* Blocks of a faint cable. The station takes those that its rule admits, and prints the first that it doesn't; another
- * record takes them all. */
-static void faint_blocks(cable *c, unsigned count) {
-    tigbulode_equaliser other = record;
-    unsigned taken = 0;
+/* Blocks at a level. The station takes those that its rule admits, and prints the first trial in which psi moves; the
+ * other record takes them all. */
+static void offer_blocks(cable *c, const char *kind, int32_t level, unsigned count, tigbulode_equaliser *other) {
+    unsigned taken = 0, moved = 0;
+    char about[32];
+    snprintf(about, sizeof about, "a %s block", kind);
     for (unsigned b = 0; b < count; b++) {
-        const block in = known_block(c, FAINT);
+        const block in = known_block(c, level);
         const trial t = offer(&record, &in);
         outputs out;
-        if (!t.taken && taken == b) print_trial("a faint block", &t);
+        if (t.answer.state.psi != t.before.psi && moved++ == 0) print_trial(about, &t);
         taken += t.taken;
-        if (run(&other, &in, N, &out) != TIGBULODE_ACCEPTED) marks++;
+        if (run(other, &in, N, &out) != TIGBULODE_ACCEPTED) marks++;
     }
-    printf("faint blocks taken: %u of %u, psi %u, largest weight %u; ", taken, count, record.psi,
+    printf("%s blocks taken: %u of %u, psi %u, largest weight %u; ", kind, taken, count, record.psi,
            tigbulode_largest_weight(&record));
-    printf("by a station that takes them all: psi %u, largest weight %u\n", other.psi, tigbulode_largest_weight(&other));
+    printf("by a station that takes them all: psi %u, largest weight %u\n", other->psi, tigbulode_largest_weight(other));
+}
+
+/* A spell in which the cable is faint, then as before, then loud. */
+static void levels(cable *c) {
+    tigbulode_equaliser other = record;
+    offer_blocks(c, "faint", FAINT, 61, &other);
+    offer_blocks(c, "usual", USUAL, 61, &other);
+    offer_blocks(c, "loud", LOUD, 2, &other);
+}
+
+/* The record as a release could have left it in which psi only rose. */
+static tigbulode_equaliser older_record(void) {
+    tigbulode_equaliser s = record;
+    s.psi = (uint8_t)(s.psi + 4);
+    for (int i = 0; i < P + Q; i++) s.weights[i] = (int16_t)(s.weights[i] / 16);
+    return s;
 }
 
 /* The record with the greatest exponent, and every weight at its limit. */
@@ -451,19 +470,21 @@ static tigbulode_equaliser full_record(void) {
     return s;
 }
 
-/* A spell in which the cable is loud, then faint, then as before, the symbols known. */
+/* The next block at a level is tried. */
+static void offer_one(cable *c, const char *about, int32_t level, tigbulode_equaliser *s) {
+    const block in = known_block(c, level);
+    const trial t = offer(s, &in);
+    print_trial(about, &t);
+}
+
+/* Blocks of several levels, the symbols known. */
 static void spell(cable *c) {
-    block in = known_block(c, USUAL);
-    trial t = offer(&record, &in);
-    print_trial("a usual block", &t);
-    in = known_block(c, LOUD);
-    t = offer(&record, &in);
-    print_trial("a loud block", &t);
-    faint_blocks(c, 61);
-    tigbulode_equaliser full = full_record();
-    in = known_block(c, USUAL);
-    t = offer(&full, &in);
-    print_trial("a usual block on a record with psi 15", &t);
+    offer_one(c, "a usual block", USUAL, &record);
+    offer_one(c, "a loud block", LOUD, &record);
+    levels(c);
+    tigbulode_equaliser older = older_record(), full = full_record();
+    offer_one(c, "a usual block on an older release's record", USUAL, &older);
+    offer_one(c, "a usual block on a record with psi 15", USUAL, &full);
 }
 
 int main(int argc, char **argv) {
@@ -491,6 +512,6 @@ int main(int argc, char **argv) {
     for (unsigned first = 208; first < 240; first += 16) run_blocks(&c, first, true);
     run_blocks(&c, 240, false);
     spell(&c);
-    run_blocks(&c, 320, true);
+    run_blocks(&c, 384, true);
     return marks == 0 ? EXIT_SUCCESS : EXIT_FAILURE;
 }

@@ -110,7 +110,8 @@ impl Equaliser {
     }
 
     /// The largest magnitude of a weight, in units of 2^(psi - 15): at most
-    /// 16383 in a sound state.
+    /// 16383 in a sound state. A block may raise psi or lower it, so beside
+    /// another record's compare this number times 2^psi.
     pub fn largest_weight(&self) -> u16 {
         let magnitudes = self.weights.iter().map(|weight| weight.unsigned_abs());
         magnitudes.max().unwrap_or(0)

@@ -229,7 +229,7 @@ impl Station<'_> {
         self.run_blocks(224, true);
         self.run_blocks(240, false);
         self.spell();
-        self.run_blocks(320, true);
+        self.run_blocks(384, true);
     }
 
     /// The two samples of the specification's example, and the image that

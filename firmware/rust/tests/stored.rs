@@ -124,7 +124,7 @@ fn the_readme() {
     }
     let station = include_str!("../../station.out").lines();
     let begins = |line: &&str| {
-        ["bent", "tried", "faint"]
+        ["bent", "tried", "faint", "usual", "loud"]
             .iter()
             .any(|b| line.starts_with(b))
     };

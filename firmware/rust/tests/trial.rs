@@ -127,6 +127,8 @@ enum Faulty {
     List,
     /// A trial sees no rise of psi.
     Rise,
+    /// A trial sees no fall of psi.
+    Fall,
     /// A save changes the record.
     Save,
     /// A save that is turned down changes the record.
@@ -150,8 +152,10 @@ impl Operations for Faulty {
             (Faulty::Record, 0) => s.b ^= 1,
             (Faulty::State, 0) => answer.state = *s,
             (Faulty::List, 0) => theta.copy_from_slice(&before),
-            (Faulty::Rise, 0) => answer.state.psi = s.psi,
-            (Faulty::Record | Faulty::State | Faulty::List | Faulty::Rise, _) | (_, 0) => (),
+            (Faulty::Rise, 0) => answer.state.psi = answer.state.psi.min(s.psi),
+            (Faulty::Fall, 0) => answer.state.psi = answer.state.psi.max(s.psi),
+            (Faulty::Record | Faulty::State | Faulty::List, _) | (_, 0) => (),
+            (Faulty::Rise | Faulty::Fall, _) => (),
             (Faulty::RefusedRecord, _) => s.past[31] ^= 1,
             (Faulty::RefusedList, _) => xi[0] ^= 1,
             (Faulty::RefusedState, _) => answer.state.weights[31] ^= 1,
@@ -187,6 +191,7 @@ fn the_station_finds_every_fault() {
         Faulty::State,
         Faulty::List,
         Faulty::Rise,
+        Faulty::Fall,
         Faulty::Save,
         Faulty::RefusedSave,
     ];

@@ -16,16 +16,21 @@ pub struct Trial {
     same: bool,
 }
 
+/// The largest weight in units of 2^-15, whatever psi is.
+fn largest_value(s: &Equaliser) -> u64 {
+    u64::from(s.largest_weight()) << s.psi
+}
+
 /// The rule of a trained station. It takes a block whose trial is accepted,
-/// leaves psi as it is, and changes the largest weight by less than a
-/// sixteenth.
+/// does not raise psi, and changes the value of the largest weight by less
+/// than a sixteenth.
 fn is_taken(t: &Trial) -> bool {
-    let after = &t.answer.state;
-    let weight = t.before.largest_weight();
-    let change = after.largest_weight().abs_diff(weight);
-    t.answer.number == number::ACCEPTED
-        && after.psi == t.before.psi
-        && 16 * u32::from(change) < u32::from(weight)
+    let (before, after) = (&t.before, &t.answer.state);
+    if t.answer.number != number::ACCEPTED || after.psi > before.psi {
+        return false;
+    }
+    let value = largest_value(before);
+    16 * largest_value(after).abs_diff(value) < value
 }
 
 impl Station<'_> {
@@ -95,26 +100,43 @@ impl Station<'_> {
         Received { entries, ..read }
     }
 
-    /// Blocks of a faint cable. The station takes those that its rule admits,
-    /// and prints the first that it doesn't; another record takes them all.
-    fn faint_blocks(&mut self, count: u32) {
-        let mut other = self.record;
-        let mut taken = 0;
-        for b in 0..count {
-            let read = self.known_block(FAINT);
+    /// Blocks at a level. The station takes those that its rule admits, and
+    /// prints the first trial in which psi moves; the other record takes them
+    /// all.
+    fn offer_blocks(&mut self, kind: &str, level: i32, count: u32, other: &mut Equaliser) {
+        let (mut taken, mut moved) = (0, false);
+        for _ in 0..count {
+            let read = self.known_block(level);
             let t = self.offer_to_record(&read);
-            if !t.taken && taken == b {
-                self.print_trial("a faint block", &t);
+            if t.answer.state.psi != t.before.psi && !moved {
+                self.print_trial(&format!("a {kind} block"), &t);
+                moved = true;
             }
             taken += u32::from(t.taken);
-            let number = run(self.side, &mut other, &read, N, &mut Handed::filled());
+            let number = run(self.side, other, &read, N, &mut Handed::filled());
             self.marks += u32::from(number != number::ACCEPTED);
         }
         let shown = |s: &Equaliser| format!("psi {}, largest weight {}", s.psi, s.largest_weight());
-        let (own, all) = (shown(&self.record), shown(&other));
+        let (own, all) = (shown(&self.record), shown(other));
         self.line(format!(
-            "faint blocks taken: {taken} of {count}, {own}; by a station that takes them all: {all}"
+            "{kind} blocks taken: {taken} of {count}, {own}; by a station that takes them all: {all}"
         ));
+    }
+
+    /// A spell in which the cable is faint, then as before, then loud.
+    fn levels(&mut self) {
+        let mut other = self.record;
+        self.offer_blocks("faint", FAINT, 61, &mut other);
+        self.offer_blocks("usual", USUAL, 61, &mut other);
+        self.offer_blocks("loud", LOUD, 2, &mut other);
+    }
+
+    /// The record as a release could have left it in which psi only rose.
+    fn older_record(&self) -> Equaliser {
+        let mut s = self.record;
+        s.psi += 4;
+        s.weights.iter_mut().for_each(|weight| *weight /= 16);
+        s
     }
 
     /// The record with the greatest exponent, and every weight at its limit.
@@ -131,18 +153,23 @@ impl Station<'_> {
         s
     }
 
-    /// A spell in which the cable is loud, then faint, then as before, the
-    /// symbols known.
+    /// The next usual block is tried on a record other than the station's.
+    fn offer_to_other(&mut self, about: &str, mut s: Equaliser) {
+        let read = self.known_block(USUAL);
+        let t = self.offer(&mut s, &read);
+        self.print_trial(about, &t);
+    }
+
+    /// Blocks of several levels, the symbols known.
     pub fn spell(&mut self) {
         for (about, level) in [("a usual block", USUAL), ("a loud block", LOUD)] {
             let read = self.known_block(level);
             let t = self.offer_to_record(&read);
             self.print_trial(about, &t);
         }
-        self.faint_blocks(61);
-        let mut full = self.full_record();
-        let read = self.known_block(USUAL);
-        let t = self.offer(&mut full, &read);
-        self.print_trial("a usual block on a record with psi 15", &t);
+        self.levels();
+        let (older, full) = (self.older_record(), self.full_record());
+        self.offer_to_other("a usual block on an older release's record", older);
+        self.offer_to_other("a usual block on a record with psi 15", full);
     }
 }
