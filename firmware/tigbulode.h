@@ -13,10 +13,10 @@
  * they were.
  *
  * A trial shows what a block would do before the station takes it. A stored block from a spell in which the cable was
- * loud, faint or disturbed may pull the weights off, or raise psi, or be turned down with 6; and psi never falls, so the
- * weights keep a binary digit less from then on. So an operator looks at the number, at psi and at tigbulode_largest_weight
- * of the state that would follow, beside those of the record, and then has the station run the block or drop it.
- * firmware/station.c does so.
+ * loud, faint or disturbed may pull the weights off, or raise psi, or be turned down with 6. psi falls again only where
+ * every weight is below 4096, so the weights may keep a binary digit less when the cable is as it was. So an operator
+ * looks at the number, at psi and at tigbulode_largest_weight of the state that would follow, beside those of the record,
+ * and then has the station run the block or drop it. firmware/station.c does so.
  *
  * An image has no check sum: of the images that differ from a good one in one byte, three to five in ten load with 0,
  * as states that are sound but were never saved. So firmware keeps tigbulode_check_sum of each image beside it; after a loss
@@ -227,8 +227,9 @@ static inline tigbulode_answer tigbulode_trial_block(const tigbulode_equaliser *
 
 #undef TIGBULODE_ARGUMENTS
 
-/* The largest magnitude of a weight, in units of 2^(psi - 15): at most 16383 in a sound state. A record with anything in it
- * is read at its 32 places alone; -32768 counts as 32768. */
+/* The largest magnitude of a weight, in units of 2^(psi - 15): at most 16383 in a sound state. A block may raise psi or
+ * lower it, so beside another record's compare this number times 2^psi. A record with anything in it is read at its 32
+ * places alone; -32768 counts as 32768. */
 static inline uint16_t tigbulode_largest_weight(const tigbulode_equaliser *s) {
     int32_t largest = 0;
     int i;
