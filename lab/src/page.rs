@@ -327,7 +327,8 @@ fn exponent(given: &Given, runs: &[Run]) -> Panel {
     let psi = |_, run: &Run| in_rows(&changes(given, run, |block| block.psi.into()));
     let last = |run: &Run| run.blocks.last().map_or(0, |block| block.psi);
     let title = |run: &Run| format!("{}: {} at the end", run.step.name, last(run));
-    let most = runs.iter().map(last).max().unwrap_or(0);
+    let blocks = runs.iter().flat_map(|run| &run.blocks);
+    let most = blocks.map(|block| block.psi).max().unwrap_or(0);
     Panel {
         least_height: 130.0,
         label: "ψ",

@@ -2,7 +2,7 @@
 
 mod common;
 
-use common::{given, runs, with_line, EXAMPLE, WORKED};
+use common::{falling, given, runs, with_line, EXAMPLE, WORKED};
 use lab::page::{page, Page, Panel};
 use lab::script::script;
 
@@ -216,7 +216,7 @@ fn outside(panel: &Panel) -> Option<&str> {
 
 #[test]
 fn every_point_is_within_its_panel() {
-    for text in [EXAMPLE, WORKED] {
+    for text in [EXAMPLE, WORKED, &falling()] {
         for mut panel in page_of(text).panels {
             assert_eq!(outside(&panel), None, "{}", panel.name);
             let beyond = panel.up.high + 0.1;

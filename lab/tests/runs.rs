@@ -2,7 +2,7 @@
 
 mod common;
 
-use common::{given, runs, with_line, EXAMPLE, WORKED};
+use common::{falling, given, runs, with_line, EXAMPLE, WORKED};
 use lab::cable::traces;
 use lab::run::{decibels, error_power, mean_power, Ran, Run};
 use lab::text::Given;
@@ -127,6 +127,18 @@ fn the_example_is_run_as_the_second_implementation_runs_it() {
         trace.samples[5000].m ^= 1 << 12;
         assert_ne!(run.blocks, by_reference(&given, &trace));
     }
+}
+
+#[test]
+fn an_exponent_that_falls_does_so_as_in_the_second_implementation() {
+    let given = given(&falling());
+    let made = traces(&given).expect("it is accepted");
+    let trace = Trace::of_bytes(&made[0].1).expect("a trace");
+    let blocks = &runs(&given)[0].blocks;
+    assert_eq!(*blocks, by_reference(&given, &trace));
+    let most = blocks.iter().map(|block| block.psi).max();
+    let last = blocks.last().map(|block| block.psi);
+    assert_eq!((most, last), (Some(4), Some(3)));
 }
 
 /// What the example is there to show.
