@@ -238,7 +238,8 @@ fn the_list_covers_every_answer() {
     }
     let (blocks, trials) = (&list.tally.blocks, &list.tally.trials);
     assert!(blocks.rises >= 100 && blocks.rises_to_15 >= 10);
-    assert!(blocks.falls >= 100 && blocks.falls_to_0 >= 10 && blocks.falls_by_more >= 10);
+    assert!(blocks.falls >= 100 && blocks.falls_from_15 >= 10);
+    assert!(blocks.falls_to_0 >= 10 && blocks.falls_by_more >= 10);
     assert!(blocks.larger >= 100 && blocks.smaller >= 100);
     assert!(trials.rises >= 20 && trials.larger >= 100 && trials.smaller >= 100);
     assert!(trials.falls >= 20 && trials.falls_by_more >= 5);

@@ -14,7 +14,9 @@ pub struct Blocks {
     pub rises_to_15: u64,
     pub left_at_15: u64,
     pub falls: u64,
+    pub falls_from_15: u64,
     pub falls_to_0: u64,
+    /// Those by more than one.
     pub falls_by_more: u64,
     pub larger: u64,
     pub smaller: u64,
@@ -30,6 +32,7 @@ impl Blocks {
         self.rises_to_15 += u64::from(after.psi == 15 && before.psi < 15);
         self.left_at_15 += u64::from(after.psi == 15);
         self.falls += u64::from(after.psi < before.psi);
+        self.falls_from_15 += u64::from(after.psi < 15 && before.psi == 15);
         self.falls_to_0 += u64::from(after.psi == 0 && before.psi > 0);
         self.falls_by_more += u64::from(after.psi + 1 < before.psi);
         self.larger += u64::from(after.big > before.big);
@@ -51,6 +54,7 @@ impl Blocks {
         write!(f, "raised to 15: {}; ", self.rises_to_15)?;
         writeln!(f, "left at 15: {}", self.left_at_15)?;
         write!(f, "{name} with a lowered psi: {}; ", self.falls)?;
+        write!(f, "lowered from 15: {}; ", self.falls_from_15)?;
         write!(f, "lowered to 0: {}; ", self.falls_to_0)?;
         writeln!(f, "by more than one: {}", self.falls_by_more)?;
         write!(f, "{name} with a larger B: {}; ", self.larger)?;
