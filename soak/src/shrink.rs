@@ -236,6 +236,14 @@ fn simpler_settings(s: &Settings) -> Vec<Settings> {
     least.into_iter().filter(|settings| settings != s).collect()
 }
 
+/// The lists without the half of the longest at their end, if they have any.
+fn without_half(lists: &Lists) -> Option<Lists> {
+    let longest = lists.lengths().into_iter().max().unwrap_or(0);
+    let mut shorter = lists.clone();
+    shorten(&mut shorter, longest.div_ceil(2), false);
+    (longest > 0).then_some(shorter)
+}
+
 fn simpler_lists(lists: &Lists) -> Vec<Lists> {
     let m = leveled(&lists.m, 0).into_iter();
     let m = m.map(|m| Lists { m, ..lists.clone() });
@@ -249,7 +257,8 @@ fn simpler_lists(lists: &Lists) -> Vec<Lists> {
         gains,
         ..lists.clone()
     });
-    m.chain(entries).chain(gains).collect()
+    let shorter = without_half(lists).into_iter();
+    m.chain(entries).chain(gains).chain(shorter).collect()
 }
 
 /// No other record, or one with more zeros.
