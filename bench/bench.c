@@ -372,8 +372,8 @@ int main(void) {
     static const int main_sizes[][2] = {{3, 3}, {8, 8}, {16, 16}};
     static const int growth[][2] = {{1, 1}, {2, 2}, {4, 4}, {8, 8}, {12, 12}, {16, 16}};
     static const int uneven[][2] = {{1, 16}, {4, 12}, {8, 3}, {12, 4}, {16, 1}};
-    static const int releases_at[][3] = {{3, 3, 128},  {8, 8, 128}, {12, 12, 128}, {16, 16, 128},
-                                         {16, 16, 16}, {2, 16, 1},  {1, 1, 1}};
+    static const int releases_at[][3] = {{1, 1, 128},   {3, 3, 128},   {8, 8, 128}, {12, 12, 128},
+                                         {16, 16, 128}, {16, 16, 16}, {2, 16, 1}, {1, 1, 1}};
     check_answers();
     check_cable_answers();
     print_table("Nanoseconds per sample, N = 128, r = 2, L = 1, greatest admitted M, decided", main_sizes, 3);
@@ -381,7 +381,7 @@ int main(void) {
     print_table("The same with p + q split unevenly", uneven, 5);
     print_trials(main_sizes, 3);
     print_falling(main_sizes, 3);
-    if (before_tigbulode_run) print_releases(releases_at, 7);
+    if (before_tigbulode_run) print_releases(releases_at, 8);
     print_cable();
     printf("\nMemory of a station: %zu bytes of record, at most %d bytes of image\n", sizeof(tigbulode_equaliser),
            12 + 4 * 32);
