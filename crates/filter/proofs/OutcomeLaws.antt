@@ -2,9 +2,9 @@
 use mathlib.Core.Path.{_≡_, refl, sym, ap₂, _∙_, subst}
 use mathlib.Core.Bool.{Bool, true, false, _&&_, cond}
 use mathlib.Core.List.{List, [], _∷_}
-use Prim.Native.Nat.{ℕ, _-_, _^_, _≤_, _<_}
+use Prim.Native.Nat.{ℕ, zero, suc, _-_, _^_, _≤_, _<_}
 use native.Mathlib.Omega.{arith}
-use lib.Dec.{T, ltb}
+use lib.Dec.{T}
 use lib.ListN.{length, length-map}
 use lib.IntN.{ℤ, pos, natAbs}
 use borrow.Author.Tests.{ltb-true, lt-ltb}
@@ -16,7 +16,7 @@ use Rattle.numbers.proofs.CutLaws.{cut-lt, raise-abs, raise-raise}
 use Rattle.steps.specs.Limits.{exponentLimit, halvingLimit, doublingLimit}
 use Rattle.steps.specs.Settings.{Settings}
 use Rattle.steps.specs.Side.{Small, isBelow, allBelow, allSmall, halved, doubled}
-use Rattle.filter.specs.Sample.{Taps, Outcome, keep, halve, double, outcomeOf, settled, settledExponent, newForward, newBack, outcome}
+use Rattle.filter.specs.Sample.{Taps, Outcome, keep, halve, double, canFall, outcomeOf, settled, settledExponent, newForward, newBack, outcome}
 use Rattle.filter.specs.Exact.{valuesOf, SameValues}
 
 pub all-below : (limit : ℕ) (w : List ℤ) → allBelow limit w ≡ true → Each (λ (x : ℤ). natAbs x < limit) w
@@ -29,17 +29,24 @@ Says keep ψ f b = Each Small f × Each Small b
 Says halve ψ f b = (allSmall f && allSmall b) ≡ false
 Says double ψ f b = (1 ≤ ψ) × (Each (λ (x : ℤ). natAbs x < doublingLimit) f × Each (λ (x : ℤ). natAbs x < doublingLimit) b)
 
+falls : (ψ : ℕ) → canFall ψ ≡ true → 1 ≤ ψ
+falls zero e = absurd (subst T (sym e) tt)
+falls (suc ψ) e = omega arith
+
+pub can-fall : (ψ : ℕ) → 1 ≤ ψ → canFall ψ ≡ true
+can-fall ψ h = lt-ltb 0 ψ h
+
 outcome-says : (ψ : ℕ) (f b : List ℤ) → Says (outcomeOf ψ f b) ψ f b
 unfolding outcomeOf
-outcome-says ψ f b = go (allSmall f && allSmall b) refl (ltb 0 ψ) refl (allBelow doublingLimit f && allBelow doublingLimit b) refl
+outcome-says ψ f b = go (allSmall f && allSmall b) refl (canFall ψ) refl (allBelow doublingLimit f && allBelow doublingLimit b) refl
   where
     both : (limit : ℕ) → (allBelow limit f && allBelow limit b) ≡ true → Each (λ (x : ℤ). natAbs x < limit) f × Each (λ (x : ℤ). natAbs x < limit) b
     both limit e = (all-below limit f (and-left (allBelow limit f) (allBelow limit b) e), all-below limit b (and-right (allBelow limit f) (allBelow limit b) e))
 
-    go : (s : Bool) → (allSmall f && allSmall b) ≡ s → (p : Bool) → ltb 0 ψ ≡ p → (d : Bool) → (allBelow doublingLimit f && allBelow doublingLimit b) ≡ d →
+    go : (s : Bool) → (allSmall f && allSmall b) ≡ s → (p : Bool) → canFall ψ ≡ p → (d : Bool) → (allBelow doublingLimit f && allBelow doublingLimit b) ≡ d →
         Says (cond s (cond (p && d) double keep) halve) ψ f b
     go false e p q d r = e
-    go true e true q true r = (ltb-true 0 ψ q, both doublingLimit r)
+    go true e true q true r = (falls ψ q, both doublingLimit r)
     go true e true q false r = both halvingLimit e
     go true e false q d r = both halvingLimit e
 

@@ -4,7 +4,6 @@ use mathlib.Core.Bool.{Bool, true, false, _&&_, cond}
 use mathlib.Core.List.{List}
 use Prim.Native.Nat.{ℕ, _-_, _≤_}
 use native.Mathlib.Omega.{arith}
-use lib.Dec.{ltb}
 use lib.IntN.{ℤ}
 use lib.ListN.{length, take, drop, set, length-drop}
 use lib.Seq.{take-all, drop-set-lt}
@@ -14,7 +13,7 @@ use Rattle.steps.specs.Sound.{ErrorBounds}
 use Rattle.steps.proofs.SymbolLaws.{symbol-below, decide-symbol, chosen-symbol}
 use Rattle.steps.specs.Limits.{doublingLimit}
 use Rattle.steps.specs.Side.{allBelow, allSmall}
-use Rattle.filter.specs.Sample.{Taps, Outcome, keep, halve, double, outcomeOf, settled, settledExponent}
+use Rattle.filter.specs.Sample.{Taps, Outcome, keep, halve, double, canFall, outcomeOf, settled, settledExponent}
 use Rattle.filter.specs.Calls.{DecisionBounds, Settled-is, SampleResult-is, chosen, tapsOf}
 use Rattle.filter.specs.declared.sample.SampleResult.{SampleResult}
 
@@ -35,13 +34,13 @@ module _ (ψ : ℕ) (f b : List ℤ) where
 
   pub keeps : (allSmall f && allSmall b) ≡ true → (allBelow doublingLimit f && allBelow doublingLimit b) ≡ false → outcomeOf ψ f b ≡ keep
   unfolding outcomeOf
-  keeps e d = rw (e, d) (go (ltb 0 ψ))
+  keeps e d = rw (e, d) (go (canFall ψ))
     where
       go : (p : Bool) → cond (p && false) double keep ≡ keep
       go true = refl
       go false = refl
 
-  pub doubles : (allSmall f && allSmall b) ≡ true → ltb 0 ψ ≡ true → (allBelow doublingLimit f && allBelow doublingLimit b) ≡ true → outcomeOf ψ f b ≡ double
+  pub doubles : (allSmall f && allSmall b) ≡ true → canFall ψ ≡ true → (allBelow doublingLimit f && allBelow doublingLimit b) ≡ true → outcomeOf ψ f b ≡ double
   unfolding outcomeOf
   doubles e z d = simp (e, z, d)
 

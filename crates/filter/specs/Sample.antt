@@ -1,5 +1,5 @@
 -- One sample. γ + 30 is g, a natural number.
-use mathlib.Core.Bool.{_&&_, cond}
+use mathlib.Core.Bool.{Bool, _&&_, cond}
 use mathlib.Core.List.{List, map}
 use Prim.Native.Nat.{ℕ, suc, _+_, _-_}
 use lib.Dec.{eqb, ltb}
@@ -27,11 +27,14 @@ pub data Outcome : Type 0 where
   halve : Outcome
   double : Outcome
 
+abbrev pub canFall : ℕ → Bool
+canFall ψ = ltb 0 ψ
+
 -- halved where one has reached the halving limit; else doubled where ψ can fall and none has reached the doubling limit
 unfoldable pub outcomeOf : ℕ → List ℤ → List ℤ → Outcome
 outcomeOf ψ forward back =
     cond (allSmall forward && allSmall back)
-    (cond (ltb 0 ψ && (allBelow doublingLimit forward && allBelow doublingLimit back)) double keep)
+    (cond (canFall ψ && (allBelow doublingLimit forward && allBelow doublingLimit back)) double keep)
     halve
 
 -- the weights of a side, and ψ

@@ -12,6 +12,7 @@ use Rattle.steps.specs.Side.{allBelow, allSmall, magnitudes, together}
 use Rattle.steps.proofs.LargestLaws.{or-left, or-right, both-below}
 use Rattle.steps.proofs.SideLaws.{halvable, halved-is, doublable, doubled-is}
 use Rattle.filter.specs.Sample.{keep, halve, double}
+use Rattle.filter.proofs.OutcomeLaws.{can-fall}
 use Rattle.filter.proofs.SampleLaws.{settled-as, halves, keeps-lowest, keeps, doubles}
 use Rattle.filter.proofs.sample.settle.Statement.{statement}
 use Rattle.filter.proofs.sample.settle.Tie as tie
@@ -79,7 +80,7 @@ returns-4 c =
     let e = d .before in
     let s = e .before .before in
     settled-as double
-    (doubles _ _ _ (small (e .before)) (lt-ltb 0 (s .args .psi) (omega (arith, d .if3 .left))) (sym (tested 12 s) ∙ lt-ltb (s .args .seen) doublingLimit (below e))) refl
+    (doubles _ _ _ (small (e .before)) (can-fall (s .args .psi) (omega (arith, d .if3 .left))) (sym (tested 12 s) ∙ lt-ltb (s .args .seen) doublingLimit (below e))) refl
     (r .rescale-both2 .ensures .0 ∙ doubled-is (s .args .forward .now)) (r .rescale-both2 .ensures .1 ∙ doubled-is (s .args .back .now))
 
 pub settle-spec : {M : Type 1} → statement M
