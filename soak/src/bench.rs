@@ -2,6 +2,7 @@
 
 use crate::figures::{as_the_steps_give, detail};
 use crate::pieces::Accepted;
+use reference::block::BlockDetail;
 use reference::demand3::{Checker, Received};
 use reference::State;
 use std::cell::Cell;
@@ -114,6 +115,27 @@ pub struct Followed {
     pub loaded_back: u64,
 }
 
+/// Accepted blocks and trials in which ψ fell.
+#[derive(Clone, Copy, Debug, Default)]
+pub struct Moves {
+    pub fell: u64,
+    pub from_15_to_0: u64,
+    pub fell_and_rose: u64,
+}
+
+impl Moves {
+    fn count(&mut self, detail: &BlockDetail) {
+        let samples = &detail.samples;
+        let fell = samples.iter().any(|d| d.psi_after < d.psi_before);
+        let rose = samples.iter().any(|d| d.psi_after > d.psi_before);
+        let from_15 = samples.first().is_some_and(|d| d.psi_before == 15);
+        let to_0 = samples.last().is_some_and(|d| d.psi_after == 0);
+        self.fell += u64::from(fell);
+        self.from_15_to_0 += u64::from(from_15 && to_0);
+        self.fell_and_rose += u64::from(fell && rose);
+    }
+}
+
 /// How the past samples of the list's state came there.
 #[derive(Clone, Copy, Default)]
 struct Way {
@@ -132,6 +154,7 @@ pub struct Bench<'a> {
     pub checker: Checker,
     pub tally: Tally,
     pub followed: Followed,
+    pub moves: Moves,
     /// Accepted blocks and trials on other records.
     pub others: u64,
 }
@@ -148,6 +171,7 @@ impl<'a> Bench<'a> {
             checker: Checker::new(),
             tally: Tally::default(),
             followed: Followed::default(),
+            moves: Moves::default(),
             others: 0,
         }
     }
@@ -368,6 +392,7 @@ impl<'a> Bench<'a> {
     fn figures(&mut self, block: &Accepted) -> Result<(), Failing> {
         let settings = settings_of(&block.before);
         let checked = detail(self.sides[0], block).and_then(|detail| {
+            self.moves.count(&detail);
             self.checker.figures(&settings, &detail)?;
             as_the_steps_give(block, &detail)
         });

@@ -23,6 +23,8 @@ pub enum Fault {
     Sample,
     /// A block that raises psi leaves the old one.
     Halving,
+    /// A block that lowers psi leaves the old one.
+    Doubling,
     /// A bit of Z in a block that is turned down.
     RefusedOutput,
     /// A bit of the record in a block that is turned down with 6.
@@ -55,6 +57,9 @@ pub enum Fault {
     WeightInBoth,
     /// The last Y is two units off in a loud block, on both sides.
     OutputInBoth,
+    /// A block that lowers psi leaves the last weight as if it were not
+    /// doubled, on both sides.
+    DoublingInBoth,
     /// The last spare place is not 0 after a block, on both sides.
     SpareInBoth,
     /// The first weight beside an accepted trial is two units off, on both sides.
@@ -77,7 +82,7 @@ pub enum Fault {
 
 impl Fault {
     /// Every fault with its name.
-    pub const ALL: [(&'static str, Fault); 32] = [
+    pub const ALL: [(&'static str, Fault); 34] = [
         ("output", Fault::Output),
         ("exponent", Fault::Exponent),
         ("decision", Fault::Decision),
@@ -85,6 +90,7 @@ impl Fault {
         ("weight", Fault::Weight),
         ("sample", Fault::Sample),
         ("halving", Fault::Halving),
+        ("doubling", Fault::Doubling),
         ("refused-output", Fault::RefusedOutput),
         ("refused-record", Fault::RefusedRecord),
         ("refused-buffer", Fault::RefusedBuffer),
@@ -101,6 +107,7 @@ impl Fault {
         ("save-record", Fault::SaveRecord),
         ("weight-in-both", Fault::WeightInBoth),
         ("output-in-both", Fault::OutputInBoth),
+        ("doubling-in-both", Fault::DoublingInBoth),
         ("spare-in-both", Fault::SpareInBoth),
         ("trial-state-in-both", Fault::TrialStateInBoth),
         ("trial-kept-in-both", Fault::TrialKeptInBoth),
@@ -198,7 +205,11 @@ impl<'a> Faulty<'a> {
             Fault::WeightInBoth if trained => s.weights[0] ^= 2,
             Fault::SpareInBoth if s.p + s.q < 32 => s.weights[31] = 1,
             Fault::Sample if loud && s.p > 1 => s.past[0] ^= 1,
-            Fault::Halving => s.psi = before.psi,
+            Fault::Halving if s.psi > before.psi => s.psi = before.psi,
+            Fault::Doubling if s.psi < before.psi => s.psi = before.psi,
+            Fault::DoublingInBoth if s.psi < before.psi => {
+                s.weights[usize::from(s.p + s.q) - 1] /= 2;
+            }
             _ => (),
         }
     }

@@ -3,6 +3,7 @@
 
 use reference::numbers::scale_count;
 use reference::random::{Aim, Loudness};
+use reference::vectors::gathering::gathering;
 use reference::Settings;
 use tigbulode::calls::{raw_image, Call, Lists, Maker};
 use tigbulode::sides::{record_of, settings_of};
@@ -21,6 +22,8 @@ pub enum Plan {
     Channel,
     /// Weights about to be halved, ψ near its top.
     Top,
+    /// Weights about to be doubled, ψ above 0.
+    Falling,
     /// Weights and data at their bounds, with signs that agree.
     Bounds,
     /// Saved images bent in one or several places.
@@ -68,8 +71,8 @@ pub struct Lister {
     channel: [i32; 3],
     /// The last symbols that were sent, newest first.
     sent: [i32; 3],
-    /// A block whose trial was the last call.
-    tried: Option<Call>,
+    /// A block that follows the last call: its trial, or the load of its record.
+    following: Option<Call>,
 }
 
 /// The start of a list's own numbers.
@@ -82,8 +85,8 @@ pub fn start(seed: u64, list: u64) -> u64 {
 impl Lister {
     pub fn new(seed: u64, list: u64) -> Lister {
         let mut maker = Maker::new(start(seed, list));
-        let corner = (list / 9 * 2) as usize % CORNERS;
-        let plan = match list % 9 {
+        let corner = (list / 10 * 2) as usize % CORNERS;
+        let plan = match list % 10 {
             0 => Plan::Corner(corner),
             1 => Plan::Mixed,
             2 => Plan::Spells,
@@ -92,6 +95,7 @@ impl Lister {
             5 => Plan::Bounds,
             6 => Plan::Bent,
             7 => Plan::Lengths,
+            8 => Plan::Falling,
             _ => Plan::Channel,
         };
         let length = maker.random.between(12, 36) as usize;
@@ -104,7 +108,7 @@ impl Lister {
             spell: (Loudness::Loud, Aim::Trained),
             channel,
             sent: [1; 3],
-            tried: None,
+            following: None,
         }
     }
 
@@ -115,7 +119,7 @@ impl Lister {
         if turn >= self.length {
             return None;
         }
-        let block = self.tried.take();
+        let block = self.following.take();
         block.or_else(|| Some(self.perhaps_tried(turn, record)))
     }
 
@@ -126,7 +130,7 @@ impl Lister {
         match &call {
             Call::Block(lists, lent) if self.maker.random.chance(1, 5) => {
                 let trial = Call::Trial(lists.clone(), *lent);
-                self.tried = Some(call);
+                self.following = Some(call);
                 trial
             }
             _ => call,
@@ -146,6 +150,7 @@ impl Lister {
             Plan::Spells => self.spells(turn, record),
             Plan::Channel => self.channel(turn, record),
             Plan::Top => self.top(turn, record),
+            Plan::Falling => self.falling(turn, record),
             Plan::Bounds => self.bounds(turn, record),
             Plan::Bent => self.bent(turn, record),
             Plan::Lengths => self.lengths(turn, record),
@@ -276,6 +281,54 @@ impl Lister {
             .random
             .pick(&[Aim::Ends, Aim::Ends, Aim::Decided]);
         self.block(record, loudness, aim)
+    }
+
+    /// A record whose weights are about to be doubled; one in four has ψ = 15,
+    /// weights of 0 and a block in which they come down to 0.
+    fn falling_record(&mut self) -> Equaliser {
+        let random = &mut self.maker.random;
+        let mut settings = random.settings();
+        settings.n = random.byte(1.max(settings.p - 1), 40);
+        let whole = random.chance(1, 4);
+        if whole {
+            settings.n = random.byte(15.max(settings.n), 40);
+            settings.m = random.pick(&[0, 1, settings.m]);
+        }
+        let mut e = record_of(&random.falling_state(settings));
+        if whole {
+            e.psi = 15;
+            e.weights.fill(0);
+        }
+        e
+    }
+
+    /// The record of a block in which ψ falls from 15 and comes up again, to 15
+    /// or to the refusal 6; the block follows.
+    fn gathering(&mut self) -> Call {
+        let random = &mut self.maker.random;
+        let (size, larger) = (random.between(3790, 3860), random.below(33));
+        let block = gathering(size as i16, larger as usize);
+        let lists = Lists {
+            rooms: [block.samples.len(); 5],
+            m: block.samples,
+            gains: block.gains,
+            entries: block.training,
+        };
+        self.following = Some(Call::Block(lists, None));
+        Call::Load(raw_image(&record_of(&block.state)))
+    }
+
+    fn falling(&mut self, turn: usize, record: &Equaliser) -> Call {
+        if turn.is_multiple_of(4) && self.maker.random.chance(1, 40) {
+            return self.gathering();
+        }
+        if turn.is_multiple_of(4) {
+            return Call::Load(raw_image(&self.falling_record()));
+        }
+        if self.maker.random.chance(1, 8) {
+            return self.maker.save(record);
+        }
+        self.any_good_block(record)
     }
 
     /// A record with every weight and datum at its bound or just below.

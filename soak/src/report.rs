@@ -27,8 +27,8 @@ pub fn worst(w: &Worst) -> String {
     let step = 1025.0 / 1024.0;
     [
         format!(
-            "demand 3 at {} samples, {} halvings; ",
-            w.samples, w.halvings
+            "demand 3 at {} samples, {} halvings, {} doublings; ",
+            w.samples, w.halvings, w.doublings
         ),
         "the worst of each figure, and as a part of its bound:\n".to_string(),
         whole("|W| before and after", w.weight, "16383", 16383.0),
@@ -46,6 +46,12 @@ pub fn worst(w: &Worst) -> String {
         units(
             "the same where the weights were halved",
             &w.halved_step,
+            "1 + 1/1024",
+            step,
+        ),
+        units(
+            "the same where they were doubled",
+            &w.doubled_step,
             "1 + 1/1024",
             step,
         ),
@@ -73,9 +79,14 @@ pub fn covered(bench: &Bench) -> String {
         "next blocks on past samples that were followed: at once {}, after other calls {}, after a load {}\n",
         f.at_once, f.after_calls, f.loaded_back,
     );
+    let m = bench.moves;
+    let moves = format!(
+        "accepted blocks and trials in which psi fell: {}; from 15 to 0: {}; fell and rose: {}\n",
+        m.fell, m.from_15_to_0, m.fell_and_rose,
+    );
     let worst = worst(&bench.checker.worst);
     let others = bench.others;
     let others =
         format!("accepted blocks and trials on a record other than the list's own: {others}\n");
-    format!("{}{followed}{others}{worst}", bench.tally)
+    format!("{}{followed}{others}{moves}{worst}", bench.tally)
 }

@@ -1,8 +1,9 @@
 //! The checker of demand 3 and the steps refuse a wrong number of a block.
 
-use reference::block::BlockDetail;
+use reference::block::{BlockDetail, SampleDetail};
 use reference::demand3::Checker;
 use reference::random::{Aim, Loudness, Random};
+use reference::{Settings, State};
 use soak::figures::{as_the_steps_give, detail};
 use soak::pieces::{records, Accepted};
 use tigbulode::calls::{Call, Lists};
@@ -12,12 +13,25 @@ use tigbulode::Equaliser;
 
 /// Calls `check` on an accepted block of the library, from any sound record.
 fn with_block<T>(random: &mut Random, check: impl FnOnce(&Accepted) -> T) -> T {
+    with_block_from(random, Random::sound_state, check)
+}
+
+/// The same from a record whose weights are about to be doubled.
+fn with_falling_block<T>(random: &mut Random, check: impl FnOnce(&Accepted) -> T) -> T {
+    with_block_from(random, Random::falling_state, check)
+}
+
+fn with_block_from<T>(
+    random: &mut Random,
+    state: fn(&mut Random, Settings) -> State,
+    check: impl FnOnce(&Accepted) -> T,
+) -> T {
     loop {
         let mut settings = random.settings();
         settings.p = settings.p.max(2);
         settings.n = random.byte(settings.p, 24);
         let settings = settings.with_m(settings.largest_m() / 2);
-        let before = record_of(&random.sound_state(settings));
+        let before = record_of(&state(random, settings));
         let loudness = random.pick(&[Loudness::Any, Loudness::Even, Loudness::LoudRandom]);
         let (m, gains) = random.samples(&settings, loudness);
         let entries = random.training(&settings, Aim::Mixed);
@@ -98,15 +112,15 @@ const CHANGES: [Change; 16] = [
         d.samples[at].xi += y_exponent(d, at)
     }),
     ("ψ goes elsewhere", |d, at| d.samples[at].psi_after += 2),
-    ("ψ goes elsewhere", |d, at| d.samples[at].psi_after -= 1),
+    ("ψ goes elsewhere", |d, at| d.samples[at].psi_after -= 2),
     ("a stored sample is a unit off", |d, at| d.stored[at] += 2),
     ("a stored sample is a unit off", |d, at| d.x[at] += 1 << 40),
     ("stored samples are missing", |d, _| d.stored.truncate(1)),
 ];
 
-/// Three units toward 0.
+/// Five units toward 0, or two and a half where the weights were doubled.
 fn toward_zero(weight: &mut i128) {
-    *weight += if *weight > 0 { -3 } else { 3 };
+    *weight += if *weight > 0 { -5 } else { 5 };
 }
 
 /// One place more, where that changes y by more than a unit.
@@ -137,6 +151,48 @@ fn each_wrong_number_is_refused_by_its_figure() {
             });
         }
         assert!(refused >= 5, "{figure}");
+    }
+}
+
+/// A wrong doubling at the first sample of a block that doubles, and the figure
+/// that must refuse it.
+const WRONG_DOUBLINGS: [Change; 4] = [
+    ("of a weight changes in step 7", |d, at| {
+        d.samples[at].weights_after[0] ^= 1
+    }),
+    ("a weight", |d, at| {
+        let d = &mut d.samples[at];
+        let place = d.weights_new.iter().position(|&w| w != 0).unwrap();
+        d.weights_after[place] = d.weights_new[place];
+    }),
+    ("ψ goes elsewhere", |d, at| {
+        let d = &mut d.samples[at];
+        d.weights_after.iter_mut().for_each(|w| *w *= 2);
+        d.psi_after -= 1;
+    }),
+    ("a weight", |d, at| d.samples[at].psi_after += 1),
+];
+
+#[test]
+fn each_wrong_doubling_is_refused_by_its_figure() {
+    let mut random = Random::new(6);
+    for (figure, change) in WRONG_DOUBLINGS {
+        let mut refused = 0;
+        for _ in 0..100 {
+            with_falling_block(&mut random, |block| {
+                let mut detail = detail(&Library, block).unwrap();
+                figures(block, &detail).unwrap();
+                let weights = |w: &[i128]| w.iter().any(|&w| w != 0);
+                let doubled = |d: &SampleDetail| d.psi_after < d.psi_before;
+                let mut samples = detail.samples.iter();
+                let found = samples.position(|d| doubled(d) && weights(&d.weights_new));
+                let Some(at) = found else { return };
+                change(&mut detail, at);
+                let wrong = figures(block, &detail).expect_err(figure);
+                refused += u32::from(wrong.contains(figure));
+            });
+        }
+        assert!(refused >= 20, "{figure}: {refused}");
     }
 }
 

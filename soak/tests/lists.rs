@@ -1,6 +1,7 @@
 //! What the lists cover, their text, and shrinking.
 
 use reference::numbers::bit_length;
+use reference::vectors::gathering::gathering;
 use soak::bench::{Bench, Failure};
 use soak::faults::Fault;
 use soak::format::{parse, text, Saved};
@@ -8,8 +9,8 @@ use soak::lists::{corner, Lister, CORNERS};
 use soak::shrink::shrink;
 use soak::soak::{failure_of, shrunk, with_sides};
 use std::collections::HashSet;
-use tigbulode::calls::Call;
-use tigbulode::sides::{Library, Second};
+use tigbulode::calls::{raw_image, Call, Lists};
+use tigbulode::sides::{record_of, Library, Second};
 
 /// The calls of a list, made on a bench, up to a failure.
 fn list(bench: &mut Bench, seed: u64, place: u64) -> (Vec<Call>, Option<Failure>) {
@@ -50,6 +51,7 @@ fn the_lists_cover_every_answer() {
     for (blocks, least) in [(&tally.blocks, 50), (&tally.trials, 10)] {
         assert!(blocks.rises_to_15 >= least, "{tally}");
         assert!(blocks.left_at_15 >= 2 * least, "{tally}");
+        assert!(blocks.falls >= 2 * least && blocks.falls_from_15 >= least / 2);
         assert!(blocks.larger >= 2 * least && blocks.smaller >= 2 * least);
         assert!(blocks.wrong_lengths.iter().all(|&count| count >= least / 4));
     }
@@ -57,11 +59,39 @@ fn the_lists_cover_every_answer() {
     assert!(tally.on_copies >= calls / 8, "{tally}");
     assert_eq!(tally.again, calls - tally.on_copies);
     assert!(bench.others >= 50);
+    let m = bench.moves;
+    assert!(
+        m.fell >= 400 && m.from_15_to_0 >= 50 && m.fell_and_rose >= 50,
+        "{m:?}"
+    );
+    assert!(bench.checker.worst.doublings >= 2000);
     let f = bench.followed;
     assert!(
         f.at_once >= 100 && f.after_calls >= 100 && f.loaded_back >= 50,
         "{f:?}"
     );
+}
+
+/// A block in which ψ falls from 15, comes up again and is turned down with 6.
+#[test]
+fn a_rise_after_a_fall_is_turned_down() {
+    let mut bench = Bench::new(&Library, &Second);
+    for (size, number) in [(3800, 0), (3850, 6)] {
+        let block = gathering(size, 0);
+        let lists = Lists {
+            rooms: [128; 5],
+            m: block.samples,
+            gains: block.gains,
+            entries: block.training,
+        };
+        bench.start_list();
+        let load = Call::Load(raw_image(&record_of(&block.state)));
+        bench.call(&load).unwrap();
+        let before = bench.tally.answers[1][number];
+        bench.call(&Call::Block(lists, None)).unwrap();
+        assert_eq!(bench.tally.answers[1][number], before + 1);
+    }
+    assert_eq!(bench.moves.fell_and_rose, 1);
 }
 
 #[test]
@@ -140,6 +170,7 @@ fn a_trial_is_checked_as_a_block_is() {
     let faults = [
         (Fault::WeightInBoth, "figure"),
         (Fault::OutputInBoth, "figure"),
+        (Fault::DoublingInBoth, "figure"),
         (Fault::SpareInBoth, "state"),
     ];
     for (fault, check) in faults {

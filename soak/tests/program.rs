@@ -67,6 +67,11 @@ fn faults_are_found_by_their_own_check() {
         ("save-record", ", save: record, weight 0: library "),
         ("weight-in-both", "a weight is too far from the exact step"),
         ("output-in-both", "y is a unit off"),
+        ("doubling", ", psi: library "),
+        (
+            "doubling-in-both",
+            "a weight is too far from the exact step",
+        ),
         (
             "trial-state-in-both",
             ", trial: library: state, weight 0: trial ",
@@ -93,6 +98,7 @@ fn a_run_prints_the_same_each_time() {
     assert_eq!((first.status, first.err.as_str()), (Some(0), ""));
     assert_eq!(first.out, second.out);
     assert!(first.out.starts_with("seed 5\n") && first.out.ends_with("no difference\n"));
+    assert!(first.out.contains(" doublings; ") && first.out.contains("they were doubled "));
     assert!(folder.names().is_empty());
     let third = soak(&folder, &["--seed", "6", "--calls", "700"]);
     assert_ne!(first.out, third.out);
