@@ -187,28 +187,72 @@ fn the_longer_example_has_these_rows() {
     }
 }
 
-#[test]
-fn the_halving_is_on_the_page() {
-    let before = [
+/// A block of one sample that the page works out.
+struct Worked {
+    image: [u8; 20],
+    sample: i16,
+    gain: u8,
+    entry: i8,
+    /// The new weights before step 7, and ψ after it.
+    new: [i128; 2],
+    psi: i32,
+}
+
+const HALVING: Worked = Worked {
+    image: [
         0x01, 0x01, 0x01, 0x01, 0x02, 0x03, 0x1C, 0x1C, 0xB1, 0x13, 0x3B, 0x01, 0xFC, 0x3F, 0xD7,
         0xDC, 0x00, 0x00, 0x01, 0x00,
-    ];
-    let (number, state) = load(&before);
+    ],
+    sample: 30001,
+    gain: 2,
+    entry: 3,
+    new: [16501, -8736],
+    psi: 4,
+};
+
+const DOUBLING: Worked = Worked {
+    image: [
+        0x01, 0x01, 0x01, 0x01, 0x02, 0x03, 0x1C, 0x1C, 0xB1, 0x13, 0x3B, 0x01, 0x18, 0x10, 0x17,
+        0xFC, 0x00, 0x00, 0x01, 0x00,
+    ],
+    sample: 20001,
+    gain: 2,
+    entry: -1,
+    new: [4095, -1084],
+    psi: 2,
+};
+
+impl Worked {
+    fn block(&self, state: &State) -> (BlockDetail, State) {
+        let inputs = Inputs {
+            samples: &[self.sample],
+            gains: &[self.gain],
+            training: &[self.entry],
+        };
+        work(state, inputs).expect("an accepted block")
+    }
+}
+
+/// The part of the page below a heading.
+fn part(page: &str, heading: &str) -> String {
+    let (_, rest) = page
+        .split_once(&format!("\n## {heading}\n"))
+        .expect(heading);
+    rest.split("\n## ").next().unwrap_or(rest).to_string()
+}
+
+/// Every number of the block and both images stand below the heading.
+fn stands_on_the_page(worked: &Worked, heading: &str) {
+    let (number, state) = load(&worked.image);
     assert_eq!((number, state.settings.m), (0, state.settings.largest_m()));
-    let inputs = Inputs {
-        samples: &[30001],
-        gains: &[2],
-        training: &[3],
-    };
-    let (block, next) = work(&state, inputs).expect("an accepted block");
+    let (block, next) = worked.block(&state);
     let d = &block.samples[0];
-    let page = page();
-    assert!(has_bytes(&page, &before) && has_bytes(&page, &image(&next)));
-    assert_eq!(
-        (d.weights_new[0], d.weights_new[1], d.psi_after),
-        (16501, -8736, 4)
-    );
+    let part = part(&page(), heading);
+    assert!(has_bytes(&part, &worked.image) && has_bytes(&part, &image(&next)));
+    assert_eq!(d.weights_new, worked.new);
+    assert_eq!((d.psi_after, i32::from(next.psi)), (worked.psi, worked.psi));
     let numbers = [
+        worked.sample.into(),
         block.x[0],
         d.a[0],
         d.held[0],
@@ -219,9 +263,79 @@ fn the_halving_is_on_the_page() {
         d.j_forward,
         d.j_feedback,
     ];
-    for number in numbers {
-        assert!(page.contains(&words([number])), "{number}");
+    let weights = [&d.weights_before, &d.weights_new, &d.weights_after];
+    for &number in numbers.iter().chain(weights.into_iter().flatten()) {
+        assert!(part.contains(&words([number])), "{heading}: {number}");
     }
+}
+
+#[test]
+fn the_halving_is_on_the_page() {
+    stands_on_the_page(&HALVING, "A halving");
+}
+
+#[test]
+fn the_doubling_is_on_the_page() {
+    stands_on_the_page(&DOUBLING, "A doubling");
+    let page = page();
+    assert!(page.contains("[a doubling](#a-doubling)"));
+    // One more, and nothing is doubled.
+    let (_, mut state) = load(&DOUBLING.image);
+    state.weights[0] += 1;
+    let (block, next) = DOUBLING.block(&state);
+    let d = &block.samples[0];
+    assert_eq!(d.weights_new, d.weights_after);
+    let (weight, new) = (state.weights[0], words(&d.weights_new));
+    let said = format!(
+        "With a first weight of {weight} the new ones would be {}, and ψ would stay {}.",
+        new.replace(' ', " and "),
+        next.psi
+    );
+    assert!(page.contains(&said), "{said}");
+}
+
+/// ψ and the weights after blocks of one 0 each, with one tap each and M = 0.
+fn after_zeros(psi: u8, weights: [i16; 2], blocks: usize) -> (u8, Vec<i16>) {
+    let settings = Settings {
+        p: 1,
+        q: 1,
+        n: 1,
+        r: 0,
+        l: 0,
+        m: 0,
+    };
+    let mut state = State::zeros(settings);
+    state.psi = psi;
+    state.weights = weights.to_vec();
+    let inputs = Inputs {
+        samples: &[0],
+        gains: &[0],
+        training: &[1],
+    };
+    for _ in 0..blocks {
+        (_, state) = work(&state, inputs).expect("an accepted block");
+    }
+    (state.psi, state.weights)
+}
+
+#[test]
+fn the_cases_beside_the_doubling_are_as_the_page_says() {
+    let line = "- At ψ = 1 new weights of 4095 become 8190, and ψ becomes 0; \
+        one of 4096 or −4096, in either filter, and all stay. At ψ = 0 weights of 4095 stay. \
+        At ψ = 2 weights of 0 bring ψ to 1, then to 0, where it stays.\n";
+    assert!(page().contains(line));
+    assert_eq!(after_zeros(1, [4095, 4095], 1), (0, vec![8190, 8190]));
+    for one in [4096, -4096] {
+        for weights in [[one, 4095], [4095, one]] {
+            assert_eq!(after_zeros(1, weights, 1), (1, weights.to_vec()));
+        }
+    }
+    assert_eq!(after_zeros(0, [4095, 4095], 1), (0, vec![4095, 4095]));
+    for (blocks, psi) in [(1, 1), (2, 0), (3, 0)] {
+        assert_eq!(after_zeros(2, [0, 0], blocks), (psi, vec![0, 0]));
+    }
+    assert_eq!(after_zeros(15, [0, 0], 14).0, 1);
+    assert_eq!(after_zeros(15, [0, 0], 15).0, 0);
 }
 
 #[test]
