@@ -466,14 +466,36 @@ fn damaged_images_have_every_step() {
     assert_eq!(seen.len(), 64);
 }
 
+fn stored(name: &str) -> Vec<u8> {
+    let path = format!("{}/../{name}", env!("CARGO_MANIFEST_DIR"));
+    std::fs::read(&path).unwrap_or_else(|error| panic!("{name}: {error}"))
+}
+
 #[test]
-fn the_stored_images_are_these() {
-    let stored = std::fs::read(concat!(
-        env!("CARGO_MANIFEST_DIR"),
-        "/../firmware/images.bin"
-    ));
-    let made: Vec<u8> = image_vectors().iter().flat_map(|v| v.bytes()).collect();
-    assert!(stored.unwrap() == made, "run reference/regenerate");
+fn the_stored_vectors_are_these() {
+    let images: Vec<u8> = image_vectors().iter().flat_map(|v| v.bytes()).collect();
+    let blocks: Vec<u8> = blocks().iter().flat_map(|v| v.bytes()).collect();
+    let traces: Vec<u8> = traces().iter().flat_map(|v| v.bytes()).collect();
+    for (name, made) in [
+        ("firmware/images.bin", images),
+        ("crates/block_vectors/data/blocks.bin", blocks),
+        ("crates/trace_vectors/data/traces.bin", traces),
+    ] {
+        assert!(stored(name) == made, "{name}: run reference/regenerate");
+    }
+}
+
+/// What the programs that go through the stored files have to print.
+#[test]
+fn the_programs_count_these() {
+    for (program, what, count) in [
+        ("block_vectors", "blocks", blocks().len()),
+        ("trace_vectors", "traces", traces().len()),
+    ] {
+        let text = format!("{count} {what}: no difference\n");
+        let printed = stored(&format!("crates/{program}/stdout"));
+        assert_eq!(String::from_utf8(printed), Ok(text));
+    }
 }
 
 #[test]

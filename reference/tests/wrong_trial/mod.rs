@@ -196,9 +196,7 @@ impl Walk {
         self.symbols.truncate(q);
         [y, xi, decision, z, theta]
     }
-}
 
-impl Walk {
     /// One halving, one doubling or neither. `before` are the weights before
     /// step 6.
     fn step7(&mut self, p: usize, before: &[i64], fault: &str) {
