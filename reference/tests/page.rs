@@ -1,6 +1,6 @@
 //! The bytes and numbers of `docs/EQUALISER.md`, made anew.
 
-use reference::block::{work, BlockDetail, SampleDetail};
+use reference::block::{step7, work, BlockDetail, Rule, SampleDetail};
 use reference::cable::{gain, mantissa, sum_at};
 use reference::description::description;
 use reference::numbers::scale_count;
@@ -322,8 +322,9 @@ fn after_zeros(psi: u8, weights: [i16; 2], blocks: usize) -> (u8, Vec<i16>) {
 fn the_cases_beside_the_doubling_are_as_the_page_says() {
     let line = "- At ψ = 1 new weights of 4095 become 8190, and ψ becomes 0; \
         one of 4096 or −4096, in either filter, and all stay. At ψ = 0 weights of 4095 stay. \
-        At ψ = 2 weights of 0 bring ψ to 1, then to 0, where it stays.\n";
-    assert!(page().contains(line));
+        Where 16384 halves all, 4095 becomes 2047 and nothing is doubled. \
+        At ψ = 3 weights of 0 bring ψ to 2, to 1, then to 0, where it stays.\n";
+    assert!(page().replace(" (\\*)", "").contains(line));
     assert_eq!(after_zeros(1, [4095, 4095], 1), (0, vec![8190, 8190]));
     for one in [4096, -4096] {
         for weights in [[one, 4095], [4095, one]] {
@@ -331,8 +332,10 @@ fn the_cases_beside_the_doubling_are_as_the_page_says() {
         }
     }
     assert_eq!(after_zeros(0, [4095, 4095], 1), (0, vec![4095, 4095]));
-    for (blocks, psi) in [(1, 1), (2, 0), (3, 0)] {
-        assert_eq!(after_zeros(2, [0, 0], blocks), (psi, vec![0, 0]));
+    let halved = step7(Rule::Amended, 5, &[16384, 4095]);
+    assert_eq!(halved, (6, vec![8192, 2047]));
+    for (blocks, psi) in [(1, 2), (2, 1), (3, 0), (4, 0)] {
+        assert_eq!(after_zeros(3, [0, 0], blocks), (psi, vec![0, 0]));
     }
     assert_eq!(after_zeros(15, [0, 0], 14).0, 1);
     assert_eq!(after_zeros(15, [0, 0], 15).0, 0);
