@@ -17,9 +17,15 @@ pub fn problems(given: &Assumptions) -> Vec<Sentence> {
 
 /// What is possible and leaves no trace in the history.
 pub fn notes(given: &Assumptions) -> Vec<Sentence> {
-    let (loud, joint) = (&given.loud, &given.joint);
+    let (loud, faint, joint) = (&given.loud, &given.faint, &given.joint);
     let spells = [
         ("loud_first_day", "loud spell", loud.first_day, loud.days),
+        (
+            "faint_first_day",
+            "faint spell",
+            faint.first_day,
+            faint.days,
+        ),
         (
             "joint_first_day",
             "noisy joint",

@@ -15,7 +15,8 @@ pub struct Assumptions {
     pub burst: Burst,
     pub cable: Cable,
     pub gain: Gain,
-    pub loud: Loud,
+    pub loud: Spell,
+    pub faint: Spell,
     pub joint: Joint,
     pub power: Power,
     pub pressure: Pressure,
@@ -61,8 +62,9 @@ pub struct Gain {
     pub hold: f64,
 }
 
+/// A time in which the level and the noise are other than before and after.
 #[derive(Clone, Copy, Debug, PartialEq)]
-pub struct Loud {
+pub struct Spell {
     pub first_day: f64,
     pub days: f64,
     pub ramp_days: f64,
@@ -142,7 +144,8 @@ impl Assumptions {
             burst: Burst::take(t),
             cable: Cable::take(t),
             gain: Gain::take(t),
-            loud: Loud::take(t),
+            loud: Spell::take(t, "loud"),
+            faint: Spell::take(t, "faint"),
             joint: Joint::take(t),
             power: Power::take(t),
             pressure: Pressure::take(t),
@@ -224,14 +227,18 @@ impl Gain {
     }
 }
 
-impl Loud {
-    fn take(t: &mut Reader) -> Loud {
-        Loud {
-            first_day: t.number("loud_first_day", 0.0..=36525.0),
-            days: t.number("loud_days", 0.0..=36525.0),
-            ramp_days: t.number("loud_ramp_days", 0.0..=36525.0),
-            level: t.number("loud_level", 0.0..=100.0),
-            noise: t.number("loud_noise", 0.0..=100.0),
+impl Spell {
+    /// By the keys that begin with its name.
+    fn take(t: &mut Reader, name: &str) -> Spell {
+        let mut days = |key: &str| t.number(&format!("{name}_{key}"), 0.0..=36525.0);
+        let (first_day, length, ramp_days) = (days("first_day"), days("days"), days("ramp_days"));
+        let mut times = |key: &str| t.number(&format!("{name}_{key}"), 0.0..=100.0);
+        Spell {
+            first_day,
+            days: length,
+            ramp_days,
+            level: times("level"),
+            noise: times("noise"),
         }
     }
 }

@@ -1,6 +1,6 @@
 //! The far end of the cable: symbols in, levels at the station's input out.
 
-use crate::assumptions::{Assumptions, Loud};
+use crate::assumptions::{Assumptions, Spell};
 use crate::random::{Purpose, Random};
 use crate::season;
 
@@ -11,6 +11,7 @@ pub struct Weather {
     /// The share of samples with an impulse; 0 while the joint is quiet.
     pub impulses: f64,
     pub loud: bool,
+    pub faint: bool,
     pub joint: bool,
 }
 
@@ -20,16 +21,16 @@ pub struct CableModel<'a> {
     joint: Random,
 }
 
-/// From 0 outside the loud spell to 1 in its midst.
-fn loudness(loud: &Loud, day: f64) -> f64 {
-    let (since, left) = (day - loud.first_day, loud.first_day + loud.days - day);
+/// From 0 outside a spell to 1 in its midst.
+fn depth(spell: &Spell, day: f64) -> f64 {
+    let (since, left) = (day - spell.first_day, spell.first_day + spell.days - day);
     if since < 0.0 || left < 0.0 {
         return 0.0;
     }
-    if loud.ramp_days == 0.0 {
+    if spell.ramp_days == 0.0 {
         return 1.0;
     }
-    (since.min(left) / loud.ramp_days).min(1.0)
+    (since.min(left) / spell.ramp_days).min(1.0)
 }
 
 fn between(new: f64, old: f64, age: f64) -> f64 {
@@ -64,18 +65,22 @@ impl<'a> CableModel<'a> {
     }
 
     pub fn weather(&mut self, day: f64) -> Weather {
-        let (cable, loud, joint) = (&self.given.cable, &self.given.loud, &self.given.joint);
-        let loudness = loudness(loud, day);
-        let level = between(1.0, loud.level, loudness);
+        let (cable, joint) = (&self.given.cable, &self.given.joint);
+        let (loud, faint) = (&self.given.loud, &self.given.faint);
+        let (loudness, faintness) = (depth(loud, day), depth(faint, day));
+        let times =
+            |loud: f64, faint: f64| between(1.0, loud, loudness) * between(1.0, faint, faintness);
+        let level = times(loud.level, faint.level);
         let age = day / f64::from(self.given.days());
         let noise = between(cable.noise_new, cable.noise_old, age);
         let loose = (joint.first_day..joint.first_day + joint.days).contains(&day);
         let active = self.joint.happens(joint.active) && loose;
         Weather {
             taps: self.taps(day).iter().map(|tap| tap * level).collect(),
-            noise: noise * between(1.0, loud.noise, loudness),
+            noise: noise * times(loud.noise, faint.noise),
             impulses: if active { joint.impulses } else { 0.0 },
             loud: loudness > 0.0,
+            faint: faintness > 0.0,
             joint: loose,
         }
     }

@@ -16,13 +16,13 @@ Runs one station through the years that the file ASSUMPTIONS describes and write
   years.csv             a row for each reading
   summary.txt           what came of them
   years-assumptions.txt a copy of ASSUMPTIONS, where that isn't this file itself
-  years.gnuplot, loud-spell.gnuplot, noisy-joint.gnuplot
+  years.gnuplot, loud-spell.gnuplot, faint-spell.gnuplot, noisy-joint.gnuplot
                         a page each; gnuplot writes its picture to standard output
 Those of an earlier run are replaced, and its pictures removed. The script years/run draws the pictures too.
 ";
 
 /// The pages' names.
-const PAGES: [&str; 3] = ["years", "loud-spell", "noisy-joint"];
+const PAGES: [&str; 4] = ["years", "loud-spell", "faint-spell", "noisy-joint"];
 
 fn main() -> ExitCode {
     let arguments: Vec<_> = std::env::args_os().skip(1).collect();
@@ -131,6 +131,10 @@ fn scripts(given: &Assumptions, readings: &[Reading]) -> Vec<(String, String)> {
         (
             View::near(given, readings, |x| x.loud),
             around("loud spell"),
+        ),
+        (
+            View::near(given, readings, |x| x.faint),
+            around("faint spell"),
         ),
         (
             View::near(given, readings, |x| x.joint),

@@ -97,18 +97,17 @@ fn dots(view: &View, panels: &[Panel]) -> Option<(usize, &'static str)> {
 }
 
 fn shades(view: &View) -> Vec<Shade> {
-    let loud = view.marked(|x| x.loud);
-    let joint = view.marked(|x| x.joint);
-    let both = [
-        ("loud spell", "#999999", loud),
-        ("noisy joint", "#d3bf75", joint),
+    let all = [
+        ("loud spell", "#999999", view.marked(|x| x.loud)),
+        ("faint spell", "#9bc39b", view.marked(|x| x.faint)),
+        ("noisy joint", "#d3bf75", view.marked(|x| x.joint)),
     ];
     let shade = |(name, colour, times)| Shade {
         name,
         colour,
         times,
     };
-    let there = both.into_iter().map(shade);
+    let there = all.into_iter().map(shade);
     there.filter(|s| !s.times.is_empty()).collect()
 }
 

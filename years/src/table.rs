@@ -38,7 +38,7 @@ fn header(given: &Assumptions) -> String {
     let mut line = "reading,day (days),time (years),pressure true (bar),pressure sent (bar),\
          pressure received (bar),payload symbols,wrong decisions,error power (squared symbol units),\
          largest feed forward weight,largest feedback weight,psi,b,B,least gain,greatest gain,\
-         clipped samples,loud spell,noisy joint,saved,power lost,refused"
+         clipped samples,loud spell,faint spell,noisy joint,saved,power lost,refused"
         .to_string();
     let numbers = (1..=9).map(|n| format!(",refused {n}"));
     let forward = (0..given.sizes.p).map(|i| format!(",feed forward {i}"));
@@ -75,7 +75,7 @@ fn row(given: &Assumptions, reading: &Reading) -> String {
     fields.extend([record.psi, record.b, record.big].map(|n| n.to_string()));
     fields.extend(gains.map(|n| n.to_string()));
     fields.push(reading.clipped.to_string());
-    let marks = [reading.loud, reading.joint, reading.saved];
+    let marks = [reading.loud, reading.faint, reading.joint, reading.saved];
     fields.extend(marks.map(|mark| u8::from(mark).to_string()));
     fields.push(lost.to_string());
     fields.push(reading.refused.iter().sum::<u32>().to_string());
@@ -97,10 +97,11 @@ type Kind = (&'static str, fn(&Reading) -> bool);
 
 /// The settings, then what came of them.
 pub fn summary(given: &Assumptions, readings: &[Reading]) -> String {
-    let kinds: [Kind; 4] = [
+    let kinds: [Kind; 5] = [
         ("all", |_| true),
-        ("quiet", |x| !x.loud && !x.joint),
+        ("quiet", |x| !x.loud && !x.faint && !x.joint),
         ("loud spell", |x| x.loud),
+        ("faint spell", |x| x.faint),
         ("noisy joint", |x| x.joint),
     ];
     let part = |(name, of): &Kind| {

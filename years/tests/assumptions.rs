@@ -177,14 +177,23 @@ fn a_pressure_that_cannot_be_sent_is_turned_down() {
 
 #[test]
 fn a_spell_beyond_the_years_is_noted() {
-    let text = text_with(&[("years", "12"), ("joint_days", "0")]);
-    let given = parse(&text).expect("taken");
-    assert_eq!(notes(&text, &given), Vec::<String>::new());
-    let text = text_with(&[("years", "11"), ("joint_days", "0")]);
-    let given = parse(&text).expect("taken");
-    let line = line_of(DEFAULT, "loud_first_day");
-    let wanted = format!(
-        "line {line}: the loud spell from day 4360 on is not in these years, which have 4017 days"
-    );
-    assert_eq!(notes(&text, &given), [wanted]);
+    let noted = |changes: &[(&str, &str)]| {
+        let text = text_with(changes);
+        notes(&text, &parse(&text).expect("taken"))
+    };
+    for (name, key) in [("loud", "loud_first_day"), ("faint", "faint_first_day")] {
+        let others = [("joint_days", "0"), ("loud_days", "0"), ("faint_days", "0")];
+        let length = format!("{name}_days");
+        let with = |first: &str| {
+            let mut changes = vec![("years", "1"), (length.as_str(), "20"), (key, first)];
+            changes.extend(others);
+            noted(&changes)
+        };
+        assert_eq!(with("364"), Vec::<String>::new());
+        let line = line_of(DEFAULT, key);
+        let wanted = format!(
+            "line {line}: the {name} spell from day 365 on is not in these years, which have 365 days"
+        );
+        assert_eq!(with("365"), [wanted]);
+    }
 }

@@ -23,7 +23,7 @@ fn lost(readings: &[Reading]) -> usize {
     readings.iter().filter(lost).count()
 }
 
-const STEADY: [(&str, &str); 12] = [
+const STEADY: [(&str, &str); 13] = [
     ("years", "3"),
     ("cable_new", "0.025 0.280 0.055 -0.030 0.015"),
     ("cable_old", "0.025 0.280 0.055 -0.030 0.015"),
@@ -33,6 +33,7 @@ const STEADY: [(&str, &str); 12] = [
     ("noise_new", "0"),
     ("noise_old", "0"),
     ("loud_days", "0"),
+    ("faint_days", "0"),
     ("joint_days", "0"),
     ("power_loss_days", "0"),
     ("commissioning_blocks", "40"),
@@ -87,11 +88,13 @@ fn a_summary_has_no_line_for_what_was_not_there() {
         ("years", "1"),
         ("loud_first_day", "100"),
         ("joint_first_day", "200"),
+        ("faint_first_day", "20"),
     ];
-    for name in ["all: ", "quiet: ", "loud spell: ", "noisy joint: "] {
+    let spells = ["loud spell: ", "faint spell: ", "noisy joint: "];
+    for name in [&["all: ", "quiet: "], &spells[..]].concat() {
         assert!(starts(&within, name), "{name}");
     }
-    for name in ["loud spell: ", "noisy joint: "] {
+    for name in spells {
         assert!(!starts(&within[..1], name), "{name}");
     }
     let always = [
@@ -139,16 +142,17 @@ fn every_row_has_the_columns_of_the_header() {
     let columns = |line: &str| line.split(',').count();
     let mut lines = table.lines();
     let header = lines.next().expect("a header");
-    assert_eq!(columns(header), 22 + 9 + 5);
+    assert_eq!(columns(header), 23 + 9 + 5);
     assert!(table.lines().all(|line| columns(line) == columns(header)));
     assert_eq!(lines.count(), 365);
 }
 
-const DAMAGED: [(&str, &str); 5] = [
+const DAMAGED: [(&str, &str); 6] = [
     ("years", "4"),
     ("power_loss_days", "3"),
     ("damaged_images", "1"),
     ("loud_days", "0"),
+    ("faint_days", "0"),
     ("joint_days", "0"),
 ];
 

@@ -16,6 +16,7 @@ fn calm(more: &[(&str, &str)]) -> (Assumptions, Vec<Reading>) {
     changes.extend([
         ("years", "5"),
         ("loud_days", "0"),
+        ("faint_days", "0"),
         ("joint_days", "0"),
         ("power_loss_days", "0"),
     ]);
@@ -115,6 +116,7 @@ fn the_level_of_a_station_that_guesses_is_drawn() {
         ("years", "1"),
         ("L", "9"),
         ("loud_days", "0"),
+        ("faint_days", "0"),
         ("joint_days", "0"),
     ];
     let given = given(&lost);
@@ -152,9 +154,10 @@ fn a_weight_whose_sign_changes_does_not_cancel() {
 
 #[test]
 fn a_page_says_what_is_other_than_the_default() {
-    let (given_calm, readings) = calm(&[("seed", "9"), ("years", "1")]);
-    let text = script(&all_years(&given_calm, &readings));
-    let changes = "seed = 9, years = 1, loud_days = 0, joint_days = 0, power_loss_days = 0";
+    let few = given(&[("seed", "9"), ("years", "1"), ("joint_days", "0")]);
+    let readings = run(&few, |_| {});
+    let text = script(&all_years(&few, &readings));
+    let changes = "seed = 9, years = 1, joint_days = 0";
     assert!(text.contains(&format!("'other than the default: {changes}'")));
     let default = Assumptions {
         years: 1,
@@ -220,6 +223,7 @@ fn a_page_has_its_counts_and_no_absent_item() {
     assert!(text.contains("least gain 0 (L), step 4194304 (M) / 2^30 = 0.0039"));
     for absent in [
         "loud spell",
+        "faint spell",
         "noisy joint",
         "power lost",
         "set up anew",
@@ -235,6 +239,7 @@ fn a_page_names_what_is_there() {
     let changes = [
         ("years", "1"),
         ("loud_first_day", "100"),
+        ("faint_first_day", "20"),
         ("joint_first_day", "200"),
         ("power_loss_days", "5"),
         ("damaged_images", "0.5"),
@@ -244,6 +249,7 @@ fn a_page_names_what_is_there() {
     let text = script(&all_years(&with, &readings));
     for there in [
         "loud spell",
+        "faint spell",
         "noisy joint",
         "image loaded: ",
         "check sum wrong, set up anew: ",
