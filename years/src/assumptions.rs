@@ -3,6 +3,7 @@
 use crate::agreement;
 use crate::changes::changes;
 use crate::reader::{line_of, Reader};
+use reference::Settings;
 
 pub const DAYS_A_YEAR: f64 = 365.25;
 
@@ -20,6 +21,8 @@ pub struct Assumptions {
     pub joint: Joint,
     pub power: Power,
     pub pressure: Pressure,
+    /// Whether the same station by the old rule runs beside it.
+    pub old_rule: bool,
     /// What is other than the default.
     pub changes: Vec<String>,
 }
@@ -149,6 +152,7 @@ impl Assumptions {
             joint: Joint::take(t),
             power: Power::take(t),
             pressure: Pressure::take(t),
+            old_rule: t.whole("old_rule", 0..=1) == 1,
             changes: Vec::new(),
         }
     }
@@ -190,6 +194,11 @@ impl Sizes {
 
     pub fn set_up(&self) -> tigbulode::Answer {
         tigbulode::set_up(self.p, self.q, self.n, self.r, self.l, self.m)
+    }
+
+    pub fn settings(&self) -> Settings {
+        let Sizes { p, q, n, r, l, m } = *self;
+        Settings { p, q, n, r, l, m }
     }
 }
 

@@ -3,9 +3,11 @@
 use crate::assumptions::Assumptions;
 use crate::burst::{Burst, Sender};
 use crate::cable::{CableModel, Weather};
+use crate::old_rule::RisesOnly;
 use crate::payload;
 use crate::random::{Purpose, Random};
 use crate::station::{Decided, Return, Station};
+use tigbulode::sides::Library;
 use tigbulode::Equaliser;
 
 /// One reading: a row of the table.
@@ -30,6 +32,17 @@ pub struct Reading {
     pub saved: bool,
     pub power_lost: Option<Return>,
     pub refused: [u32; 10],
+    /// The same reading by the old rule, where that is run.
+    pub old: Option<OldRule>,
+}
+
+/// What the station came to by the old rule.
+#[derive(Clone, Copy, Debug)]
+pub struct OldRule {
+    pub psi: u8,
+    pub error_power: Option<f64>,
+    pub wrong: u32,
+    pub received: bool,
 }
 
 impl Reading {
@@ -45,16 +58,23 @@ struct World<'a> {
     sender: Sender<'a>,
     cable: CableModel<'a>,
     station: Station<'a>,
+    /// The same station by the old rule.
+    old: Option<Station<'a>>,
     losses: Random,
 }
 
+/// The blocks of a burst, by the station and by the old rule.
+type Both = (Vec<Decided>, Option<Vec<Decided>>);
+
 /// Every reading in turn; `done` is told how many there are so far.
 pub fn run(given: &Assumptions, mut done: impl FnMut(u32)) -> Vec<Reading> {
+    let old = given.old_rule.then(|| Station::new(given, &RisesOnly));
     let mut world = World {
         given,
         sender: Sender::new(given),
         cable: CableModel::new(given),
-        station: Station::new(given),
+        station: Station::new(given, &Library),
+        old,
         losses: Random::new(given.seed, Purpose::Power),
     };
     world.commission();
@@ -67,15 +87,15 @@ pub fn run(given: &Assumptions, mut done: impl FnMut(u32)) -> Vec<Reading> {
 }
 
 impl World<'_> {
-    /// Passes a burst through the cable and the station, block by block.
-    fn pass(&mut self, burst: &Burst, weather: &Weather) -> Vec<Decided> {
+    /// Passes a burst through the cable, and what is received to the stations.
+    fn pass(&mut self, burst: &Burst, weather: &Weather) -> Both {
         let unheard = self.sender.lead() + 1 - weather.taps.len();
         let levels = self.cable.receive(weather, &burst.sent[unheard..]);
-        let n = usize::from(self.given.sizes.n);
-        let blocks = levels.chunks(n).zip(burst.entries.chunks(n));
-        blocks
-            .map(|(levels, entries)| self.station.block(levels, entries))
-            .collect()
+        let old = self.old.as_mut();
+        (
+            self.station.burst(&levels, &burst.entries),
+            old.map(|station| station.burst(&levels, &burst.entries)),
+        )
     }
 
     fn commission(&mut self) {
@@ -89,7 +109,10 @@ impl World<'_> {
         let days = self.given.power.loss_days;
         let readings = days * f64::from(self.given.readings_a_day);
         let lost = days > 0.0 && self.losses.happens(1.0 / readings);
-        lost.then(|| self.station.lose_power())
+        lost.then(|| {
+            self.old.as_mut().map(Station::lose_power);
+            self.station.lose_power()
+        })
     }
 
     fn save(&mut self, number: u32) -> bool {
@@ -97,6 +120,7 @@ impl World<'_> {
         let due = number.is_multiple_of(every);
         if due {
             self.station.save();
+            self.old.as_mut().map(Station::save);
         }
         due
     }
@@ -107,8 +131,8 @@ impl World<'_> {
         let weather = self.cable.weather(day);
         let pressure_sent = self.given.pressure.number_at(day);
         let burst = self.sender.reading(pressure_sent);
-        let blocks = self.pass(&burst, &weather);
-        let payload = &blocks[self.given.burst.preamble_blocks as usize..];
+        let (blocks, old_blocks) = self.pass(&burst, &weather);
+        let payload = self.payload(&blocks);
         let saved = self.save(number);
         Reading {
             number,
@@ -129,7 +153,24 @@ impl World<'_> {
             saved,
             power_lost,
             refused: self.station.refused,
+            old: old_blocks.and_then(|blocks| self.by_old_rule(&blocks, &burst)),
         }
+    }
+
+    /// The blocks after the preamble.
+    fn payload<'b>(&self, blocks: &'b [Decided]) -> &'b [Decided] {
+        &blocks[self.given.burst.preamble_blocks as usize..]
+    }
+
+    fn by_old_rule(&self, blocks: &[Decided], burst: &Burst) -> Option<OldRule> {
+        let payload = self.payload(blocks);
+        let received = self.pressure_received(payload, burst.scrambler);
+        Some(OldRule {
+            psi: self.old.as_ref()?.record().psi,
+            error_power: error_power(payload),
+            wrong: wrong(payload, &burst.payload),
+            received: received.is_some(),
+        })
     }
 
     fn pressure_received(&self, payload: &[Decided], scrambler: u32) -> Option<u16> {

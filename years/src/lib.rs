@@ -1,6 +1,6 @@
 //! One station through twenty years of readings. The cable, the weather, the
 //! gain control and the converter are assumed; the equaliser is the static
-//! library.
+//! library. Beside it runs the same station by the old rule, for comparison.
 //!
 //! Numbers are whole, or f64 with nothing but + − × ÷ and comparisons, which
 //! every machine rounds alike. The pages' dB and axes alone take more.
@@ -15,6 +15,7 @@ pub mod converter;
 pub mod curve;
 pub mod files;
 pub mod history;
+pub mod old_rule;
 pub mod page;
 pub mod payload;
 pub mod progress;

@@ -4,10 +4,13 @@
 use crate::assumptions::Assumptions;
 use crate::converter::{convert, full_scale, gain_for, peak, power_of_two};
 use crate::random::{Purpose, Random};
+use tigbulode::sides::Operations;
 use tigbulode::{Block, Equaliser, Outputs, IMAGE_BYTES};
 
 pub struct Station<'a> {
     given: &'a Assumptions,
+    /// The library, or what stands in for it.
+    by: &'a dyn Operations,
     record: Equaliser,
     /// The kept image and its check sum.
     image: Option<(Vec<u8>, u32)>,
@@ -41,10 +44,11 @@ pub enum Return {
 }
 
 impl<'a> Station<'a> {
-    pub fn new(given: &'a Assumptions) -> Station<'a> {
-        let answer = given.sizes.set_up();
+    pub fn new(given: &'a Assumptions, by: &'a dyn Operations) -> Station<'a> {
+        let answer = by.set_up(given.sizes.settings());
         let mut station = Station {
             given,
+            by,
             record: answer.state,
             image: None,
             damage: Random::new(given.seed, Purpose::Damage),
@@ -65,8 +69,17 @@ impl<'a> Station<'a> {
         }
     }
 
+    /// Takes the levels of a burst, block by block.
+    pub fn burst(&mut self, levels: &[f64], entries: &[i8]) -> Vec<Decided> {
+        let n = usize::from(self.given.sizes.n);
+        let blocks = levels.chunks(n).zip(entries.chunks(n));
+        blocks
+            .map(|(levels, entries)| self.block(levels, entries))
+            .collect()
+    }
+
     /// Sets the gain by the blocks before, converts the levels and runs the block.
-    pub fn block(&mut self, levels: &[f64], entries: &[i8]) -> Decided {
+    fn block(&mut self, levels: &[f64], entries: &[i8]) -> Decided {
         let sizes = self.given.sizes;
         let gain = gain_for(self.level, self.given.gain.headroom, sizes.r, sizes.l);
         self.level = peak(levels).max(self.given.gain.hold * self.level);
@@ -99,7 +112,7 @@ impl<'a> Station<'a> {
             gains,
             entries,
         };
-        let number = tigbulode::run(&mut self.record, block, out);
+        let number = self.by.run(&mut self.record, block, out);
         if number != 0 {
             self.count(number);
             return (Vec::new(), 0.0);
@@ -112,7 +125,7 @@ impl<'a> Station<'a> {
     /// Keeps the image of the record, and its check sum beside it.
     pub fn save(&mut self) {
         let mut buffer = [0; IMAGE_BYTES];
-        let saved = tigbulode::save(&self.record, &mut buffer);
+        let saved = self.by.save(&mut self.record, &mut buffer);
         self.count(saved.number);
         if saved.number == 0 {
             let image = buffer[..saved.length].to_vec();
@@ -126,7 +139,7 @@ impl<'a> Station<'a> {
     /// or M are not the station's own, the station is set up anew.
     pub fn lose_power(&mut self) -> Return {
         self.level = full_scale(self.given.sizes.r, self.given.sizes.l);
-        self.record = self.given.sizes.set_up().state;
+        self.record = self.by.set_up(self.given.sizes.settings()).state;
         let Some((kept, sum)) = self.image.clone() else {
             return Return::SetUpAnew;
         };
@@ -134,7 +147,7 @@ impl<'a> Station<'a> {
         if self.given.power.check_sum && tigbulode::check_sum(&image) != sum {
             return Return::CheckSumWrong;
         }
-        let answer = tigbulode::load(&image);
+        let answer = self.by.load(&image);
         self.count(answer.number);
         if answer.number != 0 || answer.state.settings() != self.record.settings() {
             return Return::SetUpAnew;

@@ -2,7 +2,7 @@
 
 use crate::assumptions::{Assumptions, DAYS_A_YEAR};
 use crate::converter::power_of_two;
-use crate::history::Reading;
+use crate::history::{OldRule, Reading};
 use crate::station::Return;
 use crate::words;
 use std::io::{Result, Write};
@@ -44,8 +44,28 @@ fn header(given: &Assumptions) -> String {
     let forward = (0..given.sizes.p).map(|i| format!(",feed forward {i}"));
     let back = (1..=given.sizes.q).map(|i| format!(",feedback {i}"));
     line.extend(numbers.chain(forward).chain(back));
+    if given.old_rule {
+        line.push_str(OLD_RULE);
+    }
     line.push('\n');
     line
+}
+
+/// The last columns, where the old rule is run.
+const OLD_RULE: &str = ",psi by the old rule,error power by the old rule (squared symbol units),\
+     wrong decisions by the old rule,lost by the old rule";
+
+fn power(power: Option<f64>) -> String {
+    power.map_or(String::new(), |e| format!("{e:.4e}"))
+}
+
+fn by_old_rule(old: &OldRule) -> [String; 4] {
+    [
+        old.psi.to_string(),
+        power(old.error_power),
+        old.wrong.to_string(),
+        u8::from(!old.received).to_string(),
+    ]
 }
 
 fn bar(given: &Assumptions, number: Option<u16>) -> String {
@@ -64,9 +84,7 @@ fn row(given: &Assumptions, reading: &Reading) -> String {
         bar(given, reading.pressure_received),
         reading.symbols.to_string(),
         reading.wrong.to_string(),
-        reading
-            .error_power
-            .map_or(String::new(), |e| format!("{e:.4e}")),
+        power(reading.error_power),
         format!("{:.6}", largest_forward(reading)),
         format!("{:.6}", largest_back(reading)),
     ];
@@ -81,6 +99,7 @@ fn row(given: &Assumptions, reading: &Reading) -> String {
     fields.push(reading.refused.iter().sum::<u32>().to_string());
     fields.extend(reading.refused[1..].iter().map(|n| n.to_string()));
     fields.extend(weights.iter().map(|w| format!("{w:.6}")));
+    fields.extend(reading.old.iter().flat_map(by_old_rule));
     fields.join(",") + "\n"
 }
 

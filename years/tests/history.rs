@@ -142,7 +142,7 @@ fn every_row_has_the_columns_of_the_header() {
     let columns = |line: &str| line.split(',').count();
     let mut lines = table.lines();
     let header = lines.next().expect("a header");
-    assert_eq!(columns(header), 23 + 9 + 5);
+    assert_eq!(columns(header), 23 + 9 + 5 + 4);
     assert!(table.lines().all(|line| columns(line) == columns(header)));
     assert_eq!(lines.count(), 365);
 }
