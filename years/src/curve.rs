@@ -39,6 +39,7 @@ pub const BLACK: &str = "#000000";
 pub const BLUE: &str = "#5b9bd5";
 pub const RED: &str = "#b00000";
 pub const GREY: &str = "#777777";
+pub const ORANGE: &str = "#e66100";
 /// How dots in place of a line are drawn, but for their colour.
 pub const DOTTED: &str = "with points pt 7 ps 0.3";
 /// Dots across a page, about.
@@ -199,6 +200,17 @@ fn dots(points: &[Point], colour: &str, title: Option<&str>) -> Curve {
 pub struct Look {
     pub width: f64,
     pub colour: &'static str,
+    pub dashes: &'static str,
+}
+
+impl Look {
+    pub const fn solid(width: f64, colour: &'static str) -> Look {
+        Look {
+            width,
+            colour,
+            dashes: "",
+        }
+    }
 }
 
 fn drawn(
@@ -212,8 +224,12 @@ fn drawn(
         rows.break_off();
         through(&mut rows, &run);
     }
-    let Look { width, colour } = look;
-    let style = format!("with lines lw {width} lc rgb '{colour}'");
+    let Look {
+        width,
+        colour,
+        dashes,
+    } = look;
+    let style = format!("with lines lw {width} {dashes}lc rgb '{colour}'");
     let line = Curve::new(rows, style, title);
     let dots_title = title.filter(|_| line.rows.is_empty());
     vec![dots(points, colour, dots_title), line]

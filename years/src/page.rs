@@ -1,12 +1,12 @@
 //! What stands on a page: its words and its panels.
 
 use crate::axis::Axis;
-use crate::curve::{line, steps, Curve, Look, Point, Rows, BLACK, BLUE, GREY, RED};
-use crate::history::Reading;
+use crate::curve::{line, steps, Curve, Look, Point, Rows, BLACK, BLUE, GREY, ORANGE, RED};
+use crate::history::{OldRule, Reading};
 use crate::station::Return;
 use crate::table::{largest_back, largest_forward};
 use crate::view::{Span, View};
-use crate::words;
+use crate::words::{self, decibels};
 
 pub struct Page {
     pub title: String,
@@ -38,9 +38,13 @@ pub struct Panel {
     pub curves: Vec<Curve>,
 }
 
-const THICK: Look = Look {
-    width: 2.5,
-    colour: BLACK,
+const THICK: Look = Look::solid(2.5, BLACK);
+const WIDE: Look = Look::solid(7.0, BLUE);
+/// The station by the old rule.
+const OLD: Look = Look {
+    width: 1.6,
+    colour: ORANGE,
+    dashes: "dt (10,6) ",
 };
 
 fn values(points: &[Point]) -> impl Iterator<Item = f64> + '_ {
@@ -80,9 +84,13 @@ fn head(view: &View) -> Vec<String> {
         taps,
         format!("{step}; {}", words::extent(view.given)),
     ];
+    lines.extend(view.has_old().then(|| OLD_RULE.to_string()));
     lines.extend(words::other_than_default(&view.given.changes));
     lines
 }
+
+const OLD_RULE: &str = "Broken orange line: the same station by the old rule, where ψ only rises; \
+     it is run by the second implementation.";
 
 fn dots(view: &View, panels: &[Panel]) -> Option<(usize, &'static str)> {
     let words = match view.span {
@@ -146,17 +154,10 @@ fn pressure(view: &View) -> Panel {
     let truth = view.single(|x| Some(x.pressure_true));
     let right = |x: &Reading| received_bar(view, x).filter(|_| !x.is_wrong());
     let (low, high) = ends(&truth, f64::INFINITY, f64::NEG_INFINITY);
-    let wide = Look {
-        width: 7.0,
-        colour: BLUE,
-    };
-    let thin = Look {
-        width: 1.4,
-        colour: BLACK,
-    };
+    let thin = Look::solid(1.4, BLACK);
     let axis = Axis::around(low, high, 7, view.given.pressure.unit);
     let on_scale = |x: &Reading| received_bar(view, x).filter(|v| axis.holds(*v));
-    let mut curves = line(&truth, wide, Some("true"));
+    let mut curves = line(&truth, WIDE, Some("true"));
     curves.extend(line(&view.single(right), thin, Some("received")));
     curves.push(wrong_marks(view, "wrong past the check", on_scale));
     Panel {
@@ -279,15 +280,27 @@ fn share_panel(
     }
 }
 
+/// A note on how many there are by the old rule.
+fn count_old(view: &View, of: impl Fn(&OldRule) -> u64) -> Option<String> {
+    let all = view.total(|x| x.old.as_ref().map_or(0, &of));
+    view.has_old().then(|| format!("by the old rule: {all}"))
+}
+
 fn lost(view: &View) -> Panel {
     let words = ("lost, %", "readings lost", "reading");
-    share_panel(view, words, (70.0, RED), is_lost, |_| 1)
+    let mut panel = share_panel(view, words, (70.0, RED), is_lost, |_| 1);
+    panel
+        .notes
+        .extend(count_old(view, |b| (!b.received).into()));
+    panel
 }
 
 fn wrong(view: &View) -> Panel {
     let words = ("wrong, %", "wrong decisions", "symbol");
     let symbols = |x: &Reading| x.symbols.into();
-    share_panel(view, words, (100.0, BLACK), |x| x.wrong.into(), symbols)
+    let mut panel = share_panel(view, words, (100.0, BLACK), |x| x.wrong.into(), symbols);
+    panel.notes.extend(count_old(view, |b| b.wrong.into()));
+    panel
 }
 
 fn clipped(view: &View) -> Panel {
@@ -295,11 +308,6 @@ fn clipped(view: &View) -> Panel {
     let samples = view.given.samples_of_reading();
     let clipped = |x: &Reading| x.clipped.into();
     share_panel(view, words, (100.0, BLACK), clipped, |_| samples)
-}
-
-/// In dB; what is less than −100 dB is drawn there.
-fn decibels(power: f64) -> f64 {
-    10.0 * power.max(1e-10).log10()
 }
 
 /// The level at which a station only guesses: an error that is anything
@@ -327,13 +335,19 @@ fn single_marks(view: &View, powers: Vec<(f64, f64)>) -> Curve {
     Curve::marks(powers.into_iter(), &style, &title)
 }
 
-fn error_power(view: &View) -> Panel {
-    let mut means = view.means(|x| x.error_power);
-    means
+fn in_decibels(mut powers: Vec<Point>) -> Vec<Point> {
+    powers
         .iter_mut()
         .for_each(|p| p.value = p.value.map(decibels));
+    powers
+}
+
+fn error_power(view: &View) -> Panel {
+    let means = in_decibels(view.means(|x| x.error_power));
+    let old = in_decibels(view.means_old(|b| b.error_power));
     let single = single_powers(view);
-    let start = ends(&means, -20.0, 0.0);
+    let (low, high) = ends(&means, -20.0, 0.0);
+    let start = ends(&old, low, high);
     let (low, high) = single
         .iter()
         .fold(start, |(low, high), (_, v)| (low.min(*v), high.max(*v)));
@@ -342,8 +356,10 @@ fn error_power(view: &View) -> Panel {
     curves.push(single_marks(view, single));
     let title = format!("mean of {}", view.span.name());
     curves.extend(line(&means, THICK, Some(&title)));
+    let title = format!("{title}, by the old rule");
+    curves.extend(line(&old, OLD, Some(&title)));
     Panel {
-        height: 190.0,
+        height: 230.0,
         label: "dB",
         name: "error power".to_string(),
         notes: vec![
@@ -372,21 +388,17 @@ fn weight(view: &View, name: &str, of: fn(&Reading) -> f64, height: f64) -> Pane
 
 fn exponent_and_gain(view: &View) -> Panel {
     let psi = view.held(|x| x.record.psi.into());
+    let old = view.held_old(|b| b.psi.into());
     let gain = view.means(|x| Some((f64::from(x.gain_least) + f64::from(x.gain_most)) / 2.0));
     let (_, high) = ends(&psi, 0.0, 1.0);
+    let (_, high) = ends(&old, 0.0, high);
     let (_, high) = ends(&gain, 0.0, high);
-    let blue = Look {
-        width: 2.5,
-        colour: BLUE,
-    };
+    let gain_title = format!("gain g, mean of {}", view.span.name());
     let mut curves = steps(&psi, THICK, Some("ψ, the weights' exponent"));
-    curves.extend(line(
-        &gain,
-        blue,
-        Some(&format!("gain g, mean of {}", view.span.name())),
-    ));
+    curves.extend(steps(&old, OLD, Some("ψ by the old rule")));
+    curves.extend(line(&gain, Look::solid(2.5, BLUE), Some(&gain_title)));
     Panel {
-        height: 110.0,
+        height: 150.0,
         label: "ψ, g",
         name: "exponent and gain".to_string(),
         notes: Vec::new(),
@@ -400,11 +412,7 @@ fn lengths(view: &View) -> Panel {
     let window = view.means(|x| Some(x.record.big.into()));
     let (low, high) = ends(&window, f64::INFINITY, f64::NEG_INFINITY);
     let (low, high) = ends(&block, low, high);
-    let wide = Look {
-        width: 7.0,
-        colour: BLUE,
-    };
-    let mut curves = line(&window, wide, Some("B"));
+    let mut curves = line(&window, WIDE, Some("B"));
     curves.extend(line(&block, THICK, Some("b")));
     Panel {
         height: 118.0,

@@ -2,7 +2,7 @@
 
 use crate::assumptions::{Assumptions, DAYS_A_YEAR};
 use crate::curve::Point;
-use crate::history::Reading;
+use crate::history::{OldRule, Reading};
 
 /// A page draws reading by reading up to so many, days up to so many, weeks
 /// beyond.
@@ -79,6 +79,10 @@ pub fn received(part: &[Reading]) -> bool {
     part.iter().any(|x| x.pressure_received.is_some())
 }
 
+fn received_old(part: &[Reading]) -> bool {
+    part.iter().any(|x| x.old.is_some_and(|b| b.received))
+}
+
 /// The mean of what the readings have, where one has any.
 pub fn mean(part: &[Reading], of: impl Fn(&Reading) -> Option<f64>) -> Option<f64> {
     let values: Vec<f64> = part.iter().filter_map(of).collect();
@@ -149,6 +153,19 @@ impl<'a> View<'a> {
 
     /// A point for each span: the mean of its readings.
     pub fn means(&self, of: impl Fn(&Reading) -> Option<f64>) -> Vec<Point> {
+        self.means_by(received, of)
+    }
+
+    /// The same by the old rule.
+    pub fn means_old(&self, of: impl Fn(&OldRule) -> Option<f64>) -> Vec<Point> {
+        self.means_by(received_old, |x| of(x.old.as_ref()?))
+    }
+
+    fn means_by(
+        &self,
+        received: fn(&[Reading]) -> bool,
+        of: impl Fn(&Reading) -> Option<f64>,
+    ) -> Vec<Point> {
         let point = |part: &&[Reading]| self.point(part, received(part), mean(part, &of));
         self.parts.iter().map(point).collect()
     }
@@ -165,14 +182,32 @@ impl<'a> View<'a> {
     /// A point for each reading, or the last of each few, by whether its span
     /// had a reading received.
     pub fn held(&self, of: impl Fn(&Reading) -> f64) -> Vec<Point> {
+        self.held_by(received, |x| Some(of(x)))
+    }
+
+    /// The same by the old rule.
+    pub fn held_old(&self, of: impl Fn(&OldRule) -> f64) -> Vec<Point> {
+        self.held_by(received_old, |x| x.old.as_ref().map(&of))
+    }
+
+    fn held_by(
+        &self,
+        received: fn(&[Reading]) -> bool,
+        of: impl Fn(&Reading) -> Option<f64>,
+    ) -> Vec<Point> {
         let few = self.thinned();
         let parts = self.parts.iter().flat_map(|part| {
             let any = received(part);
             part.chunks(few).map(move |few| (few, any))
         });
         parts
-            .map(|(few, any)| self.point(few, any, few.last().map(&of)))
+            .map(|(few, any)| self.point(few, any, few.last().and_then(&of)))
             .collect()
+    }
+
+    /// Whether the old rule was run too.
+    pub fn has_old(&self) -> bool {
+        self.readings.iter().any(|x| x.old.is_some())
     }
 
     /// The times from and to which marked readings follow each other.
