@@ -11,6 +11,7 @@ pub mod axis;
 pub mod burst;
 pub mod cable;
 pub mod changes;
+pub mod comparison;
 pub mod converter;
 pub mod curve;
 pub mod files;

@@ -1,6 +1,7 @@
 //! The table of readings, and a summary of it.
 
 use crate::assumptions::{Assumptions, DAYS_A_YEAR};
+use crate::comparison;
 use crate::converter::power_of_two;
 use crate::history::{OldRule, Reading};
 use crate::station::Return;
@@ -133,6 +134,7 @@ pub fn summary(given: &Assumptions, readings: &[Reading]) -> String {
     text.extend(kinds.iter().filter_map(part));
     text.push_str(&wrong_pressures(given, readings));
     text.push_str(&returns(readings));
+    text.push_str(&comparison::lines(given, readings));
     let refused = readings.last().map_or([0; 10], |x| x.refused);
     let by_number = (1..10).map(|n| format!(" {n}: {}", refused[n]));
     let by_number = by_number.collect::<Vec<_>>().join(",");
