@@ -2,7 +2,7 @@
 
 mod common;
 
-use common::given;
+use common::alone as given;
 use years::assumptions::Assumptions;
 use years::history::{run, Reading};
 use years::station::Return;
@@ -16,11 +16,6 @@ fn csv(given: &Assumptions, readings: &[Reading]) -> String {
     let mut bytes = Vec::new();
     table::csv(given, readings, &mut bytes).expect("written");
     String::from_utf8(bytes).expect("text")
-}
-
-fn lost(readings: &[Reading]) -> usize {
-    let lost = |x: &&Reading| x.pressure_received.is_none();
-    readings.iter().filter(lost).count()
 }
 
 const STEADY: [(&str, &str); 13] = [
@@ -142,7 +137,7 @@ fn every_row_has_the_columns_of_the_header() {
     let columns = |line: &str| line.split(',').count();
     let mut lines = table.lines();
     let header = lines.next().expect("a header");
-    assert_eq!(columns(header), 23 + 9 + 5 + 4);
+    assert_eq!(columns(header), 23 + 9 + 5);
     assert!(table.lines().all(|line| columns(line) == columns(header)));
     assert_eq!(lines.count(), 365);
 }
@@ -182,12 +177,4 @@ fn with_a_check_sum_no_damaged_image_is_loaded() {
     assert!(returns(&readings, Return::CheckSumWrong) > 0);
     assert_eq!(returns(&readings, Return::LoadedDamaged), 0);
     assert_eq!(readings.last().expect("readings").refused, [0; 10]);
-}
-
-#[test]
-fn without_a_check_sum_a_bent_exponent_costs_years() {
-    let without = history(&given(&[("seed", "9"), ("check_sum", "0")]));
-    let with = history(&given(&[("seed", "9")]));
-    assert_eq!(lost(&without), 2347);
-    assert!(lost(&with) < 200, "{}", lost(&with));
 }

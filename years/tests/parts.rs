@@ -147,10 +147,10 @@ fn what_is_other_than_the_default_is_told_in_its_order() {
 #[test]
 fn a_value_written_otherwise_is_no_other_value() {
     let text = text_with(&[
-        ("cable_new", "0.025   .28 0.0550 -3e-2 0.015"),
+        ("cable_new", "0.025   .3 0.0550 -3e-2 0.015"),
         ("headroom", "1.10"),
         ("pressure_first", "120.0"),
-        ("seed", "0013"),
+        ("seed", "0035"),
     ]);
     assert_eq!(other_than_default(&text), None);
 }

@@ -17,6 +17,12 @@ pub fn given(changes: &[(&str, &str)]) -> Assumptions {
     parse(&text_with(changes)).expect("the text is in order")
 }
 
+/// The station alone, without the old rule.
+#[allow(dead_code)]
+pub fn alone(changes: &[(&str, &str)]) -> Assumptions {
+    given(&[changes, &[("old_rule", "0")]].concat())
+}
+
 /// An empty folder for one test.
 #[allow(dead_code)]
 pub fn folder(name: &str) -> PathBuf {
