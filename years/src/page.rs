@@ -40,11 +40,12 @@ pub struct Panel {
 
 const THICK: Look = Look::solid(2.5, BLACK);
 const WIDE: Look = Look::solid(7.0, BLUE);
-/// The station by the old rule.
+/// The station by the old rule; the station's own line covers it where both are
+/// the same.
 const OLD: Look = Look {
-    width: 1.6,
+    width: 2.0,
     colour: ORANGE,
-    dashes: "dt (10,6) ",
+    dashes: "dt (14,10) ",
 };
 
 fn values(points: &[Point]) -> impl Iterator<Item = f64> + '_ {
@@ -89,8 +90,9 @@ fn head(view: &View) -> Vec<String> {
     lines
 }
 
-const OLD_RULE: &str = "Broken orange line: the same station by the old rule, where ψ only rises; \
-     it is run by the second implementation.";
+const OLD_RULE: &str =
+    "Broken orange line, seen where it differs: the same station by the old rule \
+     (ψ only rises), on the second implementation.";
 
 fn dots(view: &View, panels: &[Panel]) -> Option<(usize, &'static str)> {
     let words = match view.span {
@@ -355,9 +357,9 @@ fn error_power(view: &View) -> Panel {
     let mut curves: Vec<Curve> = guessing(view, &axis).into_iter().collect();
     curves.push(single_marks(view, single));
     let title = format!("mean of {}", view.span.name());
+    let old_title = format!("{title}, by the old rule");
+    curves.extend(line(&old, OLD, Some(&old_title)));
     curves.extend(line(&means, THICK, Some(&title)));
-    let title = format!("{title}, by the old rule");
-    curves.extend(line(&old, OLD, Some(&title)));
     Panel {
         height: 230.0,
         label: "dB",
@@ -394,8 +396,8 @@ fn exponent_and_gain(view: &View) -> Panel {
     let (_, high) = ends(&old, 0.0, high);
     let (_, high) = ends(&gain, 0.0, high);
     let gain_title = format!("gain g, mean of {}", view.span.name());
-    let mut curves = steps(&psi, THICK, Some("ψ, the weights' exponent"));
-    curves.extend(steps(&old, OLD, Some("ψ by the old rule")));
+    let mut curves = steps(&old, OLD, Some("ψ by the old rule"));
+    curves.extend(steps(&psi, THICK, Some("ψ, the weights' exponent")));
     curves.extend(line(&gain, Look::solid(2.5, BLUE), Some(&gain_title)));
     Panel {
         height: 150.0,

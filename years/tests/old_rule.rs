@@ -185,7 +185,7 @@ fn all_years(given: &Assumptions, readings: &[Reading]) -> Page {
 #[test]
 fn a_page_draws_the_old_rule_only_where_it_is_run() {
     let titles = ["mean of a week, by the old rule", "ψ by the old rule"];
-    let head = "Broken orange line: the same station by the old rule";
+    let head = "Broken orange line, seen where it differs: the same station by the old rule";
     let text = script(&all_years(&given(&SPELLS), spells()));
     for words in titles.iter().chain([&head]) {
         assert_eq!(text.matches(words).count(), 1, "{words}");
