@@ -110,7 +110,9 @@ impl World<'_> {
         let readings = days * f64::from(self.given.readings_a_day);
         let lost = days > 0.0 && self.losses.happens(1.0 / readings);
         lost.then(|| {
-            self.old.as_mut().map(Station::lose_power);
+            if let Some(old) = &mut self.old {
+                old.lose_power();
+            }
             self.station.lose_power()
         })
     }
@@ -120,7 +122,9 @@ impl World<'_> {
         let due = number.is_multiple_of(every);
         if due {
             self.station.save();
-            self.old.as_mut().map(Station::save);
+            if let Some(old) = &mut self.old {
+                old.save();
+            }
         }
         due
     }
