@@ -1,9 +1,10 @@
 -- Laws of the symbols' largest bit length, by the delay of one that has it.
-use mathlib.Core.Path.{_≡_, refl}
+use mathlib.Core.Path.{_≡_, refl, ap}
 use mathlib.Core.Bool.{Bool, true, false, cond}
 use mathlib.Core.List.{List, _∷_}
-use Prim.Native.Nat.{ℕ, _+_, _^_, _≤_, _<_}
+use Prim.Native.Nat.{ℕ, _+_, _*_, _/_, _^_, _≤_, _<_}
 use native.Mathlib.Omega.{arith}
+use native.Mathlib.Nat.{div-add-mod', mod-lt, div-eq-of-lt, lt-of-not-le}
 use native.Mathlib.Numerals.{add-one}
 use lib.Dec.{ltb}
 use borrow.Author.Tests.{ltb-true}
@@ -13,7 +14,7 @@ use lib.IntN.{ℤ, pos, natAbs}
 use Rattle.laws.specs.Powers.{positive}
 use Rattle.laws.specs.Sums.{Each, each-weaken}
 use Rattle.numbers.specs.BitLength.{bitLength}
-use Rattle.numbers.proofs.BitLengthLaws.{bit-length-le, bit-length-mono}
+use Rattle.numbers.proofs.BitLengthLaws.{bit-length-le, bit-length-lt, bit-length-mono}
 use Rattle.steps.specs.Settings.{isEntry}
 use Rattle.steps.specs.Side.{longest, largest, magnitudes}
 use Rattle.steps.proofs.LargestLaws.{largest-magnitude, longest-is, magnitude-at}
@@ -33,6 +34,13 @@ reached {r} {delay} {l} p h =
   where
     below : Each (λ (x : ℤ). natAbs x < 2 ^ (r + 1)) l
     below = each-weaken (λ (x : ℤ). isEntry r x ≡ true) (λ (x : ℤ). natAbs x < 2 ^ (r + 1)) (entry-below r) l (p .symbols-are)
+
+-- the digits of a number above the first r: none where its bit length is at most r
+pub digits-none : (n r : ℕ) → n / 2 ^ r ≡ 0 → bitLength n ≤ r
+digits-none n r e = bit-length-le n r (omega (arith, div-add-mod' n (2 ^ r), mod-lt n (positive r), ap (λ (m : ℕ). m * 2 ^ r) e))
+
+pub digits-some : (n r : ℕ) → (n / 2 ^ r ≡ 0 → ⊥) → r < bitLength n
+digits-some n r h = lt-of-not-le (λ l. h (div-eq-of-lt (bit-length-lt n r l)))
 
 -- ---- one more symbol before them
 

@@ -49,13 +49,13 @@ pub struct SampleResult {
 
 // How many symbols have come since one of the largest bit length, after the symbol v.
 pub fn next_delay(r: u32, delay: usize, v: i16) -> usize
-    requires { ⌜ delay ≤ lineLength ⌝ }
+    requires { ⌜ (r ≤ symbolLimit) × (delay ≤ lineLength) ⌝ }
     ensures { λ a. ⌜ a ≡ nextDelay r delay v ⌝ }
 {
-    if r < numbers::bit_length::signed_bit_length(v as i64) {
-        0
-    } else {
+    if numbers::bit_length::magnitude16(v) >> r == 0 {
         delay + 1
+    } else {
+        0
     }
 }
 
@@ -157,10 +157,10 @@ pub fn settle(forward: &mut [i16], back: &mut [i16], seen: u16, psi: u32) -> u32
         rescale_both(forward, back, 0, 1);
         return psi + 1;
     }
-    if steps::limits::DOUBLING <= seen {
+    if psi == 0 {
         return psi;
     }
-    if psi == 0 {
+    if steps::limits::DOUBLING <= seen {
         return psi;
     }
     rescale_both(forward, back, 1, 0);

@@ -130,7 +130,7 @@ slice-copy-out-next-delay : tie.Need-slice-copy-out-next-delay Inv-loop μ-loop
 slice-copy-out-next-delay c = line-place (turn c .before .loop .n) (called c .advance .last .1 .1 .1 .1 .1 .1 .1 .1 .1 .0) (symbols-long (called c))
 
 next-delay-requires : tie.Need-next-delay-requires Inv-loop μ-loop
-next-delay-requires c κs = let t = turn (c .before) in delay-fits (room t) (passed (t .before) .delay-most)
+next-delay-requires c κs = let t = turn (c .before) in (start (t .before) .pre .begun .sound .within .r-most, delay-fits (room t) (passed (t .before) .delay-most))
 
 add-n : tie.Need-add-n Inv-loop μ-loop
 add-n c = let t = turn (c .before .before) in next-fits (t .before .loop .n) (room t)

@@ -50,28 +50,28 @@ small : (c : tie.Else1) → (allSmall (c .before .args .forward .now) && allSmal
 small c = sym (tested 14 (c .before)) ∙ lt-ltb (c .before .args .seen) halvingLimit (omega (arith, c .if1 .left))
 
 returns-2 : tie.Need-returns-2
-returns-2 c =
-    let d = c .before in
-    let s = d .before in
-    settled-as keep (keeps _ _ _ (small d) (sym (tested 12 s) ∙ le-ltb (s .args .seen) doublingLimit (omega (arith, c .if2 .taken)))) refl refl refl
+returns-2 c = settled-as keep (keeps-lowest _ _ _ (small (c .before)) (c .if2 .taken)) refl refl refl
 
 returns-3 : tie.Need-returns-3
-returns-3 c = settled-as keep (keeps-lowest _ _ _ (small (c .before .before)) (c .if3 .taken)) refl refl refl
+returns-3 c =
+    let d = c .before .before in
+    let s = d .before in
+    settled-as keep (keeps _ _ _ (small d) (sym (tested 12 s) ∙ le-ltb (s .args .seen) doublingLimit (omega (arith, c .if3 .taken)))) refl refl refl
 
 -- ---- doubled
 
-below : (c : tie.Else2) → c .before .before .args .seen < doublingLimit
-below c = omega (arith, c .if2 .left)
+below : (c : tie.Else3) → c .before .before .before .args .seen < doublingLimit
+below c = omega (arith, c .if3 .left)
 
 rescale-both-requires-2 : tie.Need-rescale-both-requires-2
 rescale-both-requires-2 c κs =
-    let d = c .before .before .before in
-    let s = d .before .before in
+    let d = c .before .before in
+    let s = d .before .before .before in
     let b = short 12 s (below d) in
     (doublable (s .args .forward .now) (b .0), doublable (s .args .back .now) (b .1))
 
 sub-result : tie.Need-sub-result
-sub-result c = let d = c .before .before .before .before .before in omega (arith, d .if3 .left)
+sub-result c = let e = c .before .before .before .before .before .before in omega (arith, e .if2 .left)
 
 returns-4 : tie.Need-returns-4
 returns-4 c =
@@ -80,7 +80,7 @@ returns-4 c =
     let e = d .before in
     let s = e .before .before in
     settled-as double
-    (doubles _ _ _ (small (e .before)) (can-fall (s .args .psi) (omega (arith, d .if3 .left))) (sym (tested 12 s) ∙ lt-ltb (s .args .seen) doublingLimit (below e))) refl
+    (doubles _ _ _ (small (e .before)) (can-fall (s .args .psi) (omega (arith, e .if2 .left))) (sym (tested 12 s) ∙ lt-ltb (s .args .seen) doublingLimit (below d))) refl
     (r .rescale-both2 .ensures .0 ∙ doubled-is (s .args .forward .now)) (r .rescale-both2 .ensures .1 ∙ doubled-is (s .args .back .now))
 
 pub settle-spec : {M : Type 1} → statement M
