@@ -1,4 +1,4 @@
--- What holds at every sample of an accepted block.
+-- What holds at every sample of an accepted block, and where a block would raise ψ to 16.
 use mathlib.Core.Path.{_≡_}
 use Prim.Native.Nat.{ℕ, suc, _≤_, _<_}
 use lib.ListN.{getD}

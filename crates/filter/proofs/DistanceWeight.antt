@@ -96,7 +96,7 @@ weight-units w c J a Z y M b s t x h cut-c cut-J off-Z e l m = omega (
 
 -- ---- at the exponents
 
--- a new weight w, not halved yet, and the exact one are at most 1 + 5/32768 units of 2^(ψ−15) apart
+-- a new weight w, before step 7, and the exact one are at most 1 + 5/32768 units of 2^(ψ−15) apart
 abbrev pub Close : ℕ → ℤ → ℤ → Type 0
 Close ψ w e = natAbs (raise w (120 + ψ) -ℤ e) ≤ (2 ^ 30 + 5 * 2 ^ 15) * 2 ^ (90 + ψ)
 

@@ -1,7 +1,7 @@
 -- What becomes of new weights: each outcome, and what it says of them.
-use mathlib.Core.Path.{_≡_, refl, sym, ap₂, _∙_, subst}
+use mathlib.Core.Path.{_≡_, refl, sym, ap, ap₂, _∙_, subst, fun-ext}
 use mathlib.Core.Bool.{Bool, true, false, _&&_, cond}
-use mathlib.Core.List.{List, [], _∷_}
+use mathlib.Core.List.{List, map, map-map}
 use Prim.Native.Nat.{ℕ, zero, suc, _-_, _^_, _≤_, _<_}
 use native.Mathlib.Omega.{arith}
 use lib.Dec.{T}
@@ -77,8 +77,8 @@ settled-length double w = length-map w _
 -- ---- a doubled weight at the lower ψ means the same number
 
 doubled-values : (ψ : ℕ) (w : List ℤ) → 1 ≤ ψ → valuesOf (ψ - 1) (doubled w) ≡ valuesOf ψ w
-doubled-values ψ [] h = refl
-doubled-values ψ (x ∷ w) h = ap₂ (λ (y : ℤ) (l : List ℤ). y ∷ l) (raise-raise x 1 (ψ - 1) ψ (omega arith)) (doubled-values ψ w h)
+doubled-values ψ w h =
+    map-map (λ (x : ℤ). raise x (ψ - 1)) (λ (x : ℤ). raise x 1) w ∙ ap (λ (f : ℤ → ℤ). map f w) (fun-ext (λ x. raise-raise x 1 (ψ - 1) ψ (omega arith)))
 
 pub doubled-same : (ψ : ℕ) (f b : List ℤ) → 1 ≤ ψ → SameValues ψ f b (ψ - 1) (doubled f) (doubled b)
 doubled-same ψ f b h = record { ahead = doubled-values ψ f h; behind = doubled-values ψ b h }

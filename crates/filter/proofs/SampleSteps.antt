@@ -13,6 +13,7 @@ use Rattle.steps.proofs.OutputLaws.{output-is, error-is}
 use Rattle.steps.proofs.SideLaws.{adapt-none, halved-doubled}
 use Rattle.filter.specs.Sample.{Taps, Outcome, keep, halve, double, settled, settledExponent, F, H, Y, Z, θ, J, forwardSide, backSide, newForward, newBack, outcome, next}
 use Rattle.filter.specs.Exact.{Unclipped, SameValues, DoubledOnce, Settled, kept, halved-once, doubled-once}
+use Rattle.filter.proofs.NextLaws.{next-forward, next-back, next-ψ}
 use Rattle.filter.proofs.OutcomeLaws.{Says, sample-says, doubled-same, small-same}
 
 module _ (k : Settings) (g : ℕ) (t : Taps) (entry : ℤ) where
@@ -33,16 +34,13 @@ module _ (k : Settings) (g : ℕ) (t : Taps) (entry : ℤ) where
 
   -- what is left, where the outcome is s
   ahead : (s : Outcome) → outcome k g t entry ≡ s → next k g t entry .forward ≡ settled s (newForward k g t entry)
-  unfolding next
-  ahead s e = ap (λ x. settled x (newForward k g t entry)) e
+  ahead s e = next-forward k g t entry ∙ ap (λ x. settled x (newForward k g t entry)) e
 
   behind : (s : Outcome) → outcome k g t entry ≡ s → next k g t entry .back ≡ settled s (newBack k g t entry)
-  unfolding next
-  behind s e = ap (λ x. settled x (newBack k g t entry)) e
+  behind s e = next-back k g t entry ∙ ap (λ x. settled x (newBack k g t entry)) e
 
   exponent : (s : Outcome) → outcome k g t entry ≡ s → next k g t entry .ψ ≡ settledExponent s (t .ψ)
-  unfolding next
-  exponent s e = ap (λ x. settledExponent x (t .ψ)) e
+  exponent s e = next-ψ k g t entry ∙ ap (λ x. settledExponent x (t .ψ)) e
 
   doubled-all : outcome k g t entry ≡ double → 1 ≤ t .ψ → DoubledOnce k g t entry
   doubled-all e l = record {

@@ -101,6 +101,8 @@ cases =
     ∷ record { gives = settles 1 (pos 4095 ∷ pos 4095 ∷ []) (pos 4095 ∷ []); says = pos 8190 ∷ pos 8190 ∷ pos 8190 ∷ pos 0 ∷ [] }
     ∷ record { gives = settles 1 (pos 4095 ∷ pos 4096 ∷ []) (pos 4095 ∷ []); says = pos 4095 ∷ pos 4096 ∷ pos 4095 ∷ pos 1 ∷ [] }
     ∷ record { gives = settles 1 (pos 4095 ∷ []) (pos 4095 ∷ negsuc 4095 ∷ []); says = pos 4095 ∷ pos 4095 ∷ negsuc 4095 ∷ pos 1 ∷ [] }
+    ∷ record { gives = settles 1 (negsuc 4095 ∷ []) (pos 4095 ∷ []); says = negsuc 4095 ∷ pos 4095 ∷ pos 1 ∷ [] }
+    ∷ record { gives = settles 1 (pos 4095 ∷ []) (pos 4096 ∷ []); says = pos 4095 ∷ pos 4096 ∷ pos 1 ∷ [] }
     ∷ record { gives = settles 0 (pos 4095 ∷ []) (negsuc 4094 ∷ []); says = pos 4095 ∷ negsuc 4094 ∷ pos 0 ∷ [] }
     ∷ record { gives = settles 5 (pos 16384 ∷ []) (pos 4095 ∷ []); says = pos 8192 ∷ pos 2047 ∷ pos 6 ∷ [] }
     ∷ record { gives = falling 5; says = pos 2 ∷ pos 1 ∷ pos 0 ∷ pos 0 ∷ pos 0 ∷ [] }

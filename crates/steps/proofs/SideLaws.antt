@@ -1,6 +1,6 @@
 -- Laws of the loops over a side.
-use mathlib.Core.Path.{_≡_, refl, sym, ap, ap₂, _∙_}
-use mathlib.Core.List.{List, [], _∷_, map}
+use mathlib.Core.Path.{_≡_, refl, sym, ap, ap₂, _∙_, fun-ext}
+use mathlib.Core.List.{List, [], _∷_, map, map-map, map-id}
 use Prim.Native.Nat.{ℕ, zero, suc, _+_, _*_, _^_, _≤_, _<_}
 use native.Mathlib.Omega.{arith}
 use native.Mathlib.Nat.{le-of-lt, le-of-suc-le-suc, not-suc-le-zero, lt-of-le-of-lt, lt-of-lt-of-le, mul-le-mul-left, mul-le-mul-right, min-le-right}
@@ -119,23 +119,21 @@ adapt-none (w ∷ ws) (a ∷ b) = ap₂ (λ (y : ℤ) (z : List ℤ). y ∷ z) (
 -- ---- half of each weight, and twice each weight
 
 pub halved-is : (w : List ℤ) → map (λ (x : ℤ). rescale x 0 1) w ≡ halved w
-halved-is [] = refl
-halved-is (x ∷ w) = ap₂ (λ (y : ℤ) (l : List ℤ). y ∷ l) (rescale-down x 0 1 1 refl) (halved-is w)
+halved-is w = ap (λ (f : ℤ → ℤ). map f w) (fun-ext (λ x. rescale-down x 0 1 1 refl))
 
 pub halved-at : (w : List ℤ) (i : ℕ) → getD (halved w) i (pos 0) ≡ cut (getD w i (pos 0)) 1
 halved-at w i = ap (λ (d : ℤ). getD (halved w) i d) (sym (cut-zero 1)) ∙ List·getD-map (λ (x : ℤ). cut x 1) w i (pos 0)
 
 pub doubled-is : (w : List ℤ) → map (λ (x : ℤ). rescale x 1 0) w ≡ doubled w
-doubled-is [] = refl
-doubled-is (x ∷ w) = ap₂ (λ (y : ℤ) (l : List ℤ). y ∷ l) (rescale-up x 1 0 1 refl) (doubled-is w)
+doubled-is w = ap (λ (f : ℤ → ℤ). map f w) (fun-ext (λ x. rescale-up x 1 0 1 refl))
 
 pub doubled-at : (w : List ℤ) (i : ℕ) → getD (doubled w) i (pos 0) ≡ raise (getD w i (pos 0)) 1
 doubled-at w i = List·getD-map (λ (x : ℤ). raise x 1) w i (pos 0)
 
 -- a doubling loses nothing
 pub halved-doubled : (w : List ℤ) → halved (doubled w) ≡ w
-halved-doubled [] = refl
-halved-doubled (x ∷ w) = ap₂ (λ (y : ℤ) (l : List ℤ). y ∷ l) (rescale-down x 1 1 0 refl ∙ cut-none x) (halved-doubled w)
+halved-doubled w =
+    map-map (λ (x : ℤ). cut x 1) (λ (x : ℤ). raise x 1) w ∙ ap (λ (f : ℤ → ℤ). map f w) (fun-ext (λ x. rescale-down x 1 1 0 refl ∙ cut-none x)) ∙ map-id w
 
 -- each number is below a power of two where the bits of all together are
 each-below : (k : ℕ) (w : List ℤ) → together (magnitudes w) < 2 ^ k → Each (λ (x : ℤ). natAbs x < 2 ^ k) w
