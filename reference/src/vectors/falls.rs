@@ -141,7 +141,7 @@ fn by_the_new_weights(all: &mut Collection) {
 }
 
 /// A call that may go up and down.
-fn restless(all: &mut Collection) -> Call {
+fn rising_and_falling(all: &mut Collection) -> Call {
     let mut settings = all.settings();
     settings.n = all.random.byte(1.max(settings.p - 1).max(20), 36);
     settings.m = settings.largest_m();
@@ -175,7 +175,7 @@ fn up_and_down(all: &mut Collection) {
         };
         let mut found = 0;
         while found < 6 {
-            let call = restless(all);
+            let call = rising_and_falling(all);
             if call.detail().is_ok_and(|detail| in_turn(&detail)) {
                 all.expect(about, &call, 0);
                 found += 1;
