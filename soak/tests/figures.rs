@@ -89,10 +89,11 @@ type Change = (&'static str, fn(&mut BlockDetail, usize));
 
 const CHANGES: [Change; 16] = [
     ("too far from the exact step", |d, at| {
-        toward_zero(d.samples[at].weights_after.first_mut().unwrap());
+        toward_zero(&mut d.samples[at], 0);
     }),
     ("too far from the exact step", |d, at| {
-        toward_zero(d.samples[at].weights_after.last_mut().unwrap());
+        let last = d.samples[at].weights_after.len() - 1;
+        toward_zero(&mut d.samples[at], last);
     }),
     ("|W| above 16383", |d, at| {
         d.samples[at].weights_after[0] = 16384
@@ -118,9 +119,16 @@ const CHANGES: [Change; 16] = [
     ("stored samples are missing", |d, _| d.stored.truncate(1)),
 ];
 
-/// Five units toward 0, or two and a half where the weights were doubled.
-fn toward_zero(weight: &mut i128) {
-    *weight += if *weight > 0 { -5 } else { 5 };
+/// Three units toward 0; where the weights were doubled five, which are two and
+/// a half of the unit before.
+fn toward_zero(d: &mut SampleDetail, place: usize) {
+    let units = if doubled(d) { 5 } else { 3 };
+    let weight = &mut d.weights_after[place];
+    *weight += if *weight > 0 { -units } else { units };
+}
+
+fn doubled(d: &SampleDetail) -> bool {
+    d.psi_after < d.psi_before
 }
 
 /// One place more, where that changes y by more than a unit.
@@ -183,7 +191,6 @@ fn each_wrong_doubling_is_refused_by_its_figure() {
                 let mut detail = detail(&Library, block).unwrap();
                 figures(block, &detail).unwrap();
                 let weights = |w: &[i128]| w.iter().any(|&w| w != 0);
-                let doubled = |d: &SampleDetail| d.psi_after < d.psi_before;
                 let mut samples = detail.samples.iter();
                 let found = samples.position(|d| doubled(d) && weights(&d.weights_new));
                 let Some(at) = found else { return };
