@@ -330,3 +330,40 @@ fn with_taps(bytes: &[u8], (p, q): (usize, usize), (few, back): (usize, usize)) 
     let data = [place(p + q, few - 1), filler, place(p + q + p, back)].concat();
     [header, weights, data].concat()
 }
+
+#[cfg(test)]
+mod tests {
+    use super::*;
+
+    #[test]
+    fn half_of_the_longest_goes_from_every_list() {
+        let lists = Lists {
+            m: vec![1, 2, 3, 4, 5],
+            gains: vec![7, 8],
+            entries: vec![1, -1, 3, -3],
+            rooms: [5, 4, 3, 2, 0],
+        };
+        let half = without_half(&lists).unwrap();
+        assert_eq!((half.m, half.gains), (vec![1, 2], Vec::new()));
+        assert_eq!((half.entries, half.rooms), (vec![1], [2, 1, 0, 0, 0]));
+        assert!(simpler_lists(&lists).contains(&without_half(&lists).unwrap()));
+    }
+
+    #[test]
+    fn halves_end_with_empty_lists() {
+        let empty = Lists {
+            m: Vec::new(),
+            gains: Vec::new(),
+            entries: Vec::new(),
+            rooms: [0; 5],
+        };
+        assert_eq!(without_half(&empty), None);
+        let room = Lists {
+            rooms: [0, 0, 0, 0, 9],
+            ..empty
+        };
+        let halves = std::iter::successors(Some(room), without_half);
+        let rooms: Vec<usize> = halves.map(|lists| lists.rooms[4]).collect();
+        assert_eq!(rooms, [9, 4, 2, 1, 0]);
+    }
+}
