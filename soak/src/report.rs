@@ -24,50 +24,40 @@ fn units(name: &str, seen: &Exact, of: &str, bound: f64) -> String {
 
 /// The worst figures, each beside its bound and as a part of it.
 pub fn worst(w: &Worst) -> String {
-    let step = 1025.0 / 1024.0;
+    heading(w) + &largest_numbers(w) + &distances(w)
+}
+
+fn heading(w: &Worst) -> String {
+    let (samples, halvings, doublings) = (w.samples, w.halvings, w.doublings);
+    format!(
+        "demand 3 at {samples} samples, {halvings} halvings, {doublings} doublings; \
+         the worst of each figure, and as a part of its bound:\n"
+    )
+}
+
+fn largest_numbers(w: &Worst) -> String {
     [
-        format!(
-            "demand 3 at {} samples, {} halvings, {} doublings; ",
-            w.samples, w.halvings, w.doublings
-        ),
-        "the worst of each figure, and as a part of its bound:\n".to_string(),
         whole("|W| before and after", w.weight, "16383", 16383.0),
         whole("new |W| before step 7", w.new_weight, "2^15", 15f64.exp2()),
         whole("|F|", w.f, "2^28", 28f64.exp2()),
         whole("|H|", w.h, "2^28", 28f64.exp2()),
         whole("|Y|", w.y, "2^29", 29f64.exp2()),
         whole("|Z|", w.z, "2^30", 30f64.exp2()),
-        units(
-            "weight to the exact step, in units",
-            &w.step,
-            "1 + 1/1024",
-            step,
-        ),
-        units(
-            "the same where the weights were halved",
-            &w.halved_step,
-            "1 + 1/1024",
-            step,
-        ),
-        units(
-            "the same where they were doubled",
-            &w.doubled_step,
-            "1 + 1/1024",
-            step,
-        ),
+    ]
+    .concat()
+}
+
+/// How far weights, outputs and stored samples are from the exact ones.
+fn distances(w: &Worst) -> String {
+    let step = |name: &str, seen: &Exact| units(name, seen, "1 + 1/1024", 1025.0 / 1024.0);
+    let stored = |name: &str, seen: &Exact| units(name, seen, "2^(gamma-15)", 1.0);
+    [
+        step("weight to the exact step, in units", &w.step),
+        step("the same where the weights were halved", &w.halved_step),
+        step("the same where they were doubled", &w.doubled_step),
         units("|y - y*|", &w.output, "2^(xi-30)", 1.0),
-        units(
-            "stored sample in its own block",
-            &w.stored,
-            "2^(gamma-15)",
-            1.0,
-        ),
-        units(
-            "stored sample in the next block",
-            &w.past,
-            "2^(gamma-15)",
-            1.0,
-        ),
+        stored("stored sample in its own block", &w.stored),
+        stored("stored sample in the next block", &w.past),
     ]
     .concat()
 }
