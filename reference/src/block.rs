@@ -233,11 +233,20 @@ pub fn work(state: &State, inputs: Inputs<'_>) -> Result<(BlockDetail, State), u
 
 /// The same by one of the rules.
 fn work_by(rule: Rule, state: &State, inputs: Inputs<'_>) -> Result<(BlockDetail, State), u8> {
-    let settings = &state.settings;
-    let p = usize::from(settings.p);
-    let q = usize::from(settings.q);
-    let s = scale_count(settings.p);
-    let r = i32::from(settings.r);
+    let mut detail = before_the_samples(state, inputs);
+    let mut moving = Moving::of(state, &detail);
+    for (&newest, &entry) in detail.stored.iter().zip(inputs.training) {
+        let sample = moving.sample(rule, state, detail.gamma, newest, entry)?;
+        detail.samples.push(sample);
+    }
+    let after = moving.state_after(state, &detail);
+    Ok((detail, after))
+}
+
+/// Block steps 1 and 2; no sample has been worked.
+fn before_the_samples(state: &State, inputs: Inputs<'_>) -> BlockDetail {
+    let s = scale_count(state.settings.p);
+    let r = i32::from(state.settings.r);
 
     // Block step 1: b, B and γ.
     let x: Vec<i128> = inputs
@@ -252,76 +261,100 @@ fn work_by(rule: Rule, state: &State, inputs: Inputs<'_>) -> Result<(BlockDetail
     let gamma = r - 30 + big_b + s;
 
     // Block step 2: the stored samples of this block and of the one before.
-    let stored: Vec<i128> = x
+    let stored = x
         .iter()
         .map(|&x| Dyadic::new(x, 15 - big_b - s).cut())
         .collect();
-    let past: Vec<i128> = state
-        .past_samples()
-        .iter()
-        .map(|&a| Dyadic::new(i128::from(a), i32::from(state.big_b) - big_b).cut())
+    let past = widened(state.past_samples())
+        .into_iter()
+        .map(|a| Dyadic::new(a, i32::from(state.big_b) - big_b).cut())
         .collect();
-
-    let mut weights: Vec<i128> = state.weights[..p + q]
-        .iter()
-        .map(|&w| i128::from(w))
-        .collect();
-    let mut psi = i32::from(state.psi);
-    let mut symbols: Vec<i128> = state
-        .past_symbols()
-        .iter()
-        .map(|&v| i128::from(v))
-        .collect();
-    // All stored samples so far, newest first.
-    let mut line = past.clone();
-    let mut samples = Vec::new();
-    for (&newest, &entry) in stored.iter().zip(inputs.training) {
-        line.insert(0, newest);
-        let mut detail = one_sample(
-            settings,
-            psi,
-            &weights,
-            gamma,
-            &line[..p],
-            &symbols,
-            i128::from(entry),
-        );
-        if rule != Rule::Amended {
-            (detail.psi_after, detail.weights_after) = step7(rule, psi, &detail.weights_new);
-        }
-        if detail.psi_after > i32::from(Settings::MOST_EXPONENT) {
-            return Err(EXPONENT);
-        }
-        psi = detail.psi_after;
-        weights = detail.weights_after.clone();
-        // Step 8: v becomes the newest symbol.
-        symbols.insert(0, detail.v);
-        symbols.truncate(q);
-        samples.push(detail);
-    }
-
-    let narrow = |a: i128| i16::try_from(a).expect("a stored number has 16 bits");
-    let mut after = state.clone();
-    after.psi = u8::try_from(psi).expect("ψ is a byte");
-    after.b = u8::try_from(b).expect("b is a byte");
-    after.big_b = u8::try_from(big_b).expect("B is a byte");
-    for (place, &w) in after.weights.iter_mut().zip(&weights) {
-        *place = narrow(w);
-    }
-    let data = line[..p - 1].iter().chain(&[0]).chain(&symbols);
-    for (place, &a) in after.data.iter_mut().zip(data) {
-        *place = narrow(a);
-    }
-    let detail = BlockDetail {
+    BlockDetail {
         b,
         big_b,
         gamma,
         x,
         stored,
         past,
-        samples,
-    };
-    Ok((detail, after))
+        samples: Vec::new(),
+    }
+}
+
+fn widened(list: &[i16]) -> Vec<i128> {
+    list.iter().map(|&a| i128::from(a)).collect()
+}
+
+/// What moves from sample to sample.
+struct Moving {
+    psi: i32,
+    weights: Vec<i128>,
+    /// All stored samples so far, newest first.
+    line: Vec<i128>,
+    /// The last q symbols, newest first.
+    symbols: Vec<i128>,
+}
+
+impl Moving {
+    fn of(state: &State, detail: &BlockDetail) -> Moving {
+        Moving {
+            psi: i32::from(state.psi),
+            weights: widened(&state.weights[..state.settings.taps()]),
+            line: detail.past.clone(),
+            symbols: widened(state.past_symbols()),
+        }
+    }
+
+    /// One sample by one of the rules, or 6.
+    fn sample(
+        &mut self,
+        rule: Rule,
+        state: &State,
+        gamma: i32,
+        newest: i128,
+        entry: i8,
+    ) -> Result<SampleDetail, u8> {
+        let settings = &state.settings;
+        self.line.insert(0, newest);
+        let mut detail = one_sample(
+            settings,
+            self.psi,
+            &self.weights,
+            gamma,
+            &self.line[..usize::from(settings.p)],
+            &self.symbols,
+            i128::from(entry),
+        );
+        if rule != Rule::Amended {
+            (detail.psi_after, detail.weights_after) = step7(rule, self.psi, &detail.weights_new);
+        }
+        if detail.psi_after > i32::from(Settings::MOST_EXPONENT) {
+            return Err(EXPONENT);
+        }
+        self.psi = detail.psi_after;
+        self.weights = detail.weights_after.clone();
+        // Step 8: v becomes the newest symbol.
+        self.symbols.insert(0, detail.v);
+        self.symbols.truncate(usize::from(settings.q));
+        Ok(detail)
+    }
+
+    /// The state after the block's last sample.
+    fn state_after(&self, state: &State, detail: &BlockDetail) -> State {
+        let narrow = |a: i128| i16::try_from(a).expect("a stored number has 16 bits");
+        let mut after = state.clone();
+        after.psi = u8::try_from(self.psi).expect("ψ is a byte");
+        after.b = u8::try_from(detail.b).expect("b is a byte");
+        after.big_b = u8::try_from(detail.big_b).expect("B is a byte");
+        for (place, &w) in after.weights.iter_mut().zip(&self.weights) {
+            *place = narrow(w);
+        }
+        let kept = &self.line[..usize::from(state.settings.p) - 1];
+        let data = kept.iter().chain(&[0]).chain(&self.symbols);
+        for (place, &a) in after.data.iter_mut().zip(data) {
+            *place = narrow(a);
+        }
+        after
+    }
 }
 
 /// Refusals 1, 2, 9, 3, 4 and 5 in order, each over the whole block before
