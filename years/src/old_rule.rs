@@ -1,8 +1,8 @@
 //! The old rule, by which the weights' exponent only rises. The second
 //! implementation has it, for comparison alone.
 
-use reference::{run_by, Inputs, Rule, Settings};
-use tigbulode::sides::{record_of, state_of, Operations, Second};
+use reference::{run_by, Rule, Settings};
+use tigbulode::sides::{over_lists, record_of, state_of, Operations, Second};
 use tigbulode::{Answer, Block, Equaliser, Outputs, Saved};
 
 /// The second implementation by the old rule.
@@ -14,20 +14,11 @@ impl Operations for RisesOnly {
     }
 
     fn run(&self, s: &mut Equaliser, block: Block, out: Outputs) -> u8 {
-        let inputs = Inputs {
-            samples: block.samples,
-            gains: block.gains,
-            training: block.entries,
-        };
-        let mut lists = lists(&out);
         let mut state = state_of(s);
-        let number = run_by(Rule::RisesOnly, &mut state, inputs, &mut lists);
+        let number = over_lists(block, out, |inputs, lists| {
+            run_by(Rule::RisesOnly, &mut state, inputs, lists)
+        });
         *s = record_of(&state);
-        out.y.copy_from_slice(&lists.y);
-        out.xi.copy_from_slice(&lists.xi);
-        out.decision.copy_from_slice(&lists.decision);
-        out.z.copy_from_slice(&lists.z);
-        out.theta.copy_from_slice(&lists.theta);
         number
     }
 
@@ -43,16 +34,5 @@ impl Operations for RisesOnly {
 
     fn load(&self, bytes: &[u8]) -> Answer {
         Second.load(bytes)
-    }
-}
-
-/// The second implementation's own lists, as they are lent.
-fn lists(out: &Outputs) -> reference::Outputs {
-    reference::Outputs {
-        y: out.y.to_vec(),
-        xi: out.xi.to_vec(),
-        decision: out.decision.to_vec(),
-        z: out.z.to_vec(),
-        theta: out.theta.to_vec(),
     }
 }

@@ -84,7 +84,7 @@ impl Operations for Second {
 }
 
 /// A call of the second implementation over lent lists.
-fn over_lists<T>(
+pub fn over_lists<T>(
     block: Block,
     out: Outputs,
     call: impl FnOnce(Inputs, &mut reference::Outputs) -> T,
