@@ -9,6 +9,7 @@ use years::history::{run, Reading};
 use years::page::{page, Page, Panel};
 use years::script::script;
 use years::view::View;
+use years::words::decibels;
 
 /// Five years without losses of power or spells, where nothing else is given.
 fn calm(more: &[(&str, &str)]) -> (Assumptions, Vec<Reading>) {
@@ -110,29 +111,49 @@ fn dots_are_named_once_where_they_are_first_drawn() {
     assert!(drawn(&text, "error power").contains("dots: the reading was lost"));
 }
 
+/// The error powers of readings.
+fn powers(readings: &[Reading]) -> Vec<f64> {
+    let powers = readings.iter().map(|x| x.error_power.expect("a power"));
+    powers.collect()
+}
+
+/// Their mean in dB.
+fn mean_power(readings: &[Reading]) -> f64 {
+    let powers = powers(readings);
+    decibels(powers.iter().sum::<f64>() / powers.len() as f64)
+}
+
 #[test]
 fn the_level_of_a_station_that_guesses_is_drawn() {
-    let lost = [
-        ("years", "1"),
-        ("L", "9"),
-        ("loud_days", "0"),
-        ("faint_days", "0"),
-        ("joint_days", "0"),
-    ];
-    let given = given(&lost);
-    let readings = run(&given, |_| {});
+    let (given, readings) = calm(&[("years", "1"), ("noise_new", "1"), ("noise_old", "1")]);
     let page = all_years(&given, &readings);
     let title = Some("about −5 dB: guessing".to_string());
     let mut curves = panel(&page, "error power").curves.iter();
     let guide = curves.find(|c| c.title == title).expect("the guide");
     assert_eq!(guide.rows, "0.000000 -4.771213\n1.000000 -4.771213\n");
-    for reading in readings {
-        let power = reading.error_power.expect("a power");
-        assert!(
-            reading.wrong > 20 && (0.25..0.75).contains(&power),
-            "{power}"
-        );
+    assert!(readings.iter().all(|x| x.wrong > 30));
+    for power in powers(&readings) {
+        assert!((power - 1.0 / 3.0).abs() < 0.15, "{power}");
     }
+    let mean = mean_power(&readings);
+    assert!((mean + 4.7).abs() < 0.05, "{mean} dB");
+}
+
+#[test]
+fn a_station_whose_samples_are_clipped_is_a_calm_line_near_that_level() {
+    let (given, readings) = calm(&[("years", "1"), ("L", "9")]);
+    assert!(readings.iter().all(|x| x.pressure_received.is_none()));
+    let clipped: u32 = readings.iter().map(|x| x.clipped).sum();
+    let samples = given.samples_of_reading() * readings.len() as u64;
+    assert!(
+        u64::from(clipped) * 100 > samples * 95,
+        "{clipped} of {samples}"
+    );
+    for power in powers(&readings) {
+        assert!((0.45..0.5).contains(&power), "{power}");
+    }
+    let mean = mean_power(&readings);
+    assert!((mean + 3.4).abs() < 0.05, "{mean} dB");
 }
 
 #[test]
