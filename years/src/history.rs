@@ -7,7 +7,7 @@ use crate::old_rule::RisesOnly;
 use crate::payload;
 use crate::random::{Purpose, Random};
 use crate::station::{Decided, Return, Station};
-use tigbulode::sides::Library;
+use tigbulode::sides::{Library, Operations};
 use tigbulode::Equaliser;
 
 /// One reading: a row of the table.
@@ -67,8 +67,17 @@ struct World<'a> {
 type Both = (Vec<Decided>, Option<Vec<Decided>>);
 
 /// Every reading in turn; `done` is told how many there are so far.
-pub fn run(given: &Assumptions, mut done: impl FnMut(u32)) -> Vec<Reading> {
-    let old = given.old_rule.then(|| Station::new(given, &RisesOnly));
+pub fn run(given: &Assumptions, done: impl FnMut(u32)) -> Vec<Reading> {
+    run_beside(given, &RisesOnly, done)
+}
+
+/// The same with what stands in for the old rule.
+pub fn run_beside(
+    given: &Assumptions,
+    old: &dyn Operations,
+    mut done: impl FnMut(u32),
+) -> Vec<Reading> {
+    let old = given.old_rule.then(|| Station::new(given, old));
     let mut world = World {
         given,
         sender: Sender::new(given),

@@ -3,11 +3,12 @@
 mod common;
 
 use common::given;
+use reference::Settings;
 use std::sync::OnceLock;
 use tigbulode::sides::{Library, Operations};
-use tigbulode::{Block, Outputs};
+use tigbulode::{Answer, Block, Equaliser, Outputs, Saved};
 use years::assumptions::Assumptions;
-use years::history::{run, OldRule, Reading};
+use years::history::{run, run_beside, OldRule, Reading};
 use years::old_rule::RisesOnly;
 use years::page::{page, Page};
 use years::script::script;
@@ -64,51 +65,148 @@ fn exponents(readings: &[Reading], day: f64) -> (u8, u8) {
     (last.record.psi, old(last).psi)
 }
 
+/// What is found wrong in the history of [`SPELLS`].
+type Wrong = Result<(), String>;
+
+fn holds(right: bool, wrong: String) -> Wrong {
+    right.then_some(()).ok_or(wrong)
+}
+
+/// The exponent comes down after the faint spell and in the loud one.
+fn exponents_come_down(readings: &[Reading]) -> Wrong {
+    let wanted = [
+        (30.0, (3, 3)),
+        (120.0, (5, 5)),
+        (180.0, (4, 5)),
+        (230.0, (3, 5)),
+        (364.0, (3, 5)),
+    ];
+    wanted.into_iter().try_for_each(|(day, wanted)| {
+        let found = exponents(readings, day);
+        holds(found == wanted, format!("ψ {found:?} on day {day}"))
+    })
+}
+
+/// A lower exponent makes the error smaller, by so many dB at least.
+fn errors_are_smaller(readings: &[Reading]) -> Wrong {
+    let (own, other) = powers(readings, 0.0..40.0);
+    holds(own == other, format!("{own} and {other} dB at first"))?;
+    let least = [(150.0..200.0, 2.0), (260.0..366.0, 4.0)];
+    least.into_iter().try_for_each(|(days, least)| {
+        let (own, other) = powers(readings, days);
+        holds(own < other - least, format!("{own} and {other} dB"))
+    })
+}
+
+fn alike(reading: &Reading) -> bool {
+    let old = old(reading);
+    reading.record.psi == old.psi
+        && reading.error_power == old.error_power
+        && reading.wrong == old.wrong
+        && reading.pressure_received.is_some() == old.received
+}
+
+/// Both are the same until the exponent first falls.
+fn the_same_until_a_fall(readings: &[Reading]) -> Wrong {
+    let mut pairs = readings.windows(2);
+    let falls = pairs.position(|two| two[1].record.psi < two[0].record.psi);
+    let first = falls.expect("the exponent falls") + 1;
+    assert!(readings[first].day > 90.0);
+    let (before, after) = readings.split_at(first);
+    let unlike = before.iter().position(|x| !alike(x));
+    holds(unlike.is_none(), format!("unlike in reading {unlike:?}"))?;
+    let unlike = after.iter().filter(|x| x.error_power != old(x).error_power);
+    let count = unlike.count();
+    holds(count * 10 > after.len() * 9, format!("unlike in {count}"))
+}
+
 #[test]
 fn the_exponent_comes_down_after_a_faint_spell_and_in_a_loud_one() {
-    let readings = spells();
-    assert_eq!(exponents(readings, 30.0), (3, 3));
-    assert_eq!(exponents(readings, 120.0), (5, 5));
-    assert_eq!(exponents(readings, 180.0), (4, 5));
-    assert_eq!(exponents(readings, 230.0), (3, 5));
-    assert_eq!(exponents(readings, 364.0), (3, 5));
+    assert_eq!(exponents_come_down(spells()), Ok(()));
 }
 
 #[test]
 fn a_lower_exponent_makes_the_error_smaller() {
-    let readings = spells();
-    let (own, other) = powers(readings, 0.0..40.0);
-    assert_eq!(own, other);
-    let (own, other) = powers(readings, 150.0..200.0);
-    assert!(own < other - 2.0, "{own} and {other} dB");
-    let (own, other) = powers(readings, 260.0..366.0);
-    assert!(own < other - 4.0, "{own} and {other} dB");
+    assert_eq!(errors_are_smaller(spells()), Ok(()));
 }
 
 #[test]
 fn both_are_the_same_until_the_exponent_first_falls() {
-    let readings = spells();
-    let falls = readings
-        .windows(2)
-        .position(|two| two[1].record.psi < two[0].record.psi);
-    let first = falls.expect("the exponent falls") + 1;
-    assert!(readings[first].day > 90.0);
-    for reading in &readings[..first] {
-        let old = old(reading);
-        assert_eq!(reading.record.psi, old.psi);
-        assert_eq!(reading.error_power, old.error_power);
-        assert_eq!(reading.wrong, old.wrong);
-        assert_eq!(reading.pressure_received.is_some(), old.received);
+    assert_eq!(the_same_until_a_fall(spells()), Ok(()));
+}
+
+#[test]
+fn the_amended_rule_in_the_place_of_the_old_one_is_found() {
+    let readings = run_beside(&given(&SPELLS), &Library, |_| {});
+    assert!(readings.iter().all(alike));
+    for check in [
+        exponents_come_down,
+        errors_are_smaller,
+        the_same_until_a_fall,
+    ] {
+        check(&readings).expect_err("found");
     }
-    let after = readings[first..].iter();
-    let unlike = after.filter(|x| x.error_power != old(x).error_power);
-    assert!(unlike.count() * 10 > (readings.len() - first) * 9);
+}
+
+/// The old rule with a step of its own.
+struct OtherStep;
+
+impl Operations for OtherStep {
+    fn set_up(&self, settings: Settings) -> Answer {
+        RisesOnly.set_up(settings.with_m(settings.m - 4096))
+    }
+
+    fn run(&self, s: &mut Equaliser, block: Block, out: Outputs) -> u8 {
+        RisesOnly.run(s, block, out)
+    }
+
+    fn trial(&self, s: &mut Equaliser, block: Block, out: Outputs) -> Answer {
+        RisesOnly.trial(s, block, out)
+    }
+
+    fn save(&self, s: &mut Equaliser, buffer: &mut [u8]) -> Saved {
+        RisesOnly.save(s, buffer)
+    }
+
+    fn load(&self, bytes: &[u8]) -> Answer {
+        RisesOnly.load(bytes)
+    }
+}
+
+#[test]
+fn an_old_rule_with_another_step_is_found() {
+    let readings = run_beside(&given(&SPELLS), &OtherStep, |_| {});
+    for check in [errors_are_smaller, the_same_until_a_fall] {
+        check(&readings).expect_err("found");
+    }
 }
 
 fn csv(given: &Assumptions) -> String {
     let mut bytes = Vec::new();
     table::csv(given, &run(given, |_| {}), &mut bytes).expect("written");
     String::from_utf8(bytes).expect("text")
+}
+
+/// Whether every line has the columns of the station alone, then four more.
+fn same_columns_first(with: &str, alone: &str) -> bool {
+    let same = |(line, alone): (&str, &str)| {
+        let more = line.strip_prefix(alone);
+        more.is_some_and(|more| more.starts_with(',') && more.matches(',').count() == 4)
+    };
+    with.lines().count() == alone.lines().count() && with.lines().zip(alone.lines()).all(same)
+}
+
+/// The table with one of the station's own columns bent in its last row, each
+/// in turn, then without that row.
+fn bent_tables(table: &str) -> Vec<String> {
+    let (start, last) = table.trim_end().rsplit_once('\n').expect("rows");
+    let columns = last.split(',').count();
+    let bent = (0..columns - 4).map(|place| {
+        let mut fields: Vec<String> = last.split(',').map(String::from).collect();
+        fields[place].push('1');
+        format!("{start}\n{}\n", fields.join(","))
+    });
+    bent.chain([format!("{start}\n")]).collect()
 }
 
 #[test]
@@ -124,10 +222,10 @@ fn the_station_is_the_same_with_and_without_the_comparison() {
     let with = csv(&given(&changes));
     changes.push(("old_rule", "0"));
     let without = csv(&given(&changes));
-    assert_eq!(with.lines().count(), without.lines().count());
-    for (line, alone) in with.lines().zip(without.lines()) {
-        let more = line.strip_prefix(alone).expect("the same columns first");
-        assert_eq!(more.matches(',').count(), 4);
+    assert!(same_columns_first(&with, &without));
+    assert!(!same_columns_first(&without, &without));
+    for bent in bent_tables(&with) {
+        assert!(!same_columns_first(&bent, &without));
     }
 }
 
