@@ -6,6 +6,7 @@ mod wrong_trial;
 
 use reader::Reader;
 use reference::block::{work, Inputs, Outputs};
+use reference::trace::read;
 use reference::vectors::{block_vectors, image_vectors, trace_vectors, BlockVector, TraceVector};
 use reference::{image_length, load, run, run_by, save, set_up, trace, Rule, Settings, State};
 use std::collections::BTreeSet;
@@ -143,31 +144,12 @@ fn moves(exponents: &[i32]) -> [usize; 2] {
 
 /// ψ from the set-up of a good trace on.
 fn exponents_of_trace(input: &[u8]) -> Vec<i32> {
-    let h = &input[..12];
-    let (_, mut state) = set_up(Settings {
-        p: h[0],
-        q: h[1],
-        n: h[2],
-        r: h[3],
-        l: h[4],
-        m: u32::from_le_bytes(h[8..].try_into().unwrap()),
-    });
-    let n = usize::from(h[2]);
-    let (entries, training) = input[12..].split_at((input.len() - 12) / 4 * 3);
-    let training: Vec<i8> = training.iter().map(|&byte| byte as i8).collect();
-    let mut exponents = Vec::new();
-    for (own, training) in entries.chunks(3 * n).zip(training.chunks(n)) {
-        let sample = |entry: &[u8]| i16::from_le_bytes([entry[0], entry[1]]);
-        let samples: Vec<i16> = own.chunks(3).map(sample).collect();
-        let gains: Vec<u8> = own.chunks(3).map(|entry| entry[2]).collect();
-        let inputs = Inputs {
-            samples: &samples,
-            gains: &gains,
-            training,
-        };
-        exponents.extend(exponents_of(&mut state, inputs));
-    }
-    exponents
+    let trace = read(input).unwrap_or_else(|number| panic!("answer {number}"));
+    let (_, mut state) = set_up(trace.settings);
+    let blocks = trace.blocks.iter();
+    blocks
+        .flat_map(|block| exponents_of(&mut state, block.inputs()))
+        .collect()
 }
 
 #[test]
