@@ -72,19 +72,35 @@ fn doublings() -> String {
     text
 }
 
-#[test]
-fn the_program_has_these_lines() {
-    let mut text = scale_counts_line();
-    for s in [
+/// Settings beside their limits.
+fn set_ups() -> String {
+    let beside = [
         sizes(1, 1, 1, 0, 0, 67108864),
         sizes(1, 1, 1, 0, 0, 67108865),
         sizes(3, 3, 2, 2, 1, 2581110),
         sizes(3, 3, 2, 2, 1, 2581111),
         sizes(4, 1, 2, 0, 0, 0),
         sizes(4, 1, 3, 0, 0, 0),
+    ];
+    beside.into_iter().map(set_up_line).collect()
+}
+
+/// New weights beside the halving.
+fn halvings() -> String {
+    let mut text = String::new();
+    for (about, m, forward, entry) in [
+        ("new weight 16383", 131072, 16382, 1),
+        ("new weight 16384", 131072, 16383, 1),
+        ("new weight -16385", 196608, -16383, -1),
     ] {
-        text += &set_up_line(s);
+        text += &block(about, &mut state(0, 0, m, forward, -3, 0), 16384, entry);
     }
+    text
+}
+
+#[test]
+fn the_program_has_these_lines() {
+    let mut text = scale_counts_line() + &set_ups();
     let mut s = state(0, 0, 67108864, 0, 0, 0);
     text += &block("lowest sample", &mut s, -32768, 1);
     text += &block("zeros after it", &mut s, 0, 0);
@@ -92,24 +108,7 @@ fn the_program_has_these_lines() {
     text += &block("zeros first", &mut state(0, 0, 67108864, 0, 0, 0), 0, 0);
     text += &block("y 2", &mut state(1, 3, 0, 0, 8192, 1), 0, 0);
     text += &block("y -2", &mut state(1, 3, 0, 0, 8192, -1), 0, 0);
-    text += &block(
-        "new weight 16383",
-        &mut state(0, 0, 131072, 16382, -3, 0),
-        16384,
-        1,
-    );
-    text += &block(
-        "new weight 16384",
-        &mut state(0, 0, 131072, 16383, -3, 0),
-        16384,
-        1,
-    );
-    text += &block(
-        "new weight -16385",
-        &mut state(0, 0, 196608, -16383, -3, 0),
-        16384,
-        -1,
-    );
+    text += &halvings();
     text += &doublings();
     let mut s = state(0, 0, 67108864, 0, 0, 0);
     text += &block("first sample", &mut s, 16384, 1);

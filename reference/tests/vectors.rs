@@ -40,6 +40,16 @@ impl Reader<'_> {
             data: places(),
         }
     }
+
+    fn same_outputs(&mut self, outputs: &Outputs) {
+        for i in 0..outputs.y.len() {
+            assert_eq!(outputs.y[i], self.long() as i32);
+            assert_eq!(outputs.xi[i], self.byte());
+            assert_eq!(outputs.decision[i], self.byte() as i8);
+            assert_eq!(outputs.z[i], self.long() as i32);
+            assert_eq!(outputs.theta[i], self.byte());
+        }
+    }
 }
 
 #[test]
@@ -216,17 +226,20 @@ fn falls_decide_about_six_in_blocks() {
     assert!(count(6, 0) >= 2);
 }
 
-/// Whether a trial of the block with a fault shows that fault.
-fn shows(vector: &BlockVector, fault: &str) -> bool {
-    let marks = |length: usize| vec![-7; length];
-    let [y, xi, decision, z, theta] = vector.output_lengths;
-    let marked = Outputs {
-        y: marks(y),
+/// Lists of these lengths, with marks in them.
+fn marked([y, xi, decision, z, theta]: [usize; 5]) -> Outputs {
+    Outputs {
+        y: vec![-9; y],
         xi: vec![99; xi],
         decision: vec![99; decision],
-        z: marks(z),
+        z: vec![-9; z],
         theta: vec![99; theta],
-    };
+    }
+}
+
+/// Whether a trial of the block with a fault shows that fault.
+fn shows(vector: &BlockVector, fault: &str) -> bool {
+    let marked = marked(vector.output_lengths);
     let (mut given, mut outputs) = (vector.before.clone(), marked.clone());
     let (number, back) = wrong_trial(&mut given, inputs_of(vector), &mut outputs, fault);
     let handed_out = match vector.number {
@@ -261,13 +274,7 @@ fn blocks_replay() {
         let samples: Vec<i16> = (0..lengths[0]).map(|_| reader.short() as i16).collect();
         let gains = reader.take(lengths[1]);
         let training: Vec<i8> = reader.take(lengths[2]).iter().map(|&t| t as i8).collect();
-        let untouched = Outputs {
-            y: vec![-9; lengths[3]],
-            xi: vec![99; lengths[4]],
-            decision: vec![99; lengths[5]],
-            z: vec![-9; lengths[6]],
-            theta: vec![99; lengths[7]],
-        };
+        let untouched = marked(lengths[3..].try_into().unwrap());
         let mut outputs = untouched.clone();
         let mut state = before.clone();
         let inputs = Inputs {
@@ -278,13 +285,7 @@ fn blocks_replay() {
         let number = run(&mut state, inputs, &mut outputs);
         assert_eq!(number, reader.byte());
         if number == 0 {
-            for i in 0..usize::from(before.settings.n) {
-                assert_eq!(outputs.y[i], reader.long() as i32);
-                assert_eq!(outputs.xi[i], reader.byte());
-                assert_eq!(outputs.decision[i], reader.byte() as i8);
-                assert_eq!(outputs.z[i], reader.long() as i32);
-                assert_eq!(outputs.theta[i], reader.byte());
-            }
+            reader.same_outputs(&outputs);
             assert_eq!(state, reader.record());
         } else {
             assert_eq!(state, before);
