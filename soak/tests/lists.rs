@@ -28,13 +28,26 @@ fn list(bench: &mut Bench, seed: u64, place: u64) -> (Vec<Call>, Option<Failure>
     (calls, failure)
 }
 
-#[test]
-fn the_lists_cover_every_answer() {
+/// 900 lists made on a bench.
+fn lists_made() -> Bench<'static> {
     let mut bench = Bench::new(&Library, &Second);
     for place in 0..900 {
         let (_, failure) = list(&mut bench, 2026, place);
         assert_eq!(failure, None);
     }
+    bench
+}
+
+#[test]
+fn the_lists_cover_every_answer() {
+    let bench = lists_made();
+    every_answer(&bench);
+    every_kind_of_block(&bench);
+    every_way_of_following(&bench);
+}
+
+/// Each call gives the answers that it can, and no other.
+fn every_answer(bench: &Bench) {
     let given = [
         vec![0, 1, 2],
         vec![0, 1, 2, 3, 4, 5, 6, 9],
@@ -48,6 +61,13 @@ fn the_lists_cover_every_answer() {
             assert_eq!(count >= 10, given.contains(&number), "{tally}");
         }
     }
+    let calls: u64 = tally.answers.iter().flatten().sum();
+    assert!(tally.on_copies >= calls / 8, "{tally}");
+    assert_eq!(tally.again, calls - tally.on_copies);
+}
+
+fn every_kind_of_block(bench: &Bench) {
+    let tally = &bench.tally;
     for (blocks, least) in [(&tally.blocks, 50), (&tally.trials, 10)] {
         assert!(blocks.rises_to_15 >= least, "{tally}");
         assert!(blocks.left_at_15 >= 2 * least, "{tally}");
@@ -55,16 +75,16 @@ fn the_lists_cover_every_answer() {
         assert!(blocks.larger >= 2 * least && blocks.smaller >= 2 * least);
         assert!(blocks.wrong_lengths.iter().all(|&count| count >= least / 4));
     }
-    let calls: u64 = tally.answers.iter().flatten().sum();
-    assert!(tally.on_copies >= calls / 8, "{tally}");
-    assert_eq!(tally.again, calls - tally.on_copies);
-    assert!(bench.others >= 50);
     let m = bench.moves;
     assert!(
         m.fell >= 400 && m.from_15_to_0 >= 50 && m.fell_and_rose >= 50,
         "{m:?}"
     );
     assert!(bench.checker.worst.doublings >= 2000);
+}
+
+fn every_way_of_following(bench: &Bench) {
+    assert!(bench.others >= 50);
     let f = bench.followed;
     assert!(
         f.at_once >= 100 && f.after_calls >= 100 && f.loaded_back >= 50,
