@@ -362,7 +362,7 @@ mod tests {
             rooms: [0, 0, 0, 0, 9],
             ..empty
         };
-        let halves = std::iter::successors(Some(room), without_half);
+        let halves = std::iter::successors(Some(room), without_half).take(9);
         let rooms: Vec<usize> = halves.map(|lists| lists.rooms[4]).collect();
         assert_eq!(rooms, [9, 4, 2, 1, 0]);
     }
