@@ -348,7 +348,7 @@ static void print_release_rows(const char *about, kind what, const int (*sizes)[
 }
 
 static void print_releases(const int (*sizes)[3], int rows) {
-    const beside seen = check_release(before_tigbulode_run, 200000);
+    const comparison seen = check_release(before_tigbulode_run, 200000);
     printf("\nNanoseconds per sample beside an earlier release; over random calls the two differ in\n");
     printf("%u of %u in which no sample doubles the weights, and in %u of %u in which one does\n", seen.differ[0],
            seen.calls[0], seen.differ[1], seen.calls[1]);

@@ -7,7 +7,7 @@
 #define BLOCK 128
 #define FEW 4
 #define INLINE static inline __attribute__((always_inline))
-#define SELDOM static __attribute__((noinline))
+#define NOT_INLINED static __attribute__((noinline))
 
 #ifdef COUNTED
 unsigned careful_halvings, careful_doublings;
@@ -175,14 +175,14 @@ static void set_exponent(work *k, int psi) {
     k->least = psi > 0 ? 4096 : 0;
 }
 
-SELDOM void halve_weights(work *k) {
+NOT_INLINED void halve_weights(work *k) {
     for (int i = 0; i < TAPS; i++) k->forward.weights[i] = (int16_t)(k->forward.weights[i] / 2);
     for (int i = 0; i < TAPS; i++) k->back.weights[i] = (int16_t)(k->back.weights[i] / 2);
     set_exponent(k, k->psi + 1);
     COUNT(careful_halvings);
 }
 
-SELDOM void double_weights(work *k) {
+NOT_INLINED void double_weights(work *k) {
     for (int i = 0; i < TAPS; i++) k->forward.weights[i] = (int16_t)(k->forward.weights[i] * 2);
     for (int i = 0; i < TAPS; i++) k->back.weights[i] = (int16_t)(k->back.weights[i] * 2);
     set_exponent(k, k->psi - 1);

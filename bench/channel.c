@@ -40,9 +40,9 @@ static int scale_count(int taps) {
 static void any_weights(int16_t *weights, int taps) {
     int limit = any_below(2) ? 1 << 14 : 1 << any_below(15);
     for (int i = 0; i < taps; i++) weights[i] = (int16_t)((int)any_below(2u * (uint32_t)limit - 1) - (limit - 1));
-    int beside = 4094 + (int)any_below(4);
+    int near_limit = 4094 + (int)any_below(4);
     if (limit <= 4096 && any_below(4) == 0)
-        weights[any_below((uint32_t)taps)] = (int16_t)(any_below(2) ? beside : -beside);
+        weights[any_below((uint32_t)taps)] = (int16_t)(any_below(2) ? near_limit : -near_limit);
 }
 
 static void any_contents(tigbulode_equaliser *e) {

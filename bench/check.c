@@ -106,8 +106,8 @@ int check_trials(bool at_fault, unsigned calls, shown *seen) {
     return check_same(tried_run, calls, seen);
 }
 
-beside check_release(run_call *earlier, unsigned calls) {
-    beside seen = {{0}, {0}};
+comparison check_release(run_call *earlier, unsigned calls) {
+    comparison seen = {{0}, {0}};
     outcome one, two, counted;
     lent b;
     uint8_t number = 9;

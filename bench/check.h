@@ -18,9 +18,9 @@ int check_same(run_call *other, unsigned calls, shown *seen);
 // either differ.
 typedef struct {
     unsigned calls[2], differ[2];
-} beside;
+} comparison;
 
-beside check_release(run_call *earlier, unsigned calls);
+comparison check_release(run_call *earlier, unsigned calls);
 
 // A trial whose state is then taken, with the contract of tigbulode_run; 255 where it wrote to the record.
 run_call tried_run;
