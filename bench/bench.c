@@ -261,6 +261,8 @@ static void check_answers(void) {
     if (!check_same(careful_run, 200000, &seen)) fail("careful C and the proved code differ");
     if (!check_same(careful_native_run, 50000, &seen)) fail("careful C for this processor and the proved code differ");
     if (!check_same(careful_counted_run, 50000, &seen)) fail("careful C that counts and the proved code differ");
+    if (check_same(careful_low_run, 50000, &unused)) fail("careful C that doubles too seldom was not found");
+    if (check_same(careful_high_run, 50000, &unused)) fail("careful C that doubles too often was not found");
     if (!check_trials(false, 50000, &tried)) fail("a trial and a run differ");
     if (check_trials(true, 50000, &unused)) fail("a trial with a fault was not found");
     print_answers(&seen, &tried);

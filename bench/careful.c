@@ -9,6 +9,11 @@
 #define INLINE static inline __attribute__((always_inline))
 #define NOT_INLINED static __attribute__((noinline))
 
+// Weights that are all below this are doubled; another one is a fault that the comparison has to find.
+#ifndef DOUBLING_LIMIT
+#define DOUBLING_LIMIT 4096
+#endif
+
 #ifdef COUNTED
 unsigned careful_halvings, careful_doublings;
 #define COUNT(what) what++
@@ -172,7 +177,7 @@ INLINE uint16_t adapt(side *f, const int16_t *data, uint32_t j, int16_t sign, in
 
 static void set_exponent(work *k, int psi) {
     k->psi = psi;
-    k->least = psi > 0 ? 4096 : 0;
+    k->least = psi > 0 ? DOUBLING_LIMIT : 0;
 }
 
 NOT_INLINED void halve_weights(work *k) {

@@ -19,4 +19,8 @@ run_call careful_native_run;
 run_call careful_counted_run;
 extern unsigned careful_halvings, careful_doublings;
 
+// The same source with a fault: weights are doubled where all are below 4095, or where all are below 4097. The
+// magnitudes are merged bit by bit, so the second one shows where each is 0 or 4096.
+run_call careful_low_run, careful_high_run;
+
 #endif
