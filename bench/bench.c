@@ -99,6 +99,9 @@ static double timed_run(int who) {
     return (now() - start) / (BLOCKS * N);
 }
 
+// Who is timed at a place of a round.
+static int turn(int round, int place, int contenders) { return (round + place) % contenders; }
+
 // Nanoseconds per sample of a trial, or of a run.
 static double timed_trial(int tried) {
     const tigbulode_equaliser *s = &current.state[PROVED];
@@ -142,6 +145,24 @@ static unsigned count_halvings(tigbulode_equaliser begun, const tigbulode_equali
     careful_halvings = careful_doublings = 0;
     for (int i = 0; i < ROUNDS; i++) run_pieces(careful_counted_run, &begun, k);
     if (careful_doublings > 0) fail("a sample of a timed block doubles the weights");
+    if (memcmp(&begun, ended, sizeof begun) != 0) fail("counted rounds left another record than the timed ones");
+    return careful_halvings;
+}
+
+// The same for rounds of runs and of trials; a trial is a run of a copy.
+static unsigned count_trial_halvings(tigbulode_equaliser begun, const tigbulode_equaliser *ended) {
+    careful_halvings = careful_doublings = 0;
+    for (int i = 0; i < 2 * ROUNDS; i++) {
+        int tried = turn(i / 2, i % 2, 2);
+        for (int k = 0; k < BLOCKS; k++) {
+            const channel_block *b = &current.blocks[k];
+            tigbulode_equaliser copy = begun;
+            if (careful_counted_run(tried ? &copy : &begun, b->m, N, b->gains, N, decided, N, y, N, xi, N, decision, N,
+                                    z, N, theta, N))
+                fail("a block of the channel was refused");
+        }
+    }
+    if (careful_doublings > 0) fail("a sample of a timed trial or run doubles the weights");
     if (memcmp(&begun, ended, sizeof begun) != 0) fail("counted rounds left another record than the timed ones");
     return careful_halvings;
 }
@@ -205,7 +226,7 @@ static figures measure(double (*timed)(int who), int contenders) {
     figures f = {0};
     for (int i = 0; i < ROUNDS; i++) {
         for (int k = 0; k < contenders; k++) {
-            int who = (i + k) % contenders;
+            int who = turn(i, k, contenders);
             times[who][i] = timed(who);
         }
         for (int who = 0; who < contenders; who++) ratios[who][i] = times[PROVED][i] / times[who][i];
@@ -307,7 +328,7 @@ static void print_trials(const int (*sizes)[2], int rows) {
         figures f = measure(timed_trial, 2);
         printf("%3d %3d | %7.2f %7.2f | %7.2f %7.2f | %6.2f %7.2f\n", sizes[i][0], sizes[i][1], f.median[0], f.least[0],
                f.median[1], f.least[1], 1 / f.ratio[1], f.least[1] / f.least[0]);
-        halvings += count_halvings(current.begun, &current.state[PROVED], N);
+        halvings += count_trial_halvings(current.begun, &current.state[PROVED]);
     }
     print_halvings(halvings);
 }
