@@ -14,6 +14,7 @@
 #define ROUNDS 301
 #define N LONGEST_BLOCK
 #define FALLS 15
+#define PASSES 16
 
 enum { PROVED, CAREFUL, NATIVE, PLAIN, CONTENDERS };
 
@@ -171,11 +172,18 @@ static unsigned count_trial_halvings(tigbulode_equaliser begun, const tigbulode_
 // so small that they stay below 4096.
 static tigbulode_equaliser falling[2];
 
-static void run_falling(run_call *run, const tigbulode_equaliser *from, const channel_block *b) {
-    const size_t k = FALLS;
-    tigbulode_equaliser s = *from;
-    if (run(&s, b->m, k, b->gains, k, b->sent, k, y, k, xi, k, decision, k, z, k, theta, k))
+// The first samples of a block, from a copy of a record.
+static void run_from(const tigbulode_equaliser *from, run_call *run, tigbulode_equaliser *s, const channel_block *b,
+                     const int8_t *entries) {
+    const size_t k = from->n;
+    *s = *from;
+    if (run(s, b->m, k, b->gains, k, entries, k, y, k, xi, k, decision, k, z, k, theta, k))
         fail("a block of the channel was refused");
+}
+
+static void run_falling(run_call *run, const tigbulode_equaliser *from, const channel_block *b) {
+    tigbulode_equaliser s;
+    run_from(from, run, &s, b, b->sent);
     if (s.psi != 0) fail("psi does not fall at each sample");
 }
 
@@ -200,6 +208,51 @@ static void prepare_falling(int p, int q) {
     falling[0].psi = FALLS;
     if (doublings(&falling[0]) != BLOCKS * FALLS || doublings(&falling[1]) != 0)
         fail("psi does not fall at each sample");
+}
+
+static bool same_records(void) { return memcmp(&releases[0].state, &releases[1].state, sizeof releases[0].state) == 0; }
+
+// Records with psi 0: the newest symbol is 1 and its weight 16383, which the first entry raises, so that all weights are
+// halved; and the same with half of that weight, which keeps them. All entries are 7.
+static tigbulode_equaliser halving[2];
+static int8_t sevens[N];
+
+// Nanoseconds per sample where the first one halves, then where none does; of this library and of the earlier one.
+static double timed_halving(int who) {
+    run_call *run = who % 2 ? before_tigbulode_run : tigbulode_run;
+    const tigbulode_equaliser *from = &halving[who / 2];
+    double start = now();
+    for (int i = 0; i < PASSES * BLOCKS; i++)
+        run_from(from, run, &releases[who % 2].state, &current.blocks[i % BLOCKS], sevens);
+    return (now() - start) / (PASSES * BLOCKS * from->n);
+}
+
+// Whether the releases leave the same records after each block. Ends where not as many samples halve as given.
+static bool check_halving(const tigbulode_equaliser *from, unsigned halvings) {
+    tigbulode_equaliser counted;
+    bool same = true;
+    careful_halvings = careful_doublings = 0;
+    for (int i = 0; i < BLOCKS; i++) {
+        run_from(from, tigbulode_run, &releases[0].state, &current.blocks[i], sevens);
+        run_from(from, before_tigbulode_run, &releases[1].state, &current.blocks[i], sevens);
+        run_from(from, careful_counted_run, &counted, &current.blocks[i], sevens);
+        if (memcmp(&counted, &releases[0].state, sizeof counted) != 0) fail("a counted block left another record");
+        same &= same_records();
+    }
+    if (careful_halvings != halvings || careful_doublings != 0) fail("other samples halve the weights, or one doubles");
+    return same;
+}
+
+// Whether the releases leave the same records.
+static bool prepare_halving(int p, int q, int n) {
+    prepare(&current, p, q, USUAL);
+    memset(sevens, 7, sizeof sevens);
+    tigbulode_equaliser s = tigbulode_set_up((uint8_t)p, (uint8_t)q, (uint8_t)n, 2, 1, current.begun.step / 16).state;
+    s.past[p] = 1;
+    halving[0] = halving[1] = s;
+    halving[0].weights[p] = 16383, halving[1].weights[p] = 8191;
+    bool same = check_halving(&halving[0], BLOCKS);
+    return check_halving(&halving[1], 0) && same;
 }
 
 // Microseconds for a cable.
@@ -347,8 +400,6 @@ static void print_falling(const int (*sizes)[2], int rows) {
     }
 }
 
-static bool same_records(void) { return memcmp(&releases[0].state, &releases[1].state, sizeof releases[0].state) == 0; }
-
 static void print_release_rows(const char *about, kind what, const int (*sizes)[3], int rows) {
     unsigned halvings = 0;
     bool same = true;
@@ -370,7 +421,27 @@ static void print_release_rows(const char *about, kind what, const int (*sizes)[
     print_halvings(halvings);
 }
 
+// What a halving costs: the least time of a block with one, less that of a block with none.
+static void print_halving(const int (*sizes)[3], int rows) {
+    bool same = true;
+    printf("the first sample of each block halves the weights\n");
+    printf("            |      before     |       now       |   now/before   |  for the halving\n");
+    printf("  p   q   N |  median   least |  median   least | median   least |  before      now\n");
+    for (int i = 0; i < rows; i++) {
+        int n = sizes[i][2];
+        same &= prepare_halving(sizes[i][0], sizes[i][1], n);
+        figures f = measure(timed_halving, 4);
+        printf("%3d %3d %3d | %7.2f %7.2f | %7.2f %7.2f | %6.3f %7.3f | %7.2f %8.2f\n", sizes[i][0], sizes[i][1], n,
+               f.median[1], f.least[1], f.median[0], f.least[0], f.ratio[1], f.least[0] / f.least[1],
+               n * (f.least[1] - f.least[3]), n * (f.least[0] - f.least[2]));
+    }
+    printf("the two left %s records; samples that double the weights: 0, that halve them: one in each block\n",
+           same ? "the same" : "OTHER");
+    fflush(stdout);
+}
+
 static void print_releases(const int (*sizes)[3], int rows) {
+    static const int halving_at[][3] = {{1, 1, 1}, {2, 16, 1}, {3, 3, 2}, {16, 16, 15}};
     const comparison seen = check_release(before_tigbulode_run, 200000);
     printf("\nNanoseconds per sample beside an earlier release; over random calls the two differ in\n");
     printf("%u of %u in which no sample doubles the weights, and in %u of %u in which one does\n", seen.differ[0],
@@ -378,6 +449,7 @@ static void print_releases(const int (*sizes)[3], int rows) {
     print_release_rows("psi above 0, a weight of 4096 or more", USUAL, sizes, rows);
     print_release_rows("psi 0, a weight of 4096 or more", LOUD, sizes, rows);
     print_release_rows("psi 0, all weights below 4096, frozen", SMALL, sizes, rows);
+    print_halving(halving_at, 4);
 }
 
 static void print_cable(void) {
