@@ -60,10 +60,8 @@ static void quarter(tigbulode_equaliser *s) {
     s->step = 0;
 }
 
-// Ends where the record is not of its kind.
-static void check_kind(const tigbulode_equaliser *s, kind what) {
-    if ((s->psi > 0) != (what == USUAL)) fail("psi to be timed is not of its kind");
-    if ((tigbulode_largest_weight(s) < 4096) != (what == SMALL)) fail("weights to be timed are not of their kind");
+static bool of_kind(const tigbulode_equaliser *s, kind what) {
+    return (s->psi > 0) == (what == USUAL) && (tigbulode_largest_weight(s) < 4096) == (what == SMALL);
 }
 
 // Trained on the channel, so that the timed blocks run on decisions.
@@ -81,7 +79,7 @@ static void prepare(setting *s, int p, int q, kind what) {
     for (int i = 0; i < BLOCKS; i++) channel_next(&c, &s->blocks[i]);
     for (int who = 0; who < PLAIN && what == SMALL; who++) quarter(&s->state[who]);
     s->begun = s->state[PROVED];
-    check_kind(&s->begun, what);
+    if (!of_kind(&s->begun, what)) fail("the record to be timed is not of its kind");
 }
 
 static double now(void) {
@@ -421,6 +419,23 @@ static void print_release_rows(const char *about, kind what, const int (*sizes)[
     print_halvings(halvings);
 }
 
+// Faults that the comparison with an earlier release has to find: one that doubles too often, one changed weight, and
+// records of another kind.
+static void check_controls(void) {
+    const comparison wrong = check_release(careful_high_run, 50000), right = check_release(careful_run, 50000);
+    if (wrong.differ[0] == 0 || wrong.differ[1] == 0) fail("a release that doubles too often was not found");
+    if (right.differ[0] + right.differ[1] != 0) fail("careful C as a release was found different");
+    tigbulode_equaliser s = {.p = 1, .q = 1, .psi = 1, .weights = {0, -4096}};
+    releases[0].state = releases[1].state = s;
+    releases[1].state.weights[1]++;
+    if (same_records()) fail("a changed record was not found");
+    if (!of_kind(&s, USUAL) || of_kind(&s, LOUD) || of_kind(&s, SMALL)) fail("psi above 0 was not told from 0");
+    s.weights[1]++;
+    if (of_kind(&s, USUAL) || of_kind(&s, SMALL)) fail("a weight of 4095 was not told from 4096");
+    s.psi = 0;
+    if (!of_kind(&s, SMALL) || of_kind(&s, LOUD)) fail("a weight of 4095 was not told from 4096 where psi is 0");
+}
+
 // What a halving costs: the least time of a block with one, less that of a block with none.
 static void print_halving(const int (*sizes)[3], int rows) {
     bool same = true;
@@ -442,6 +457,7 @@ static void print_halving(const int (*sizes)[3], int rows) {
 
 static void print_releases(const int (*sizes)[3], int rows) {
     static const int halving_at[][3] = {{1, 1, 1}, {2, 16, 1}, {3, 3, 2}, {16, 16, 15}};
+    check_controls();
     const comparison seen = check_release(before_tigbulode_run, 200000);
     printf("\nNanoseconds per sample beside an earlier release; over random calls the two differ in\n");
     printf("%u of %u in which no sample doubles the weights, and in %u of %u in which one does\n", seen.differ[0],
