@@ -208,7 +208,9 @@ static void prepare_falling(int p, int q) {
         fail("psi does not fall at each sample");
 }
 
-static bool same_records(void) { return memcmp(&releases[0].state, &releases[1].state, sizeof releases[0].state) == 0; }
+static bool same_records(void) {
+    return memcmp(&releases[0].state, &releases[1].state, sizeof releases[0].state) == 0;
+}
 
 // Records with psi 0: the newest symbol is 1 and its weight 16383, which the first entry raises, so that all weights are
 // halved; and the same with half of that weight, which keeps them. All entries are 7.
@@ -457,7 +459,6 @@ static void print_halving(const int (*sizes)[3], int rows) {
 
 static void print_releases(const int (*sizes)[3], int rows) {
     static const int halving_at[][3] = {{1, 1, 1}, {2, 16, 1}, {3, 3, 2}, {16, 16, 15}};
-    check_controls();
     const comparison seen = check_release(before_tigbulode_run, 200000);
     printf("\nNanoseconds per sample beside an earlier release; over random calls the two differ in\n");
     printf("%u of %u in which no sample doubles the weights, and in %u of %u in which one does\n", seen.differ[0],
@@ -487,6 +488,7 @@ int main(void) {
                                          {16, 16, 128}, {16, 16, 16}, {2, 16, 1}, {1, 1, 1}};
     check_answers();
     check_cable_answers();
+    check_controls();
     print_table("Nanoseconds per sample, N = 128, r = 2, L = 1, greatest admitted M, decided", main_sizes, 3);
     print_table("The same as p + q grows", growth, 6);
     print_table("The same with p + q split unevenly", uneven, 5);
