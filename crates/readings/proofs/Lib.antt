@@ -1,0 +1,4 @@
+pub mod ValueLaws
+pub mod ListLaws
+pub mod ReadableLaws
+pub mod ReadingsHold

@@ -1,0 +1,40 @@
+-- The check, then the readings and the power.
+use mathlib.Core.Path.{_≡_, sym, ap, _∙_}
+use mathlib.Core.Bool.{true}
+use native.Mathlib.Omega.{arith}
+use lib.ListN.{length}
+use borrow.Author.Needs.{needs}
+use borrow.Author.Tests.{not-true, not-false}
+use Rattle.readings.specs.Readings.{Lists, readable}
+use Rattle.readings.specs.Calls.{listsOf}
+use Rattle.readings.specs.declared.Answer.the-variants.{Given}
+use Rattle.readings.proofs.ReadableLaws.{readable-says, readable-sums, refused, given}
+use Rattle.readings.proofs.readings.Statement.{statement}
+use Rattle.readings.proofs.readings.Tie as tie
+
+abbrev lists : tie.Start → Lists
+lists c = listsOf (c .args .y .now) (c .args .xi .now) (c .args .z .now) (c .args .theta .now)
+
+readable-is : (c : tie.Else1) → let s = c .before .before .before .before in readable (lists s) (length (s .args .out .now)) ≡ true
+readable-is c = sym (c .before .readable .ensures) ∙ not-false _ (c .if1 .left)
+
+returns : tie.Need-returns
+returns c = let s = c .before .before .before .before in refused (lists s) (s .args .out .now) (sym (c .before .readable .ensures) ∙ not-true _ (c .if1 .taken))
+
+fill-requires : tie.Need-fill-requires
+fill-requires c κs = readable-says (readable-is (c .before)) .fill
+
+power-requires : tie.Need-power-requires
+power-requires c κs =
+    let r = readable-says (readable-is (c .before .before .before)) in
+    (readable-sums r, omega (arith, r .some, r .fill .z-long))
+
+returns-2 : tie.Need-returns-2
+returns-2 c =
+    let d = c .before .before .before .before in
+    let s = d .before .before .before .before in
+    let r = given (lists s) (s .args .out .now) (readable-is d) in
+    record { answer = ap Given (c .power .ensures) ∙ r .answer; output = c .before .before .fill .ensures ∙ r .output }
+
+pub readings-spec : {M : Type 1} → statement M
+readings-spec = tie.close (tie.spec (λ c κs. search needs) returns fill-requires power-requires (λ c. search needs) returns-2)
