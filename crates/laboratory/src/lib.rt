@@ -1,5 +1,10 @@
 // The operations of the surface laboratory for C.
+ghost use mathlib.Core.Path.{_≡_};
 ghost use Rattle.cable_trace.specs.Answers.{cableOf, Output};
+ghost use Rattle.readings.specs.Calls.{listsOf};
+ghost use Rattle.laboratory.specs.Readings.{told, ReadOut};
+use readings::Answer;
+use readings::Power;
 
 // The trace that a station receives over a cable, or the number of the refusal and the output as it was.
 #[no_mangle]
@@ -18,4 +23,50 @@ pub extern "C" fn tigbulode_cable(
     ensures { λ number. ⌜ Output (cableOf p q n r l m (now (response .entry)) (now (symbols .entry)) training) (now (out .entry)) number (now (out .exit)) ⌝ }
 {
     cable_trace::cable(p, q, n, r, l, m, response, symbols, training, out)
+}
+
+// The error power of a block: 0 or 11, whether it is only a floor, and the power.
+#[repr(C)]
+pub struct Told {
+    pub number: u8,
+    pub is_floor: u8,
+    pub power: f64,
+}
+
+fn told_of(a: Answer) -> Told
+    ensures { λ r. ⌜ r ≡ told a ⌝ }
+{
+    match a {
+        Answer::Given(p) => match p {
+            Power::Mean(x) => Told {
+                number: 0,
+                is_floor: 0,
+                power: x,
+            },
+            Power::Floor(x) => Told {
+                number: 0,
+                is_floor: 1,
+                power: x,
+            },
+        },
+        Answer::Refused => Told {
+            number: 11,
+            is_floor: 0,
+            power: 0.0,
+        },
+    }
+}
+
+// The readings of what a block handed out, each as y and the error, with the error power; or 11 and the readings as they were.
+#[no_mangle]
+pub extern "C" fn tigbulode_readings(
+    y: &[i32],
+    xi: &[u8],
+    z: &[i32],
+    theta: &[u8],
+    out: &mut [[f64; 2]],
+) -> Told
+    ensures { λ a. ⌜ ReadOut (listsOf (now (y .entry)) (now (xi .entry)) (now (z .entry)) (now (theta .entry))) (now (out .entry)) a (now (out .exit)) ⌝ }
+{
+    told_of(readings::readings(y, xi, z, theta, out))
 }

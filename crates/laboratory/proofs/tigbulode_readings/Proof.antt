@@ -1,0 +1,12 @@
+-- The readings' own answer, told.
+use mathlib.Core.Path.{ap, _∙_}
+use borrow.Author.Needs.{needs}
+use Rattle.laboratory.specs.Readings.{told}
+use Rattle.laboratory.proofs.tigbulode_readings.Statement.{statement}
+use Rattle.laboratory.proofs.tigbulode_readings.Tie as tie
+
+returns : tie.Need-returns
+returns c = let r = c .before .before .readings .ensures in record { answer = c .told-of .ensures ∙ ap told (r .answer); output = r .output }
+
+pub tigbulode-readings-spec : {M : Type 1} → statement M
+tigbulode-readings-spec = tie.close (tie.spec (λ c κs. search needs) (λ c κs. search needs) (λ c. search needs) returns)
