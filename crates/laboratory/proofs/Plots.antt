@@ -1,0 +1,101 @@
+-- Every accepted block of every list of calls hands out lists that can be read.
+use mathlib.Core.Path.{_≡_, sym, ap, _∙_, subst}
+use mathlib.Core.Bool.{Bool, true, cond}
+use mathlib.Core.List.{List, [], _∷_}
+use Prim.Native.Nat.{ℕ, _^_, _≤_, _<_}
+use native.Mathlib.Omega.{arith}
+use lib.IntN.{ℤ, pos, natAbs}
+use lib.ListN.{length, getD}
+use borrow.Author.Tests.{eq-eqb, le-leb, lt-ltb}
+use Rattle.laws.specs.Lists.{all}
+use Rattle.laws.specs.Sums.{each-of}
+use Rattle.laws.specs.Tests.{tested-each}
+use Rattle.steps.specs.Limits.{outputExponentLimit}
+use Rattle.steps.specs.Side.{isBelow, allBelow}
+use Rattle.block.specs.Block.{handedY, handedξ, handedZ, handedθ}
+use Rattle.block.specs.Holds.{AtSample}
+use Rattle.block.proofs.BlockLeft.{handed-long}
+use Rattle.state.specs.State.{settings, memory}
+use Rattle.state.specs.declared.equaliser.Equaliser.{Equaliser}
+use Rattle.state.proofs.SizesLaws.{fit-within}
+use Rattle.checks.specs.Checks.{Lent, block}
+use Rattle.station.specs.Answers.{runNumber, accepted, Run}
+use Rattle.station.specs.Claim.{Call, run, trial, save, load, left, Start, WithinLimits, AcceptedBlock, RunHolds, CallHolds, Holds}
+use Rattle.station.proofs.Claim.{claim}
+use Rattle.readings.specs.Limits.{outputLimit, errorLimit}
+use Rattle.readings.specs.Readings.{Lists, exponentFits, readable}
+use Rattle.readings.specs.Calls.{listsOf, Exponent}
+use Rattle.readings.proofs.ReadableLaws.{Readable, readable-of, number-given, given}
+use Rattle.readings.proofs.ReadingsHold.{readings-hold}
+use Rattle.laboratory.specs.Plots.{Plotted, BlockPlotted, CallPlotted, AllPlotted}
+
+-- what an accepted block hands out
+abbrev out : Equaliser → Lent → Lists
+out s l = listsOf (handedY (settings s) (memory s) (block l)) (handedξ (settings s) (memory s) (block l)) (handedZ (settings s) (memory s) (block l)) (handedθ (settings s) (memory s) (block l))
+
+module _ (s : Equaliser) (g : WithinLimits s) (l : Lent) (h : AcceptedBlock s l) where
+  at : (n : ℕ) → n < s .n → AtSample (settings s) (memory s) (block l) n
+  at n k = h .sample n k
+
+  exponents-fit : (xs : List ℕ) → length xs ≡ s .n → ((n : ℕ) → n < s .n → (1 ≤ getD xs n 0) × (getD xs n 0 ≤ outputExponentLimit)) → all exponentFits xs ≡ true
+  exponents-fit xs e f =
+      tested-each exponentFits Exponent (λ x k. simp (le-leb 1 x (k .0), le-leb x outputExponentLimit (k .1))) xs
+      (each-of Exponent 0 xs (λ n k. f n (omega arith)))
+
+  all-small : (limit : ℕ) (xs : List ℤ) → length xs ≡ s .n → ((n : ℕ) → n < s .n → natAbs (getD xs n (pos 0)) < limit) → allBelow limit xs ≡ true
+  all-small limit xs e f =
+      tested-each (isBelow limit) (λ x. natAbs x < limit) (λ x k. lt-ltb (natAbs x) limit k) xs
+      (each-of (λ x. natAbs x < limit) (pos 0) xs (λ n k. f n (omega arith)))
+
+  can-be-read : Readable (out s l) (s .n)
+  can-be-read =
+      let w = fit-within (settings s) (g .sizes) in
+      let long = handed-long (settings s) (memory s) (block l) in
+      record {
+        some = w .N-least;
+        few = w .N-most;
+        fill = record {
+          y-long = long .y-long;
+          xi-long = long .xi-long;
+          z-long = long .z-long;
+          theta-long = long .theta-long;
+          xi-fit = exponents-fit (out s l .xi) (long .xi-long) (λ n k. let b = at n k in (omega (arith, b .given .ξ-is, b .bounded .ξ-least), omega (arith, b .given .ξ-is, b .bounded .ξ-most)));
+          theta-fit = exponents-fit (out s l .theta) (long .theta-long) (λ n k. let b = at n k in (omega (arith, b .given .θ-is, b .bounded .θ-least), omega (arith, b .given .θ-is, b .bounded .θ-most)));
+        };
+        z-small = all-small errorLimit (out s l .z) (long .z-long) (λ n k. let b = at n k in subst (λ (x : ℤ). natAbs x < 2 ^ 30) (sym (b .given .Z-is)) (b .bounded .Z-small));
+        y-small = all-small outputLimit (out s l .y) (long .y-long) (λ n k. let b = at n k in subst (λ (x : ℤ). natAbs x < 2 ^ 29) (sym (b .given .Y-is)) (b .bounded .Y-small));
+      }
+
+  plotted : Plotted (out s l .y) (out s l .xi) (out s l .z) (out s l .theta) (s .n)
+  plotted =
+      let ok = readable-of can-be-read in
+      record {
+        accepted = number-given (out s l) (s .n) ok;
+        written = λ before e. sym (given (out s l) before (ap (readable (out s l)) e ∙ ok) .output);
+        holds = readings-hold (out s l) (s .n) ok;
+      }
+
+-- what the contract of an accepted block says of its lists
+block-plotted : (s : Equaliser) → WithinLimits s → (l : Lent) → RunHolds s l → BlockPlotted s l
+block-plotted s g l h a y xi decision z theta r e =
+    rw (chosen (out s l .y) (l .y) (r .y-is), chosen (out s l .xi) (l .xi) (r .xi-is), chosen (out s l .z) (l .z) (r .z-is), chosen (out s l .theta) (l .theta) (r .theta-is))
+    (plotted s g l (h .accepted ok))
+  where
+    ok : runNumber s l ≡ 0
+    ok = sym (r .number) ∙ e
+
+    chosen : {A : Type 0} {x : A} (new old : A) → x ≡ accepted s l new old → x ≡ new
+    chosen new old f = f ∙ ap (λ (b : Bool). cond b new old) (eq-eqb (runNumber s l) 0 ok)
+
+call-plotted : (s : Equaliser) → WithinLimits s → (c : Call) → CallHolds s c → CallPlotted s c
+call-plotted s g (run l t) h = block-plotted s g l h
+call-plotted s g (trial l t) h = block-plotted s g l (h .as-run)
+call-plotted s g (save buffer t) h = tt
+call-plotted s g (load bytes t) h = tt
+
+from-holds : (s : Equaliser) (cs : List Call) → Holds s cs → AllPlotted s cs
+from-holds s [] h = tt
+from-holds s (c ∷ cs) h = (call-plotted s (h .0) c (h .1 .0), from-holds (left s c) cs (h .1 .1))
+
+pub plots : (s : Equaliser) → Start s → (cs : List Call) → AllPlotted s cs
+plots s start cs = from-holds s cs (claim s start cs)
