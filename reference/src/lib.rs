@@ -18,11 +18,14 @@
 //! * [`trace`]: the bytes of a trace to its text.
 //! * [`cable`]: symbols over a described cable to the bytes of a trace.
 //! * [`description`]: the bytes of a description to what the program `cable` writes.
+//! * [`readings`]: what a block handed out as f64, and the power of its errors.
+//! * [`binary64`]: the 64 bits of an f64, from whole numbers.
 //! * [`exact`]: whole numbers and dyadic numbers of any length.
 //! * [`demand3`]: the figures of demand 3, checked at every sample.
 //! * [`random`]: a small generator and arbitrary sound states.
 //! * [`vectors`]: the test vectors.
 
+pub mod binary64;
 pub mod block;
 pub mod cable;
 pub mod demand3;
@@ -31,6 +34,7 @@ pub mod exact;
 pub mod image;
 pub mod numbers;
 pub mod random;
+pub mod readings;
 pub mod settings;
 pub mod state;
 pub mod trace;
@@ -64,3 +68,5 @@ pub const LENGTH: u8 = 8;
 pub const UNSOUND: u8 = 9;
 /// A cable is turned down.
 pub const CABLE: u8 = 10;
+/// Lists are turned down that were to be readings.
+pub const READINGS: u8 = 11;
