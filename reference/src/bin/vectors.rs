@@ -1,10 +1,13 @@
 //! Writes the test vectors: `vectors OUTDIR` makes `traces.bin`, `blocks.bin`,
-//! `images.bin`, `cables.bin` and `descriptions.bin` there.
+//! `images.bin`, `cables.bin`, `descriptions.bin` and `readings.bin` there.
 
 use reference::vectors::{
-    block_vectors, cable_vectors, description_vectors, image_vectors, trace_vectors,
+    block_vectors, cable_vectors, description_vectors, image_vectors, readings_vectors,
+    trace_vectors,
 };
-use reference::vectors::{BlockVector, CableVector, DescriptionVector, ImageVector, TraceVector};
+use reference::vectors::{
+    BlockVector, CableVector, DescriptionVector, ImageVector, ReadingsVector, TraceVector,
+};
 use std::path::Path;
 use std::process::ExitCode;
 
@@ -39,6 +42,7 @@ fn write_all(folder: &Path) -> std::io::Result<()> {
     let images = image_vectors();
     let cables = cable_vectors();
     let descriptions = description_vectors();
+    let readings = readings_vectors();
     write(folder, "traces.bin", &traces, TraceVector::bytes)?;
     write(folder, "blocks.bin", &blocks, BlockVector::bytes)?;
     write(folder, "images.bin", &images, ImageVector::bytes)?;
@@ -48,7 +52,8 @@ fn write_all(folder: &Path) -> std::io::Result<()> {
         "descriptions.bin",
         &descriptions,
         DescriptionVector::bytes,
-    )
+    )?;
+    write(folder, "readings.bin", &readings, ReadingsVector::bytes)
 }
 
 /// Writes one file, whole or not at all.
