@@ -20,4 +20,8 @@ impl<'a> Reader<'a> {
     pub fn long(&mut self) -> u32 {
         u32::from_le_bytes(self.take(4).try_into().unwrap())
     }
+    #[allow(dead_code)]
+    pub fn double(&mut self) -> u64 {
+        u64::from_le_bytes(self.take(8).try_into().unwrap())
+    }
 }
