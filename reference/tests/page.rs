@@ -3,9 +3,11 @@
 use reference::block::{step7, work, BlockDetail, Rule, SampleDetail};
 use reference::cable::{gain, mantissa, sum_at};
 use reference::description::description;
-use reference::numbers::scale_count;
+use reference::numbers::{scale_count, Dyadic};
+use reference::readings::{magnitude, readings, Power, Reading};
 use reference::trace::trace_with_state;
 use reference::vectors::spoiled::worked_example;
+use reference::vectors::{worked_lists, Lists};
 use reference::{load, save, set_up, trace, Inputs, Settings, State};
 use std::fmt::Display;
 use std::ops::RangeInclusive;
@@ -166,24 +168,33 @@ fn the_traces_texts_and_images_are_on_the_page() {
     }
 }
 
+/// The blocks of the longer example.
+fn longer_blocks() -> Vec<BlockDetail> {
+    let (_, mut state) = set_up(LONGER);
+    let mut details = Vec::new();
+    for block in SAMPLES.chunks(2) {
+        let inputs = Inputs {
+            samples: &[block[0].0, block[1].0],
+            gains: &[block[0].1, block[1].1],
+            training: &[block[0].2, block[1].2],
+        };
+        let (detail, next) = work(&state, inputs).expect("an accepted block");
+        details.push(detail);
+        state = next;
+    }
+    details
+}
+
 #[test]
 fn the_longer_example_has_these_rows() {
     let page = page();
     assert_eq!(LONGER.m, LONGER.largest_m());
-    let (_, mut state) = set_up(LONGER);
-    for (at, block) in SAMPLES.chunks(2).enumerate() {
-        let list = |i: usize| block[i];
-        let inputs = Inputs {
-            samples: &[list(0).0, list(1).0],
-            gains: &[list(0).1, list(1).1],
-            training: &[list(0).2, list(1).2],
-        };
-        let (detail, next) = work(&state, inputs).expect("an accepted block");
+    for (at, detail) in longer_blocks().iter().enumerate() {
         for (i, sample) in detail.samples.iter().enumerate() {
-            let row = row(2 * at + i, block[i], &detail, sample);
+            let place = 2 * at + i;
+            let row = row(place, SAMPLES[place], detail, sample);
             assert!(page.contains(&row), "{row}");
         }
-        state = next;
     }
 }
 
@@ -447,6 +458,139 @@ fn the_changed_cables_are_turned_down_as_the_page_says() {
         let written = String::from_utf8(description(&other)).expect("a line");
         assert_eq!(format!("`{}`", written.trim_end()), line, "{change}");
         assert_eq!(trace(written.as_bytes()), "stop 8 0\n", "{change}");
+    }
+}
+
+/// A mantissa over a power of two, or the whole number that this is.
+fn quotient(mantissa: i32, places: i32) -> String {
+    let value = Dyadic::new(mantissa.into(), -places);
+    match value.is_whole() {
+        true => words([value.exactly()]),
+        false => format!("{} / 2^{places}", words([mantissa])),
+    }
+}
+
+/// The same with its first decimal place.
+fn with_decimal(mantissa: i32, places: i32) -> String {
+    let tenths = (10 * i128::from(mantissa)) >> places;
+    match quotient(mantissa, places) {
+        whole if !whole.contains('/') => whole,
+        text => format!("{text} = {}.{}…", tenths / 10, tenths % 10),
+    }
+}
+
+/// What is answered for lists, with the readings.
+fn answer_of(lists: &Lists) -> (String, Vec<Reading>) {
+    let mut lent = vec![Reading::default(); lists.readings];
+    let answer = match readings(&lists.handed(), &mut lent) {
+        Ok(Power::Mean(power)) => format!("a mean, {:016X}", power.to_bits()),
+        Ok(Power::Floor(power)) => format!("a floor, {:016X}", power.to_bits()),
+        Err(number) => number.to_string(),
+    };
+    (answer, lent)
+}
+
+#[test]
+fn the_readings_are_on_the_page() {
+    let part = part(&page(), "Readings for plots");
+    let lists = Lists::of(&worked_lists());
+    let (answer, lent) = answer_of(&lists);
+    for (n, sample) in [0, 1, 7].into_iter().enumerate() {
+        let (y, xi) = (lists.y[n], lists.xi[n]);
+        let (z, theta) = (lists.z[n], lists.theta[n]);
+        let d = &longer_blocks()[sample / 2].samples[sample % 2];
+        assert_eq!((y.into(), xi.into()), (d.y, d.xi));
+        assert_eq!((z.into(), theta.into()), (d.z, d.theta));
+        let [y_bits, error_bits] = lent[n].bits();
+        let a = magnitude(z, theta);
+        let cells = [
+            sample.to_string(),
+            pair(y, xi),
+            quotient(y, 30 - i32::from(xi)),
+            format!("{y_bits:016X}"),
+            pair(z, theta),
+            quotient(z, 30 - i32::from(theta)),
+            format!("{error_bits:016X}"),
+            with_decimal(z.abs(), 22 - i32::from(theta)),
+            a.to_string(),
+            (a * a).to_string(),
+        ];
+        let row = format!("| {} |\n", cells.join(" | "));
+        assert!(part.contains(&row), "{row}");
+    }
+    let sum: i128 = lists.handed().magnitudes().iter().map(|a| a * a).sum();
+    assert!(part.contains(&format!(
+        "The sum of a² is {sum}, and 65536·3 = {}.",
+        65_536 * 3
+    )));
+    let bits = answer.strip_prefix("a mean, ").expect("a mean");
+    assert!(part.contains(&format!("the nearest f64 is {bits}, a little below it.")));
+}
+
+#[test]
+fn the_digits_of_a_reading_are_as_the_page_says() {
+    let y = 300_937i64;
+    assert_eq!((y << 34).ilog2(), 52);
+    let digits = format!("{:013X}", (y << 34) - (1 << 52));
+    let field = 1023 + 18 - 26;
+    let said = format!(
+        "its exponent field is 1023 − 8 = {field}, {field:X}, and behind the leading one \
+         come the digits of {y}·2^34 − 2^52, {digits}."
+    );
+    assert!(page().contains(&said), "{said}");
+    let (_, lent) = answer_of(&Lists::of(&worked_lists()));
+    let bits = format!("{:016X}", lent[1].y.to_bits());
+    assert_eq!(bits, format!("{field:X}{digits}"));
+}
+
+/// What the page changes in the worked lists: its words, and the change.
+type Change = (&'static str, fn(&mut Lists));
+
+const CHANGES: [Change; 10] = [
+    (
+        "Z, θ of sample 7 are −65535, 22: 256 times the magnitude is 65535",
+        |lists| (lists.z[2], lists.theta[2]) = (-65_535, 22),
+    ),
+    ("Z, θ of sample 7 are −65536, 22: 65536 is cut", |lists| {
+        (lists.z[2], lists.theta[2]) = (-65_536, 22)
+    }),
+    (
+        "Z, θ of sample 7 are −1073741823, 24: an error of nearly −2^24, cut",
+        |lists| (lists.z[2], lists.theta[2]) = (-1_073_741_823, 24),
+    ),
+    ("every Z is 0", |lists| lists.z.fill(0)),
+    ("ξ of sample 0 is 0, though its Y is 0", |lists| {
+        lists.xi[0] = 0;
+    }),
+    ("θ of sample 7 is 25", |lists| lists.theta[2] = 25),
+    ("Y of sample 1 is −536870912", |lists| {
+        lists.y[1] = -536_870_912;
+    }),
+    ("Z of sample 1 is 1073741824", |lists| {
+        lists.z[1] = 1_073_741_824;
+    }),
+    ("two readings are lent", |lists| lists.readings = 2),
+    ("all five lists are empty", |lists| {
+        *lists = Lists::default();
+    }),
+];
+
+#[test]
+fn the_changed_lists_are_answered_as_the_page_says() {
+    let part = part(&page(), "Readings for plots");
+    let rows = part.split("| change | answer |").nth(1).expect("a table");
+    assert_eq!(
+        rows.lines().filter(|line| line.starts_with("| ")).count(),
+        10
+    );
+    for (change, apply) in CHANGES {
+        let mut lists = Lists::of(&worked_lists());
+        apply(&mut lists);
+        let row = format!("| {change} | {}", answer_of(&lists).0);
+        assert!(
+            rows.contains(&format!("{row} |\n")) || rows.contains(&format!("{row} (")),
+            "{row}"
+        );
     }
 }
 
