@@ -20,8 +20,8 @@
 
 /* Of this interface. A larger minor number only adds to it. */
 #define TIGBULODE_LABORATORY_VERSION_MAJOR 0
-#define TIGBULODE_LABORATORY_VERSION_MINOR 1
-#define TIGBULODE_LABORATORY_VERSION "0.1"
+#define TIGBULODE_LABORATORY_VERSION_MINOR 2
+#define TIGBULODE_LABORATORY_VERSION "0.2"
 
 /* A number is to be looked at: GCC and Clang warn where it is not. */
 #ifdef __GNUC__

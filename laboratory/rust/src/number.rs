@@ -7,6 +7,8 @@ pub const SIZES: u8 = 1;
 pub const STEP: u8 = 2;
 /// The cable can't be simulated.
 pub const CABLE: u8 = 10;
+/// The lists can't be read as a block's outputs.
+pub const READINGS: u8 = 11;
 
 /// What a number says, in words.
 pub fn number_text(number: u8) -> &'static str {
@@ -15,6 +17,7 @@ pub fn number_text(number: u8) -> &'static str {
         SIZES => "a size is outside its limits",
         STEP => "M is not admitted with these sizes",
         CABLE => "the cable can't be simulated",
+        READINGS => "the lists can't be read as a block's outputs",
         _ => "no number of the laboratory",
     }
 }
