@@ -1,9 +1,11 @@
 //! The library in Rust, against the second implementation's vectors and the
 //! header.
 
-use reference::vectors::{cable_vectors, CableVector};
-use tigbulode_laboratory::{cable, number, trace_length, Cable};
+use reference::vectors::{cable_vectors, readings_vectors, CableVector, ReadingsVector};
+use tigbulode_laboratory::{cable, number, readings, trace_length, Cable, Power, Reading};
 use tigbulode_laboratory::{HEADER_BYTES, MOST_RESPONSE, MOST_SYMBOLS, MOST_TRACE, VERSION};
+use tigbulode_laboratory::{LEAST_READING_EXPONENT, MOST_READING_EXPONENT};
+use tigbulode_laboratory::{MOST_READINGS, MOST_Y, MOST_Z};
 
 const HEADER: &str = include_str!("../../tigbulode_laboratory.h");
 const SENTINEL: u8 = 0x55;
@@ -95,6 +97,98 @@ fn the_longest_trace() {
     assert_eq!(with(&[]), number::CABLE);
 }
 
+/// What the readings hold before a call.
+const UNREAD: Reading = Reading {
+    y: 0.7,
+    error: -0.7,
+};
+
+fn bits(reading: &Reading) -> [u64; 2] {
+    [reading.y.to_bits(), reading.error.to_bits()]
+}
+
+/// The number, whether the power is a floor and its bits, and the bits of the
+/// readings with those around what was lent.
+type Read = (u8, bool, u64, Vec<[u64; 2]>);
+
+fn read(vector: &ReadingsVector) -> Read {
+    let lists = &vector.lists;
+    let mut room = vec![UNREAD; lists.readings + 2 * AROUND];
+    let lent = &mut room[AROUND..AROUND + lists.readings];
+    let answer = readings(&lists.y, &lists.xi, &lists.z, &lists.theta, lent);
+    let power = answer.map_or(0, |power| power.value().to_bits());
+    (
+        answer.err().unwrap_or(number::ACCEPTED),
+        answer.is_ok_and(Power::is_floor),
+        power,
+        room.iter().map(bits).collect(),
+    )
+}
+
+/// What a vector asks for.
+fn expected_readings(vector: &ReadingsVector) -> Read {
+    let mut room = vec![bits(&UNREAD); vector.lists.readings + 2 * AROUND];
+    room[AROUND..][..vector.readings.len()].copy_from_slice(&vector.readings);
+    (vector.number, vector.is_floor, vector.power, room)
+}
+
+#[test]
+fn every_reading_is_as_the_second_implementation_has_it() {
+    for vector in readings_vectors() {
+        let read = read(&vector);
+        let mut wanted = expected_readings(&vector);
+        assert_eq!(read, wanted, "{}", vector.about);
+        let place = wanted.3.len() / 2;
+        wanted.3[place][1] ^= 1;
+        assert_ne!(read, wanted);
+    }
+}
+
+#[test]
+fn a_mean_and_a_floor() {
+    let power = |z: i32| readings(&[0], &[1], &[z], &[22], &mut [UNREAD]);
+    let value = 65535.0 * 65535.0 / 65536.0;
+    let (mean, floor) = (power(-65_535).unwrap(), power(-65_536).unwrap());
+    assert_eq!((mean, floor), (Power::Mean(value), Power::Floor(value)));
+    assert_eq!((mean.value(), floor.value()), (value, value));
+    assert_eq!((mean.is_floor(), floor.is_floor()), (false, true));
+}
+
+#[test]
+fn lists_outside_their_limits() {
+    let with = |y, xi, z, theta| readings(&[y], &[xi], &[z], &[theta], &mut [UNREAD]).err();
+    let (least, most) = (LEAST_READING_EXPONENT, MOST_READING_EXPONENT);
+    assert_eq!(with(MOST_Y, least, -MOST_Z, most), None);
+    assert_eq!(with(-MOST_Y, most, MOST_Z, least), None);
+    for (y, z) in [
+        (MOST_Y + 1, 0),
+        (-MOST_Y - 1, 0),
+        (0, MOST_Z + 1),
+        (0, -MOST_Z - 1),
+    ] {
+        assert_eq!(with(y, least, z, least), Some(number::READINGS));
+    }
+    for (xi, theta) in [
+        (least - 1, least),
+        (most + 1, least),
+        (least, least - 1),
+        (least, most + 1),
+    ] {
+        assert_eq!(with(0, xi, 0, theta), Some(number::READINGS));
+    }
+    let long = |n: usize| {
+        readings(
+            &vec![0; n],
+            &vec![1; n],
+            &vec![0; n],
+            &vec![1; n],
+            &mut vec![UNREAD; n],
+        )
+    };
+    assert_eq!(long(MOST_READINGS), Ok(Power::Mean(0.0)));
+    assert_eq!(long(MOST_READINGS + 1), Err(number::READINGS));
+}
+
 #[test]
 fn the_header_has_the_same_version_and_limits() {
     let has = |text: &str| assert!(HEADER.contains(text), "the header lacks {text}");
@@ -109,5 +203,12 @@ fn the_header_has_the_same_version_and_limits() {
     has(&format!("TIGBULODE_MOST_TRACE = {MOST_TRACE} "));
     has(&format!("TIGBULODE_MOST_SYMBOLS = {MOST_SYMBOLS} "));
     has(&format!("TIGBULODE_TRACE_HEADER_BYTES = {HEADER_BYTES},"));
-    has(&format!("TIGBULODE_CABLE = {} ", number::CABLE));
+    has(&format!("TIGBULODE_CABLE = {}, ", number::CABLE));
+    has(&format!("TIGBULODE_READINGS = {} ", number::READINGS));
+    has(&format!("TIGBULODE_MOST_READINGS = {MOST_READINGS}, "));
+    let (least, most) = (LEAST_READING_EXPONENT, MOST_READING_EXPONENT);
+    has(&format!("TIGBULODE_LEAST_READING_EXPONENT = {least}, "));
+    has(&format!("TIGBULODE_MOST_READING_EXPONENT = {most},\n"));
+    has(&format!("TIGBULODE_MOST_Y = {MOST_Y}, "));
+    has(&format!("TIGBULODE_MOST_Z = {MOST_Z} "));
 }

@@ -2,9 +2,11 @@
 //! what is stored.
 
 use reference::cable::{cable, Cable};
-use reference::vectors::{cable_vectors, description_vectors};
-use reference::Settings;
+use reference::readings::{readings, Handed, Power, Reading};
+use reference::vectors::{cable_vectors, description_vectors, readings_vectors, ReadingsVector};
+use reference::{run, set_up, Inputs, Outputs, Settings};
 use tigbulode_laboratory::{number_text, trace_length, MOST_RESPONSE, MOST_SYMBOLS, VERSION};
+use tigbulode_laboratory::{MOST_READINGS, MOST_Y, MOST_Z};
 
 /// The trace of the second implementation, with its number.
 fn simulated(cable_: &Cable) -> (u8, Vec<u8>) {
@@ -34,6 +36,43 @@ fn the_cables() {
     text += &format!("changed expectations told apart: {changes} of {changes}\n");
     text += "no difference\n";
     assert_eq!(text, include_str!("../../cables.out"));
+}
+
+/// How many changed expectations readings.c has for a vector: another number,
+/// another sort of power, two other powers, a bit on either side of the
+/// readings, two in them, and a bit of each list that has one.
+fn changes_of_readings(vector: &ReadingsVector) -> usize {
+    let lists = &vector.lists;
+    let two = 2 * usize::from(lists.readings > 0);
+    let lengths = [
+        lists.y.len(),
+        lists.xi.len(),
+        lists.z.len(),
+        lists.theta.len(),
+    ];
+    6 + two + lengths.iter().filter(|&&length| length > 0).count()
+}
+
+#[test]
+fn the_readings() {
+    let blocks = readings_vectors();
+    let good: Vec<_> = blocks.iter().filter(|block| block.number == 0).collect();
+    let floors = good.iter().filter(|block| block.is_floor).count();
+    let read: Vec<_> = good.iter().flat_map(|block| &block.readings).collect();
+    let zero = |part: usize| read.iter().filter(|bits| bits[part] == 0).count();
+    let (all, accepted) = (blocks.len(), good.len());
+    let changes: usize = blocks.iter().map(changes_of_readings).sum();
+    let text = format!(
+        "blocks {all}: accepted {accepted}, turned down {}\nmeans {}, floors {floors}\n\
+         readings {}: zero in y {}, in the error {}\n\
+         changed expectations told apart: {changes} of {changes}\nno difference\n",
+        all - accepted,
+        accepted - floors,
+        read.len(),
+        zero(0),
+        zero(1)
+    );
+    assert_eq!(text, include_str!("../../readings.out"));
 }
 
 #[test]

@@ -1,0 +1,222 @@
+/* Gives the readings of every block of a file that the second implementation made and compares: `readings FILE`. The number,
+ * whether the power is a floor, every bit of the power and of each reading, what lies around the readings, and the lists,
+ * which stay; lists that are turned down leave everything as it was. Each answer is also compared with changed
+ * expectations, which must be told apart. Exit status 1: a difference, with its place; 2: no such file, or one that breaks
+ * off. */
+#include "arguments.h"
+#include "tigbulode_laboratory.h"
+
+#include <stdbool.h>
+
+enum {
+    SENTINEL = 0x55,
+    AROUND = 4, /* readings */
+    MOST_FILE = 1 << 20,
+    MOST_VALUES = UINT16_MAX,
+    LENGTHS = 10 /* bytes before the lists */
+};
+
+/* What a call reads and writes, each list with room for its own length. */
+typedef struct {
+    int32_t y[MOST_VALUES], z[MOST_VALUES];
+    uint8_t xi[MOST_VALUES], theta[MOST_VALUES];
+    tigbulode_reading readings[AROUND + MOST_VALUES + AROUND];
+} lists;
+
+/* The lengths of the lists, and what is expected. */
+typedef struct {
+    size_t y, xi, z, theta, readings;
+    size_t bytes; /* of the whole record in the file */
+    tigbulode_power answer;
+} block;
+
+/* The file's bytes; what is lent of them, and what that is to be after the call. */
+static uint8_t file[MOST_FILE];
+static size_t file_length;
+static lists lent, after;
+
+static tigbulode_power call(const block *b) {
+    memset(lent.readings, SENTINEL, (b->readings + 2 * AROUND) * sizeof *lent.readings);
+    return tigbulode_readings(lent.y, b->y, lent.xi, b->xi, lent.z, b->z, lent.theta, b->theta,
+                              lent.readings + AROUND, b->readings);
+}
+
+/* What is wrong with the outcome of a call, or NULL. */
+static const char *differs(const block *b, tigbulode_power answer) {
+    if (answer.number != b->answer.number) return "another answer";
+    if (answer.is_floor != b->answer.is_floor) return "a floor for a mean, or a mean for a floor";
+    if (memcmp(&answer.power, &b->answer.power, sizeof answer.power) != 0) return "another power";
+    if (memcmp(lent.readings, after.readings, (b->readings + 2 * AROUND) * sizeof *lent.readings) != 0)
+        return "another reading, or what is around them";
+    if (memcmp(lent.y, after.y, b->y * sizeof *lent.y) != 0) return "Y is changed";
+    if (memcmp(lent.xi, after.xi, b->xi) != 0) return "xi is changed";
+    if (memcmp(lent.z, after.z, b->z * sizeof *lent.z) != 0) return "Z is changed";
+    if (memcmp(lent.theta, after.theta, b->theta) != 0) return "theta is changed";
+    return NULL;
+}
+
+/* Changed expectations, which must be told apart. */
+static unsigned tried, told;
+
+static void try_changed(const block *b, tigbulode_power answer) {
+    tried++;
+    told += differs(b, answer) != NULL;
+}
+
+/* One bit changed of so many bytes. */
+static void try_other_bit(const block *b, tigbulode_power answer, void *bytes, size_t length, size_t bit) {
+    if (length == 0) return;
+    uint8_t *byte = (uint8_t *)bytes + bit / 8 % length;
+    *byte ^= (uint8_t)(1 << bit % 8);
+    try_changed(b, answer);
+    *byte ^= (uint8_t)(1 << bit % 8);
+}
+
+static void try_other_answers(block b, tigbulode_power answer, size_t place) {
+    b.answer.number ^= TIGBULODE_READINGS;
+    try_changed(&b, answer);
+    b.answer.number ^= TIGBULODE_READINGS;
+    b.answer.is_floor ^= 1;
+    try_changed(&b, answer);
+    b.answer.is_floor ^= 1;
+    try_other_bit(&b, answer, &b.answer.power, sizeof b.answer.power, place);
+    try_other_bit(&b, answer, &b.answer.power, sizeof b.answer.power, 63);
+}
+
+/* A bit of what is around the readings, of the readings, of one reading's sign, and of each list. */
+static void try_other_lists(const block *b, tigbulode_power answer, size_t place) {
+    const size_t around = AROUND * sizeof *after.readings, bytes = b->readings * sizeof *after.readings;
+    tigbulode_reading *first = after.readings + AROUND;
+    try_other_bit(b, answer, after.readings, around, place);
+    try_other_bit(b, answer, first, bytes, 7919 * place);
+    try_other_bit(b, answer, first, bytes, 64 * place + 63);
+    try_other_bit(b, answer, first + b->readings, around, place);
+    try_other_bit(b, answer, after.y, b->y * sizeof *after.y, place);
+    try_other_bit(b, answer, after.xi, b->xi, place);
+    try_other_bit(b, answer, after.z, b->z * sizeof *after.z, place);
+    try_other_bit(b, answer, after.theta, b->theta, place);
+}
+
+static uint64_t number_at(size_t place, int bytes) {
+    uint64_t number = 0;
+    for (int i = 0; i < bytes; i++) number |= (uint64_t)file[place + i] << 8 * i;
+    return number;
+}
+
+/* Ends where the file has fewer bytes left than a record needs. */
+static void need(size_t place, size_t bytes) {
+    if (bytes <= file_length - place) return;
+    fprintf(stderr, "readings: the file breaks off at byte %zu\n", file_length);
+    exit(2);
+}
+
+static double double_at(size_t place) {
+    const uint64_t bits = number_at(place, 8);
+    double number;
+    memcpy(&number, &bits, sizeof number);
+    return number;
+}
+
+static size_t take_mantissas(int32_t *list, size_t length, size_t place) {
+    for (size_t i = 0; i < length; i++) list[i] = (int32_t)number_at(place + 4 * i, 4);
+    return place + 4 * length;
+}
+
+static size_t take_exponents(uint8_t *list, size_t length, size_t place) {
+    memcpy(list, file + place, length);
+    return place + length;
+}
+
+/* The four lists at a place of the file, to lend or to compare. */
+static void take_lists(lists *l, const block *b, size_t place) {
+    place = take_mantissas(l->y, b->y, place);
+    place = take_exponents(l->xi, b->xi, place);
+    place = take_mantissas(l->z, b->z, place);
+    take_exponents(l->theta, b->theta, place);
+}
+
+/* What the readings hold after the call: those at a place of the file, or what they held. */
+static void expect_readings(const block *b, size_t place) {
+    memset(after.readings, SENTINEL, (b->readings + 2 * AROUND) * sizeof *after.readings);
+    if (b->answer.number != TIGBULODE_LABORATORY_ACCEPTED) return;
+    for (size_t i = 0; i < b->readings; i++, place += 16) {
+        after.readings[AROUND + i].y = double_at(place);
+        after.readings[AROUND + i].error = double_at(place + 8);
+    }
+}
+
+/* The block at a place of the file: five lengths, four lists, the number, and after 0 whether it is a floor, the power and the
+ * readings. */
+static block block_at(size_t place) {
+    block b = {0};
+    need(place, LENGTHS);
+    b.y = number_at(place, 2), b.xi = number_at(place + 2, 2), b.z = number_at(place + 4, 2);
+    b.theta = number_at(place + 6, 2), b.readings = number_at(place + 8, 2);
+    const size_t end = LENGTHS + 4 * b.y + b.xi + 4 * b.z + b.theta;
+    need(place, end + 1);
+    take_lists(&lent, &b, place + LENGTHS);
+    take_lists(&after, &b, place + LENGTHS);
+    b.answer.number = file[place + end];
+    const bool accepted = b.answer.number == TIGBULODE_LABORATORY_ACCEPTED;
+    b.bytes = end + 1 + (accepted ? 9 + 16 * b.readings : 0);
+    need(place, b.bytes);
+    if (accepted) b.answer.is_floor = file[place + end + 1], b.answer.power = double_at(place + end + 2);
+    expect_readings(&b, place + end + 10);
+    return b;
+}
+
+/* Blocks that were accepted, those of them with a floor, their readings, and the zeros among these. */
+typedef struct {
+    unsigned count, accepted, floors, readings, zero_y, zero_error;
+} counts;
+
+static void count(counts *c, const block *b) {
+    c->count++;
+    if (b->answer.number != TIGBULODE_LABORATORY_ACCEPTED) return;
+    c->accepted++;
+    c->floors += b->answer.is_floor;
+    c->readings += (unsigned)b->readings;
+    for (size_t i = 0; i < b->readings; i++) {
+        c->zero_y += lent.readings[AROUND + i].y == 0;
+        c->zero_error += lent.readings[AROUND + i].error == 0;
+    }
+}
+
+static void print_counts(const counts *c) {
+    printf("blocks %u: accepted %u, turned down %u\n", c->count, c->accepted, c->count - c->accepted);
+    printf("means %u, floors %u\n", c->accepted - c->floors, c->floors);
+    printf("readings %u: zero in y %u, in the error %u\n", c->readings, c->zero_y, c->zero_error);
+}
+
+/* Reads and compares a block; gives what is wrong, or NULL. */
+static const char *compare(const block *b, unsigned place) {
+    if (b->answer.number != TIGBULODE_LABORATORY_ACCEPTED && b->answer.number != TIGBULODE_READINGS)
+        return "no number of readings";
+    const tigbulode_power answer = call(b);
+    const char *difference = differs(b, answer);
+    if (difference != NULL) return difference;
+    try_other_answers(*b, answer, place);
+    try_other_lists(b, answer, place);
+    return NULL;
+}
+
+int main(int argc, char **argv) {
+    counts c = {0};
+    take_arguments(argc, argv, 1, "readings FILE: the readings of every block of a file such as laboratory/readings.bin");
+    file_length = read_whole("readings", argv[1], file, sizeof file);
+    for (size_t place = 0; place < file_length;) {
+        const block b = block_at(place);
+        const char *difference = compare(&b, c.count);
+        if (difference != NULL) {
+            printf("block %u at byte %zu: %s\n", c.count, place, difference);
+            return 1;
+        }
+        count(&c, &b);
+        place += b.bytes;
+    }
+    print_counts(&c);
+    printf("changed expectations told apart: %u of %u\n", told, tried);
+    if (told != tried) return 1;
+    printf("no difference\n");
+    return 0;
+}
