@@ -114,10 +114,60 @@ fn first_program() -> String {
     text
 }
 
+/// The readings and the error power of what a block handed out.
+fn read(outputs: &Outputs) -> (Vec<Reading>, Power) {
+    let mut lent = vec![Reading::default(); outputs.y.len()];
+    let handed = Handed {
+        y: &outputs.y,
+        xi: &outputs.xi,
+        z: &outputs.z,
+        theta: &outputs.theta,
+    };
+    let power = readings(&handed, &mut lent).unwrap();
+    (lent, power)
+}
+
+fn sort(power: Power) -> &'static str {
+    match power {
+        Power::Mean(_) => "mean",
+        Power::Floor(_) => "floor",
+    }
+}
+
+/// What the program with readings prints.
+fn plot_program() -> String {
+    let settings = Settings {
+        p: 1,
+        q: 1,
+        n: 2,
+        r: 0,
+        l: 0,
+        m: 0,
+    };
+    let (_, mut state) = set_up(settings.with_m(settings.largest_m()));
+    let block = Inputs {
+        samples: &[0x4000, 0x4000],
+        gains: &[0, 0],
+        training: &[1, 0],
+    };
+    let mut outputs = Outputs::zeros(2);
+    assert_eq!(run(&mut state, block, &mut outputs), 0);
+    let (lent, power) = read(&outputs);
+    let (value, sort) = (power.value(), sort(power));
+    let mut text = format!("accepted: error power {value}, a {sort}\n");
+    for reading in lent {
+        text += &format!("{} {}\n", reading.y, reading.error);
+    }
+    text
+}
+
 #[test]
-fn the_first_program() {
-    let in_c_and_cpp_and_rust = first_program().repeat(3);
-    assert_eq!(in_c_and_cpp_and_rust, include_str!("../../first.out"));
+fn the_first_programs() {
+    let in_c_and_cpp_and_rust = [first_program(), plot_program()].map(|text| text.repeat(3));
+    assert_eq!(
+        in_c_and_cpp_and_rust.concat(),
+        include_str!("../../first.out")
+    );
 }
 
 /// The generator of the C programs.
