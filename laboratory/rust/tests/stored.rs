@@ -184,8 +184,50 @@ impl Numbers {
     }
 }
 
+/// What each block of a trace hands out.
+fn run_blocks(settings: Settings, trace: &[u8]) -> Vec<Outputs> {
+    let n = usize::from(settings.n);
+    let (_, mut state) = set_up(settings);
+    let (samples, entries) = trace[12..].split_at((trace.len() - 12) / 4 * 3);
+    let blocks = samples.chunks(3 * n).zip(entries.chunks(n));
+    let outputs = blocks.map(|(samples, entries)| {
+        let samples = samples.chunks(3);
+        let (m, gains): (Vec<i16>, Vec<u8>) = samples
+            .map(|s| (i16::from_le_bytes([s[0], s[1]]), s[2]))
+            .unzip();
+        let entries: Vec<i8> = entries.iter().map(|&entry| entry as i8).collect();
+        let block = Inputs {
+            samples: &m,
+            gains: &gains,
+            training: &entries,
+        };
+        let mut outputs = Outputs::zeros(n);
+        assert_eq!(run(&mut state, block, &mut outputs), 0);
+        outputs
+    });
+    outputs.collect()
+}
+
+/// What both.c prints of a part of the run, with the symbols that were sent.
+fn part_of_run(name: &str, blocks: &[Outputs], symbols: &[i8]) -> String {
+    let decisions = blocks.iter().flat_map(|block| &block.decision);
+    let pairs = decisions.zip(symbols);
+    let wrong = pairs.filter(|(decision, symbol)| decision != symbol);
+    let mut text = format!(
+        "{name}: {} symbols, accepted; wrong decisions {}\n",
+        symbols.len(),
+        wrong.count()
+    );
+    for (place, block) in [("first", 0), ("last", blocks.len() - 1)] {
+        let (_, power) = read(&blocks[block]);
+        let (value, sort) = (power.value(), sort(power));
+        text += &format!("  error power of the {place} block: accepted, {sort} {value:.12}\n");
+    }
+    text
+}
+
 #[test]
-fn a_cable_and_a_station() {
+fn a_cable_a_station_and_its_error_power() {
     const SYMBOLS: usize = 16 * 256;
     let mut numbers = Numbers(2026);
     let symbol = |_| 2 * (numbers.next() >> 30) as i8 - 3;
@@ -198,28 +240,21 @@ fn a_cable_and_a_station() {
         l: 0,
         m: 0,
     };
+    let settings = settings.with_m(settings.largest_m() / 2);
     let (number, trace) = simulated(&Cable {
-        settings: settings.with_m(settings.largest_m() / 2),
+        settings,
         response: &[16000, -3500, 1700, -600],
         symbols: &symbols,
         training: SYMBOLS / 2,
     });
-    let text = reference::trace(&trace);
-    let decisions = text.lines().map(|line| line.split(' ').next_back());
-    let decisions: Vec<i8> = decisions
-        .map(|word| word.unwrap().parse().unwrap())
-        .collect();
-    let wrong = |range: std::ops::Range<usize>| {
-        let pairs = decisions[range.clone()].iter().zip(&symbols[range]);
-        pairs
-            .filter(|(decision, symbol)| decision != symbol)
-            .count()
-    };
-    let (trained, decided) = (wrong(0..SYMBOLS / 2), wrong(SYMBOLS / 2..SYMBOLS));
+    let blocks = run_blocks(settings, &trace);
+    let (trained, decided) = blocks.split_at(blocks.len() / 2);
+    let (known, unknown) = symbols.split_at(SYMBOLS / 2);
     let text = format!(
-        "cable: {}\ntrained: 2048 symbols, accepted; wrong decisions {trained}\n\
-         decided: 2048 symbols, accepted; wrong decisions {decided}\n",
-        number_text(number)
+        "cable: {}\n{}{}",
+        number_text(number),
+        part_of_run("trained", trained, known),
+        part_of_run("decided", decided, unknown)
     );
     assert_eq!(text, include_str!("../../both.out"));
 }
