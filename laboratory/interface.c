@@ -1,10 +1,10 @@
-/* Tries what tigbulode_laboratory.h has in plain C beside its function, against that: `interface`. This file is C99, C11 and
+/* Tries what tigbulode_laboratory.h has in plain C beside its functions, against those: `interface`. This file is C99, C11 and
  * C++98 at once. Exit status 1: a difference, or a change that was not told apart. */
 #include "arguments.h"
 #include "expected.h"
 #include "tigbulode_laboratory.h"
 
-enum { FEW = 200, CABLES = 500, ROOM = TIGBULODE_MOST_TRACE + 16 };
+enum { FEW = 200, CABLES = 500, BLOCKS = 500, ROOM = TIGBULODE_MOST_TRACE + 16, MOST = TIGBULODE_MOST_READINGS };
 
 static const int16_t quiet[TIGBULODE_MOST_RESPONSE + 1] = {100, -20, 3};
 static int8_t ones[TIGBULODE_MOST_SYMBOLS + 1];
@@ -12,7 +12,7 @@ static uint8_t trace[ROOM], other[ROOM];
 
 static void try_number_texts(void) {
     int number;
-    for (number = 0; number <= 11; number++)
+    for (number = 0; number <= 12; number++)
         printf("number %d: %s\n", number, tigbulode_laboratory_number_text((uint8_t)number));
 }
 
@@ -133,6 +133,136 @@ static void try_left_out(void) {
     printf("lists left out: %u, each turned down with %d\n", list, TIGBULODE_CABLE);
 }
 
+/* What a block hands out, and two rooms for its readings. */
+static int32_t y[MOST + 1], z[MOST + 1];
+static uint8_t xi[MOST + 1], theta[MOST + 1];
+static tigbulode_reading readings[MOST + 1], others[MOST + 1];
+
+static tigbulode_outputs outputs_of(size_t length) {
+    tigbulode_outputs o;
+    o.length = length;
+    o.y = y, o.xi = xi, o.z = z, o.theta = theta;
+    o.readings = readings;
+    return o;
+}
+
+/* Whether a sample with this output and error can be read. */
+static int is_read(int32_t big_y, int e, int32_t big_z, int f) {
+    const tigbulode_outputs o = outputs_of(1);
+    y[0] = big_y, xi[0] = (uint8_t)e, z[0] = big_z, theta[0] = (uint8_t)f;
+    return tigbulode_readings_of(&o).number == TIGBULODE_LABORATORY_ACCEPTED;
+}
+
+static void try_exponents(void) {
+    int e;
+    for (e = 0; e <= 255; e++) {
+        const int within = e >= TIGBULODE_LEAST_READING_EXPONENT && e <= TIGBULODE_MOST_READING_EXPONENT;
+        expect(is_read(1, e, 1, 1) == within, "xi", (unsigned)e);
+        expect(is_read(1, 1, 1, e) == within, "theta", (unsigned)e);
+    }
+    printf("xi and theta: %d to %d accepted, the others to 255 turned down\n", TIGBULODE_LEAST_READING_EXPONENT,
+           TIGBULODE_MOST_READING_EXPONENT);
+}
+
+static void try_mantissas(void) {
+    const int32_t most_y = TIGBULODE_MOST_Y, most_z = TIGBULODE_MOST_Z;
+    expect(is_read(most_y, 24, most_z, 24), "positive mantissas", 0);
+    expect(is_read(-most_y, 24, -most_z, 24), "negative mantissas", 0);
+    try_changed(is_read(most_y + 1, 24, 0, 24));
+    try_changed(is_read(-most_y - 1, 24, 0, 24));
+    try_changed(is_read(0, 24, most_z + 1, 24));
+    try_changed(is_read(0, 24, -most_z - 1, 24));
+    printf("magnitudes: Y to %d, Z to %d\n", TIGBULODE_MOST_Y, TIGBULODE_MOST_Z);
+}
+
+static void try_reading_lengths(void) {
+    size_t length;
+    memset(xi, 1, sizeof xi);
+    memset(theta, 1, sizeof theta);
+    memset(y, 0, sizeof y);
+    memset(z, 0, sizeof z);
+    for (length = 0; length <= MOST + 1; length++) {
+        const tigbulode_outputs o = outputs_of(length);
+        const int within = length >= 1 && length <= MOST;
+        expect(tigbulode_readings_of(&o).number == (within ? 0 : TIGBULODE_READINGS), "length", (unsigned)length);
+    }
+    printf("lengths of readings: 1 to %d accepted, 0 and %d turned down\n", MOST, MOST + 1);
+}
+
+/* Every fourth block has an exponent that can't be read. */
+static tigbulode_outputs any_outputs(uint32_t *random) {
+    const tigbulode_outputs o = outputs_of(1 + any_number(random) % MOST);
+    size_t i;
+    for (i = 0; i < o.length; i++) {
+        y[i] = ((int32_t)(any_number(random) % 16777215) - 8388607) * 64;
+        xi[i] = (uint8_t)(1 + any_number(random) % 24);
+        z[i] = ((int32_t)(any_number(random) % 16777215) - 8388607) * 128;
+        theta[i] = (uint8_t)(1 + any_number(random) % 24);
+    }
+    if (any_number(random) % 4 == 0) theta[any_number(random) % o.length] = 25;
+    return o;
+}
+
+/* Whether readings_of leaves the same answer and readings as the plain call on other outputs. */
+static int same_readings(const tigbulode_outputs *o, tigbulode_outputs p) {
+    tigbulode_power one, two;
+    memset(readings, 0x55, sizeof readings);
+    memset(others, 0x55, sizeof others);
+    p.readings = others;
+    one = tigbulode_readings(o->y, o->length, o->xi, o->length, o->z, o->length, o->theta, o->length, readings, o->length);
+    two = tigbulode_readings_of(&p);
+    return one.number == two.number && one.is_floor == two.is_floor &&
+           memcmp(&one.power, &two.power, sizeof one.power) == 0 && memcmp(readings, others, sizeof readings) == 0;
+}
+
+static unsigned try_outputs(const tigbulode_outputs *o, unsigned place) {
+    tigbulode_outputs p = *o;
+    expect(same_readings(o, p), "both calls of readings", place);
+    if (tigbulode_readings_of(o).number != TIGBULODE_LABORATORY_ACCEPTED) return 0;
+    p.length--;
+    try_changed(same_readings(o, p));
+    p.length++, p.y = o->z, p.z = o->y;
+    try_changed(same_readings(o, p));
+    return 1;
+}
+
+static void try_blocks(void) {
+    uint32_t random = 2026;
+    unsigned i, accepted = 0;
+    for (i = 0; i < BLOCKS; i++) {
+        const tigbulode_outputs o = any_outputs(&random);
+        accepted += try_outputs(&o, i);
+    }
+    printf("blocks: %u by both calls, %u accepted\n", i, accepted);
+}
+
+static void leave_out(tigbulode_outputs *o, unsigned list) {
+    if (list == 0) o->y = NULL;
+    if (list == 1) o->xi = NULL;
+    if (list == 2) o->z = NULL;
+    if (list == 3) o->theta = NULL;
+    if (list == 4) o->readings = NULL;
+}
+
+/* Readings without one of the five lists, and then with all of them. */
+static void try_readings_left_out(void) {
+    unsigned list;
+    for (list = 0; list <= 5; list++) {
+        const uint8_t number = list < 5 ? TIGBULODE_READINGS : TIGBULODE_LABORATORY_ACCEPTED;
+        tigbulode_outputs o = outputs_of(2);
+        tigbulode_power p;
+        memset(xi, 1, sizeof xi);
+        memset(theta, 1, sizeof theta);
+        memset(readings, 0x55, sizeof readings);
+        memset(others, 0x55, sizeof others);
+        leave_out(&o, list);
+        p = tigbulode_readings_of(&o);
+        expect(p.number == number && p.is_floor == 0, "readings without list", list);
+        expect((memcmp(readings, others, sizeof readings) == 0) == (list < 5), "readings lent without list", list);
+    }
+    printf("lists of readings left out: 5, each turned down with %d\n", TIGBULODE_READINGS);
+}
+
 int main(int argc, char **argv) {
     take_arguments(argc, argv, 0, "interface, without arguments: tries the plain C of tigbulode_laboratory.h");
     memset(ones, 1, sizeof ones);
@@ -142,6 +272,11 @@ int main(int argc, char **argv) {
     try_response_lengths();
     try_cables();
     try_left_out();
+    try_exponents();
+    try_mantissas();
+    try_reading_lengths();
+    try_blocks();
+    try_readings_left_out();
     printf("changed expectations told apart: %u of %u\n", told, changes);
     printf("differences: %u\n", differences);
     return differences == 0 && told == changes ? EXIT_SUCCESS : EXIT_FAILURE;

@@ -282,10 +282,45 @@ fn any_cable(numbers: &mut Numbers) -> (bool, bool) {
     (number == 0, p != q)
 }
 
+/// Whether random outputs of interface.c are accepted.
+fn any_outputs(numbers: &mut Numbers) -> bool {
+    let length = 1 + numbers.below(MOST_READINGS as u32) as usize;
+    let mut outputs = Outputs::zeros(length);
+    for n in 0..length {
+        outputs.y[n] = (numbers.below(16_777_215) as i32 - 8_388_607) * 64;
+        outputs.xi[n] = 1 + numbers.below(24) as u8;
+        outputs.z[n] = (numbers.below(16_777_215) as i32 - 8_388_607) * 128;
+        outputs.theta[n] = 1 + numbers.below(24) as u8;
+    }
+    let spoiled = numbers.below(4) == 0;
+    if spoiled {
+        outputs.theta[numbers.below(length as u32) as usize] = 25;
+    } else {
+        read(&outputs);
+    }
+    !spoiled
+}
+
+/// The lines of interface.c about readings, and how many blocks are accepted.
+fn about_readings() -> (String, usize) {
+    let mut numbers = Numbers(2026);
+    let blocks = (0..500).filter(|_| any_outputs(&mut numbers));
+    let accepted = blocks.count();
+    let (most, more) = (MOST_READINGS, MOST_READINGS + 1);
+    let text = format!(
+        "xi and theta: 1 to 24 accepted, the others to 255 turned down\n\
+         magnitudes: Y to {MOST_Y}, Z to {MOST_Z}\n\
+         lengths of readings: 1 to {most} accepted, 0 and {more} turned down\n\
+         blocks: 500 by both calls, {accepted} accepted\n\
+         lists of readings left out: 5, each turned down with 11\n"
+    );
+    (text, accepted)
+}
+
 #[test]
 fn the_interface() {
     let mut text = format!("version {VERSION}\n");
-    for number in 0..=11 {
+    for number in 0..=12 {
         text += &format!("number {number}: {}\n", number_text(number));
     }
     text += &format!("trace lengths: 1 to 200 symbols, and {MOST_SYMBOLS}\n");
@@ -296,12 +331,16 @@ fn the_interface() {
     let accepted = cables.iter().filter(|(accepted, _)| *accepted).count();
     text += &format!("cables: 500 by both calls, {accepted} accepted\n");
     text += "lists left out: 3, each turned down with 10\n";
+    let (lines, blocks) = about_readings();
+    text += &lines;
     // A byte more and a byte less for each trace length, one symbol too many;
-    // another training count, and p and q exchanged where they differ.
+    // another training count, and p and q exchanged where they differ; four
+    // mantissas that are too large, and of each block one sample less and Y and
+    // Z exchanged.
     let exchanged = cables
         .iter()
         .filter(|(accepted, other)| *accepted && *other);
-    let changes = 2 * 201 + 1 + accepted + exchanged.count();
+    let changes = 2 * 201 + 1 + accepted + exchanged.count() + 4 + 2 * blocks;
     text += &format!("changed expectations told apart: {changes} of {changes}\n");
     text += "differences: 0\n";
     assert_eq!(text, include_str!("../../interface.out"));
@@ -311,14 +350,20 @@ fn the_interface() {
 fn the_readme() {
     let readme = include_str!("../../README.md");
     let shown = |text: &str| assert!(readme.contains(text), "the README lacks {text}");
-    let in_c = include_str!("../../first.c");
-    shown(&format!("\n```c\n{in_c}```\n"));
-    let in_rust = include_str!("../examples/first.rs");
-    shown(&format!("\n```rust\n{in_rust}```\n"));
-    for line in first_program().lines() {
-        shown(&format!("\n    {line}\n"));
+    for in_c in [include_str!("../../first.c"), include_str!("../../plot.c")] {
+        shown(&format!("\n```c\n{in_c}```\n"));
     }
-    for number in [0, 1, 2, 10] {
+    let first = include_str!("../examples/first.rs");
+    for in_rust in [first, include_str!("../examples/plot.rs")] {
+        shown(&format!("\n```rust\n{in_rust}```\n"));
+    }
+    for program in [first_program(), plot_program()] {
+        shown(&format!(
+            "\n    {}\n",
+            program.trim_end().replace('\n', "\n    ")
+        ));
+    }
+    for number in [0, 1, 2, 10, 11] {
         shown(&format!("\n| {number} | {} | ", number_text(number)));
     }
 }
