@@ -1,7 +1,9 @@
 //! One call after the other on both sides, with everything that is checked.
 
+use crate::cables::bench::Side;
 use crate::figures::{as_the_steps_give, detail};
 use crate::pieces::Accepted;
+use crate::readings::ReadingsBench;
 use reference::block::BlockDetail;
 use reference::demand3::{Checker, Received};
 use reference::State;
@@ -157,10 +159,11 @@ pub struct Bench<'a> {
     pub moves: Moves,
     /// Accepted blocks and trials on other records.
     pub others: u64,
+    pub readings: ReadingsBench<'a>,
 }
 
 impl<'a> Bench<'a> {
-    pub fn new(library: &'a dyn Operations, second: &'a dyn Operations) -> Bench<'a> {
+    pub fn new(library: &'a dyn Side, second: &'a dyn Side) -> Bench<'a> {
         let start = record_of(&State::fresh());
         Bench {
             sides: [library, second],
@@ -173,6 +176,7 @@ impl<'a> Bench<'a> {
             followed: Followed::default(),
             moves: Moves::default(),
             others: 0,
+            readings: ReadingsBench::new(library, second),
         }
     }
 
@@ -252,6 +256,9 @@ impl<'a> Bench<'a> {
                 self.aside(lists, before, *other, &outcome)?;
             }
             _ => self.follow(call, &outcome),
+        }
+        if call.lists().is_some() && outcome.number == 0 {
+            self.readings.outcome(&outcome)?;
         }
         let after = self.records[0];
         self.tally.count(call, &outcome, &before, &after);

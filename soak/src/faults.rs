@@ -78,11 +78,31 @@ pub enum Fault {
     CableNumber,
     /// A gain of L - 1 in a cable is taken, on both sides.
     CableLeastInBoth,
+    /// The last bit of the first y that is negative.
+    ReadingsOutput,
+    /// The sign of an error of 0.
+    ReadingsZero,
+    /// A floor is told as a mean.
+    ReadingsMean,
+    /// An a of 65535 counts as cut.
+    ReadingsCut,
+    /// The last bit of a power, where N is no power of two.
+    ReadingsPower,
+    /// The last reading of lists that are turned down.
+    ReadingsRefused,
+    /// A |Y| of 2^29 is taken.
+    ReadingsLimit,
+    /// One reading too many is left alone.
+    ReadingsLength,
+    /// The last bit of a power, where N is no power of two, on both sides.
+    ReadingsPowerInBoth,
+    /// 11 for a xi of 24, on both sides.
+    ReadingsExponentInBoth,
 }
 
 impl Fault {
     /// Every fault with its name.
-    pub const ALL: [(&'static str, Fault); 34] = [
+    pub const ALL: [(&'static str, Fault); 44] = [
         ("output", Fault::Output),
         ("exponent", Fault::Exponent),
         ("decision", Fault::Decision),
@@ -117,6 +137,16 @@ impl Fault {
         ("cable-refused", Fault::CableRefused),
         ("cable-number", Fault::CableNumber),
         ("cable-least-in-both", Fault::CableLeastInBoth),
+        ("readings-output", Fault::ReadingsOutput),
+        ("readings-zero", Fault::ReadingsZero),
+        ("readings-mean", Fault::ReadingsMean),
+        ("readings-cut", Fault::ReadingsCut),
+        ("readings-power", Fault::ReadingsPower),
+        ("readings-refused", Fault::ReadingsRefused),
+        ("readings-limit", Fault::ReadingsLimit),
+        ("readings-length", Fault::ReadingsLength),
+        ("readings-power-in-both", Fault::ReadingsPowerInBoth),
+        ("readings-exponent-in-both", Fault::ReadingsExponentInBoth),
     ];
 
     pub fn named(name: &str) -> Option<Fault> {

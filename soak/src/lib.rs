@@ -5,6 +5,7 @@
 //! * [`lists`]: the calls of a list.
 //! * [`cables`]: cables, with what is checked of them, their text, and shrinking.
 //! * [`bench`]: one call on both sides, and everything that is checked.
+//! * [`readings`]: the readings of what a block hands out, with what is checked of them.
 //! * [`pieces`]: the library's record after each sample of a block.
 //! * [`figures`]: the numbers of a block from the library's records and outputs.
 //! * [`faults`]: built-in faults.
@@ -23,6 +24,7 @@ pub mod format;
 pub mod lists;
 pub mod pieces;
 pub mod progress;
+pub mod readings;
 pub mod report;
 pub mod shrink;
 pub mod soak;

@@ -78,5 +78,6 @@ pub fn covered(bench: &Bench) -> String {
     let others = bench.others;
     let others =
         format!("accepted blocks and trials on a record other than the list's own: {others}\n");
-    format!("{}{followed}{others}{moves}{worst}", bench.tally)
+    let readings = bench.readings.tally;
+    format!("{}{followed}{others}{moves}{readings}{worst}", bench.tally)
 }

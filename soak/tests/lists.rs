@@ -6,6 +6,7 @@ use soak::bench::{Bench, Failure};
 use soak::faults::Fault;
 use soak::format::{parse, text, Saved};
 use soak::lists::{corner, Lister, CORNERS};
+use soak::readings::changes::CHANGES;
 use soak::shrink::shrink;
 use soak::soak::{failure_of, shrunk, with_sides};
 use std::collections::HashSet;
@@ -44,6 +45,7 @@ fn the_lists_cover_every_answer() {
     every_answer(&bench);
     every_kind_of_block(&bench);
     every_way_of_following(&bench);
+    every_sort_of_readings(&bench);
 }
 
 /// Each call gives the answers that it can, and no other.
@@ -90,6 +92,21 @@ fn every_way_of_following(bench: &Bench) {
         f.at_once >= 100 && f.after_calls >= 100 && f.loaded_back >= 50,
         "{f:?}"
     );
+}
+
+/// What each accepted block and trial handed out is read, and read again with
+/// each change.
+fn every_sort_of_readings(bench: &Bench) {
+    let (tally, readings) = (&bench.tally, bench.readings.tally);
+    let accepted = tally.answers[1][0] + tally.answers[2][0];
+    assert_eq!(readings.means + readings.floors, accepted);
+    assert_eq!(readings.samples, bench.checker.worst.samples);
+    assert!(readings.means >= 1000 && readings.floors >= 1000);
+    assert!(readings.zeros >= 1000, "{readings}");
+    let refused = CHANGES.iter().filter(|change| !change.accepted).count() as u64;
+    assert_eq!(readings.refused, refused * accepted);
+    let changed = readings.changed_means + readings.changed_floors + readings.refused;
+    assert_eq!(changed, CHANGES.len() as u64 * accepted);
 }
 
 /// A block in which ψ falls from 15, comes up again and is turned down with 6.

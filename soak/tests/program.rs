@@ -81,6 +81,31 @@ fn faults_are_found_by_their_own_check() {
             ", set-up: library: record, M: with the trials ",
         ),
         ("cable-least-in-both", "of the trace answers 4"),
+        ("readings-output", ": y of sample "),
+        ("readings-zero", ": error of sample "),
+        ("readings-mean", "power: library a mean, second "),
+        (
+            "readings-cut",
+            "with an a of 65535: power: library a floor, ",
+        ),
+        ("readings-power", ": readings: power: library "),
+        (
+            "readings-refused",
+            "with a Y of 2^29: error of sample 0: library 0000000000000000, ",
+        ),
+        (
+            "readings-limit",
+            "with a Y of 2^29: answer: library 0, second implementation 11",
+        ),
+        (
+            "readings-length",
+            "with another length of the readings: answer: library 0, ",
+        ),
+        ("readings-power-in-both", ": readings: power: 3"),
+        (
+            "readings-exponent-in-both",
+            "readings with exponents of 24: answer 11",
+        ),
     ];
     for (name, check) in wanted {
         let folder = Folder::new(&format!("check-{name}"));

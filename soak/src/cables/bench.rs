@@ -3,6 +3,7 @@
 
 use super::Lent;
 use crate::bench::{stopping, Failing};
+use crate::readings::Plots;
 use reference::cable::Cause;
 use std::fmt;
 use tigbulode::sides::{Library, Operations, Second};
@@ -26,10 +27,10 @@ impl Simulation for Second {
     }
 }
 
-/// The five operations and the cable.
-pub trait Side: Operations + Simulation {}
+/// The five operations, the cable and the readings.
+pub trait Side: Operations + Simulation + Plots {}
 
-impl<T: Operations + Simulation> Side for T {}
+impl<T: Operations + Simulation + Plots> Side for T {}
 
 /// How many bytes lie on each side of what is lent.
 const AROUND: usize = 64;
