@@ -286,12 +286,19 @@ fn sums(handed: &Handed<'_>) -> [Exact; 3] {
     sums
 }
 
+/// Whether the exact sum of (256·error)² is at least that of a² and less than
+/// that of (a + 1)².
+fn lies_between(lists: &Lists) -> bool {
+    let [low, sum, high] = sums(&lists.handed());
+    low.at_most(&sum) && sum.less(&high)
+}
+
 #[test]
 fn the_exact_sum_lies_between() {
     let mut exactly = 0;
     for vector in accepted().iter().filter(|vector| !vector.is_floor) {
-        let [low, sum, high] = sums(&vector.lists.handed());
-        assert!(low.at_most(&sum) && sum.less(&high), "{}", vector.about);
+        assert!(lies_between(&vector.lists), "{}", vector.about);
+        let [low, sum, _] = sums(&vector.lists.handed());
         exactly += u32::from(sum.at_most(&low));
     }
     assert!(exactly >= 50);
@@ -421,6 +428,9 @@ fn every_fault_of_readings_is_found() {
     for fault in FAULTS.iter().chain(&CAUSES) {
         assert!(with(fault).is_err(), "{fault}");
     }
+    let (faults, causes) = (FAULTS.len(), CAUSES.len());
+    let said = format!("{faults} faults and {causes} causes to leave out; the vectors find each |");
+    assert!(README.contains(&said), "not in README.md: {said}");
 }
 
 #[test]
@@ -512,6 +522,7 @@ fn what_a_block_hands_out_is_accepted() {
             let ((number, is_floor, _), readings) = answered(&lists);
             assert_eq!(number, 0, "{lists:?}");
             assert!(readings_are_exact(&lists, &readings));
+            assert!(is_floor || lies_between(&lists), "{lists:?}");
             *seen.entry(is_floor).or_insert(0) += 1;
             xi.extend(lists.xi);
             theta.extend(lists.theta);
