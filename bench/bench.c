@@ -7,6 +7,7 @@
 #include "cables.h"
 #include "channel.h"
 #include "check.h"
+#include "lists.h"
 #include "plain.h"
 #include "stack.h"
 
@@ -27,6 +28,7 @@ run_call before_tigbulode_run __attribute__((weak));
 
 static run_call *const runs[] = {tigbulode_run, careful_run, careful_native_run};
 static simulation *const simulations[] = {proved_simulation, careful_simulation, native_simulation};
+static readings_call *const readers[] = {tigbulode_readings, careful_readings, careful_native_readings};
 
 typedef struct {
     channel_block blocks[BLOCKS];
@@ -263,6 +265,38 @@ static double timed_cable(int who) {
     return (now() - start) / 1000;
 }
 
+// What the timed blocks hand out.
+static struct {
+    int32_t y[N], z[N];
+    uint8_t xi[N], theta[N];
+} outputs[BLOCKS];
+
+static void prepare_readings(void) {
+    prepare(&current, 8, 8, USUAL);
+    for (int i = 0; i < BLOCKS; i++) {
+        run_block(&current, PROVED, &current.blocks[i], decided);
+        memcpy(outputs[i].y, y, sizeof y), memcpy(outputs[i].z, z, sizeof z);
+        memcpy(outputs[i].xi, xi, sizeof xi), memcpy(outputs[i].theta, theta, sizeof theta);
+    }
+}
+
+// So many of a block's samples.
+static tigbulode_power read_piece(readings_call *call, int block, size_t at, size_t k) {
+    static tigbulode_reading read[N];
+    return call(outputs[block].y + at, k, outputs[block].xi + at, k, outputs[block].z + at, k, outputs[block].theta + at, k,
+                read + at, k);
+}
+
+// Nanoseconds per sample of the readings, by pieces of a block.
+static double timed_readings(int who) {
+    const size_t k = piece;
+    double start = now();
+    for (int i = 0; i < BLOCKS; i++)
+        for (size_t at = 0; at < N; at += k)
+            if (read_piece(readers[who], i, at, k).number) fail("what a block handed out was not read");
+    return (now() - start) / (BLOCKS * N);
+}
+
 static int by_size(const void *a, const void *b) {
     double x = *(const double *)a, y = *(const double *)b;
     return (x > y) - (x < y);
@@ -311,6 +345,29 @@ static void check_cable_answers(void) {
         if (counts[numbers[i]] == 0) fail("an answer of a cable was never seen");
     }
     printf("\n");
+}
+
+// Careful C with a fault: a last error of 0 is −0.
+static tigbulode_power faulty_readings(const int32_t *y, size_t y_length, const uint8_t *xi, size_t xi_length,
+                                       const int32_t *z, size_t z_length, const uint8_t *theta, size_t theta_length,
+                                       tigbulode_reading *readings, size_t readings_length) {
+    const tigbulode_power p = careful_readings(y, y_length, xi, xi_length, z, z_length, theta, theta_length, readings,
+                                               readings_length);
+    tigbulode_reading *last = readings + readings_length - 1;
+    if (p.number == 0 && last->error == 0) last->error = -0.0;
+    return p;
+}
+
+static void check_reading_answers(void) {
+    read_counts seen = {0}, unused = {0};
+    if (!check_readings(careful_readings, 100000, &seen)) fail("careful C and the proved code differ in readings");
+    if (!check_readings(careful_native_readings, 30000, &seen)) fail("careful C for this processor differs in readings");
+    if (check_readings(careful_cutting_readings, 30000, &unused)) fail("a floor for a mean was not found");
+    if (check_readings(faulty_readings, 30000, &unused)) fail("a reading of -0 was not found");
+    printf("careful C and the proved code agree bit for bit; random lists: means %u, floors %u, turned down %u\n",
+           seen.means, seen.floors, seen.turned_down);
+    if (seen.means == 0 || seen.floors == 0 || seen.turned_down == 0 || seen.zeros == 0)
+        fail("a mean, a floor, a reading of 0 or lists that are turned down were never seen");
 }
 
 static void print_answers(const shown *seen, const shown *tried) {
@@ -480,14 +537,30 @@ static void print_cable(void) {
            f.median[NATIVE]);
 }
 
+static void print_readings(const int *sizes, int rows) {
+    prepare_readings();
+    printf("\nNanoseconds per sample for the readings of a block and its error power\n");
+    printf("        |      proved     |  (a) careful C  | proved/careful | native\n");
+    printf("      N |  median   least |  median   least | median   least | median\n");
+    for (int i = 0; i < rows; i++) {
+        piece = (size_t)sizes[i];
+        figures f = measure(timed_readings, PLAIN);
+        printf("    %3d | %7.2f %7.2f | %7.2f %7.2f | %6.2f %7.2f | %6.2f\n", sizes[i], f.median[PROVED], f.least[PROVED],
+               f.median[CAREFUL], f.least[CAREFUL], f.ratio[CAREFUL], f.least[PROVED] / f.least[CAREFUL],
+               f.median[NATIVE]);
+    }
+}
+
 int main(void) {
     static const int main_sizes[][2] = {{3, 3}, {8, 8}, {16, 16}};
     static const int growth[][2] = {{1, 1}, {2, 2}, {4, 4}, {8, 8}, {12, 12}, {16, 16}};
     static const int uneven[][2] = {{1, 16}, {4, 12}, {8, 3}, {12, 4}, {16, 1}};
     static const int releases_at[][3] = {{1, 1, 128},   {3, 3, 128},   {8, 8, 128}, {12, 12, 128},
                                          {16, 16, 128}, {16, 16, 16}, {2, 16, 1}, {1, 1, 1}};
+    static const int readings_at[] = {128, 1};
     check_answers();
     check_cable_answers();
+    check_reading_answers();
     check_controls();
     print_table("Nanoseconds per sample, N = 128, r = 2, L = 1, greatest admitted M, decided", main_sizes, 3);
     print_table("The same as p + q grows", growth, 6);
@@ -496,6 +569,7 @@ int main(void) {
     print_falling(main_sizes, 3);
     if (before_tigbulode_run) print_releases(releases_at, 8);
     print_cable();
+    print_readings(readings_at, 2);
     printf("\nMemory of a station: %zu bytes of record, at most %d bytes of image\n", sizeof(tigbulode_equaliser),
            12 + 4 * 32);
     printf("Stack of a block run: proved %zu bytes, careful C %zu bytes\n", stack_of(tigbulode_run),
@@ -503,5 +577,7 @@ int main(void) {
     printf("Stack of a trial with its answer: proved %zu bytes\n", stack_of(tried_run));
     printf("Stack of a cable: proved %zu bytes, careful C %zu bytes\n", stack_of_cable(tigbulode_cable),
            stack_of_cable(careful_cable));
+    printf("Stack of the readings of a block: proved %zu bytes, careful C %zu bytes\n",
+           stack_of_readings(tigbulode_readings), stack_of_readings(careful_readings));
     return 0;
 }

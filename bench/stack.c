@@ -15,6 +15,7 @@ static unsigned char area[SIZE] __attribute__((aligned(64)));
 static ucontext_t outside, inside;
 static run_call *measured;
 static cable_call *measured_cable;
+static readings_call *measured_readings;
 static cable longest;
 static uint8_t room[CABLE_ROOM];
 static tigbulode_equaliser state;
@@ -22,6 +23,7 @@ static channel_block block;
 static int32_t y[N], z[N];
 static uint8_t xi[N], theta[N], number;
 static int8_t decision[N];
+static tigbulode_reading readings[N];
 
 static void run_once(void) {
     number = measured(&state, block.m, N, block.gains, N, block.sent, N, y, N, xi, N, decision, N, z, N, theta, N);
@@ -48,6 +50,16 @@ static uint8_t no_cable(uint8_t p, uint8_t q, uint8_t n, uint8_t r, uint8_t l, u
     return 0;
 }
 
+static void readings_once(void) { number = measured_readings(y, N, xi, N, z, N, theta, N, readings, N).number; }
+
+static tigbulode_power no_readings(const int32_t *y, size_t y_length, const uint8_t *xi, size_t xi_length,
+                                   const int32_t *z, size_t z_length, const uint8_t *theta, size_t theta_length,
+                                   tigbulode_reading *readings, size_t readings_length) {
+    (void)y, (void)y_length, (void)xi, (void)xi_length, (void)z, (void)z_length, (void)theta, (void)theta_length;
+    (void)readings, (void)readings_length;
+    return (tigbulode_power){0, 0, 0};
+}
+
 static size_t touched(void (*once)(void)) {
     memset(area, PAINT, SIZE);
     if (getcontext(&inside) != 0) return 0;
@@ -69,6 +81,11 @@ static size_t touched_by_cable(cable_call *call) {
     return touched(cable_once);
 }
 
+static size_t touched_by_readings(readings_call *call) {
+    measured_readings = call;
+    return touched(readings_once);
+}
+
 static size_t less(size_t with, size_t without) { return with > without ? with - without : 0; }
 
 size_t stack_of(run_call *run) {
@@ -83,4 +100,10 @@ size_t stack_of_cable(cable_call *call) {
     longest_cable(&longest);
     touched_by_cable(call);
     return less(touched_by_cable(call), touched_by_cable(no_cable));
+}
+
+size_t stack_of_readings(readings_call *call) {
+    for (int i = 0; i < N; i++) y[i] = i * 1048576, z[i] = -i * 2097152, xi[i] = theta[i] = (uint8_t)(1 + i % 24);
+    touched_by_readings(call);
+    return less(touched_by_readings(call), touched_by_readings(no_readings));
 }
