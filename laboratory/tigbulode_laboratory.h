@@ -109,13 +109,13 @@ uint8_t tigbulode_cable(uint8_t p, uint8_t q, uint8_t n, uint8_t r, uint8_t l, u
  * tigbulode_run or tigbulode_trial of the station handed out. A reading's y is exactly y[i] * 2^(xi[i] - 30) and its error
  * exactly z[i] * 2^(theta[i] - 30); nothing is rounded, and a zero is +0.
  *
- * The power is the mean of the squares of the errors, each error first cut to whole steps of 1/256 towards 0: with a the
- * whole part of 256 * |error|, the sum of a * a divided by 65536 * N, N the lists' length. Sum and divisor are exact, and the
- * quotient is rounded once, to the nearest double. What the cutting leaves out is bounded: the exact sum of
- * (256 * error)^2 is at least the sum of a^2 and less than the sum of (a + 1)^2.
+ * The power is the mean of the squares of the errors, each error first cut towards 0 to whole steps of 1/256: with a the
+ * whole part of 256 * |error|, or 65535 if that is smaller, it is the sum of a^2 divided by 65536 * N, N the lists' length.
+ * Sum and divisor are exact, and the quotient is rounded once, to the nearest double.
  *
- * An error of 256 or more counts with a = 65535, a step below 256. is_floor is then 1, and the power says no more than that
- * the mean square error is at least so much. Where is_floor is 0, no error was as large, and the power is the mean above.
+ * is_floor is 0 where no a was cut to 65535: the power is a mean, and the exact sum of (256 * error)^2 is at least the sum
+ * of a^2 and less than the sum of (a + 1)^2. is_floor is 1 where some error is 256 or more in magnitude: the power is only a
+ * floor, and says no more than that the mean of the squared errors is at least so much.
  *
  * Turned down with 11 where the five lists are not all of one length from 1 to 128, some |Y| is 2^29 or more, some |Z| is
  * 2^30 or more, or some xi or theta is outside 1 to 24; is_floor is then 0, the power +0, and the readings are as they were.
