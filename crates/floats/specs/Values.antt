@@ -1,12 +1,12 @@
 -- What the operations on floats give, by the fractions that floats equal: `HasValue x s a c` says that x has the sign s and is a / c in size.
 use mathlib.Core.Path.{_≡_, refl, sym, ap, ap₂, _∙_, subst}
-use mathlib.Core.Bool.{Bool, true, false, not, _&&_, cond}
+use mathlib.Core.Bool.{Bool, true, false, cond}
 use Prim.Native.Nat.{ℕ, zero, suc, _+_, _-_, _*_, _/_, _%_, _^_, _≤_, _<_}
 use native.Mathlib.Omega.{arith}
 use native.Mathlib.Nat.{mul-pos, zero-lt-suc, zero-mul, mul-assoc, mul-mul-mul-comm, ne-of-gt, lt-of-lt-of-le, eq-of-mul-eq-mul-right}
 use lib.IntN.{ℤ, pos, negsuc, natAbs}
 use lib.Dec.{T, eqb, eqb→eq, le→leb}
-use lib.Ieee.{Float, nan, inf, fin, Format, binary64, unlike, up, down, round, mul, div, ofInt, odd, ofFields, ofBits, inFloat, nanBits, fits}
+use lib.Ieee.{Float, nan, inf, fin, Format, binary64, unlike, up, down, round, mul, div, ofInt, odd, ofFields, ofBits, inFloat, fits}
 use lib.Ieee.Exact.{HasValue, round-exact, odd-sign}
 use lib.Ieee.Back.{round-whole}
 use lib.Ieee.Fits.{up-pos, down-pos}
@@ -93,10 +93,6 @@ field-bits n h =
 
     rest : (n : ℕ) → n < 2046 → suc n * 2 ^ 52 % 2 ^ 52 ≡ 0
     rest n h = omega arith
-
-pub field-number : (n : ℕ) → n < 2046 → T (not (nanBits binary64 (suc n * 2 ^ 52)))
-unfolding nanBits
-field-number n h = subst (λ (t : Bool). T (not (t && not (eqb (suc n * 2 ^ 52 % 2 ^ 52) 0)))) (sym (ne-eqb (suc n * 2 ^ 52 % 2 ^ 63 / 2 ^ 52) 2047 (λ e. omega arith))) tt
 
 pub field-value : (n : ℕ) → n < 2046 → HasValue (ofBits binary64 (suc n * 2 ^ 52)) false (2 ^ 52 * 2 ^ n) (2 ^ 1074)
 field-value n h = subst (λ (x : Float). HasValue x false (2 ^ 52 * 2 ^ n) (2 ^ 1074)) (sym (field-bits n h)) (odd-sign 53 false (2 ^ 52) n 1074)

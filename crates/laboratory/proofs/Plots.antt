@@ -53,12 +53,12 @@ module _ (s : Equaliser) (g : WithinLimits s) (l : Lent) (h : AcceptedBlock s l)
       let long = handed-long (settings s) (memory s) (block l) in
       record {
         some = w .N-least;
-        few = w .N-most;
         fill = record {
           y-long = long .y-long;
           xi-long = long .xi-long;
           z-long = long .z-long;
           theta-long = long .theta-long;
+          few = w .N-most;
           xi-fit = exponents-fit (out s l .xi) (long .xi-long) (λ n k. let b = at n k in (omega (arith, b .given .ξ-is, b .bounded .ξ-least), omega (arith, b .given .ξ-is, b .bounded .ξ-most)));
           theta-fit = exponents-fit (out s l .theta) (long .theta-long) (λ n k. let b = at n k in (omega (arith, b .given .θ-is, b .bounded .θ-least), omega (arith, b .given .θ-is, b .bounded .θ-most)));
         };

@@ -15,7 +15,7 @@ use borrow.Author.Tests.{leb-true}
 use Rattle.laws.specs.Lists.{and-left, and-right, all, all-at, Tested, tested-none, tested-next, tested-all}
 use Rattle.steps.specs.Limits.{outputExponentLimit}
 use Rattle.readings.specs.Limits.{amplitudeLimit}
-use Rattle.readings.specs.Calls.{Exponent}
+use Rattle.readings.specs.Calls.{Exponent, sumOf, powerFrom}
 use Rattle.readings.specs.Readings.{pairOf, readingOf, pairs, amplitude, amplitudes, counted, isWhole, squares, quotient, powerOf, exponentFits}
 use Rattle.readings.specs.declared.Power.the-variants.{Mean, Floor}
 
@@ -113,3 +113,7 @@ module _ (l : List ℕ) (q : Float) (e : q ≡ quotient (squares l) (length l)) 
   pub power-floor : all isWhole l ≡ false → Floor q ≡ powerOf l
   unfolding powerOf
   power-floor w = ap Floor e ∙ sym (ap (λ (b : Bool). cond b (Mean (quotient (squares l) (length l))) (Floor (quotient (squares l) (length l)))) w)
+
+pub power-from : (Z : List ℤ) (θ : List ℕ) (n : ℕ) → length (amplitudes Z θ) ≡ n → powerFrom (sumOf Z θ) n ≡ powerOf (amplitudes Z θ)
+unfolding powerOf
+power-from Z θ n e = ap (powerFrom (sumOf Z θ)) (sym e)

@@ -105,7 +105,7 @@ module _ (l : Lists) (n : ℕ) (ok : readable l n ≡ true) where
   long = amplitudes-length (l .z) (l .theta) (r .fill .theta-long ∙ sym (r .fill .z-long)) ∙ r .fill .z-long
 
   sum-small : squares a < 2 ^ 39
-  sum-small = omega (arith, squares-bound a, long, r .few)
+  sum-small = omega (arith, squares-bound a, long, r .fill .few)
 
   read : (i : ℕ) → i < n → ReadExactly l i
   read i h =
@@ -124,8 +124,8 @@ module _ (l : Lists) (n : ℕ) (ok : readable l n ≡ true) where
   unfolding quotient
   divided = record {
     sum-exact = whole-value (pos (squares a)) (omega (arith, sum-small));
-    divisor-exact = whole-value (pos (65536 * n)) (omega (arith, r .few));
-    divided = sym (quotient-is (squares a) n (omega (arith, sum-small)) (r .some) (r .few));
+    divisor-exact = whole-value (pos (65536 * n)) (omega (arith, r .fill .few));
+    divided = sym (quotient-is (squares a) n (omega (arith, sum-small)) (r .some) (r .fill .few));
     nearest = rounded-nearest binary64 (squares a) (65536 * n) (omega (arith, r .some)) (small (squares a) (65536 * n) 39 (omega (arith, r .some)) sum-small (omega arith));
   }
 

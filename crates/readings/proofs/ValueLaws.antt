@@ -1,45 +1,43 @@
 -- A mantissa times a power of two, without rounding.
-use mathlib.Core.Path.{_≡_, refl, sym, ap, ap₂, _∙_, subst}
-use mathlib.Core.Bool.{Bool, true, false, not}
-use Prim.Native.Nat.{ℕ, suc, _+_, _*_, _-_, _/_, _%_, _^_, _≤_, _<_}
+use mathlib.Core.Path.{_≡_, refl, sym, ap, ap₂, _∙_}
+use mathlib.Core.Bool.{Bool, true, false}
+use mathlib.Core.List.{List, [], _∷_}
+use Prim.Native.Nat.{ℕ, zero, suc, _+_, _*_, _-_, _/_, _%_, _^_, _≤_, _<_}
 use native.Mathlib.Omega.{arith}
-use native.Mathlib.Nat.{mod-eq-of-lt, lt-of-lt-of-le, mul-one}
-use lib.Dec.{T}
-use lib.IntN.{ℤ, natAbs}
-use lib.Ieee.{binary64, unlike, round, mul, div, ofInt, ofBits, nanBits}
+use native.Mathlib.Nat.{mod-eq-of-lt, add-zero, le-of-suc-le-suc, not-suc-le-zero, mul-one}
+use lib.IntN.{ℤ, pos, natAbs}
+use lib.ListN.{getD}
+use lib.Ieee.{Float, binary64, unlike, round, mul, div, ofInt, ofBits}
 use lib.Ieee.Scale.{round-same}
-use lib.IntN.{pos}
 use Rattle.laws.specs.Powers.{split3, positive, rises, scale-le}
-use Rattle.floats.specs.Values.{negative, whole-value, mul-value, div-value, field-value, field-number}
+use Rattle.floats.specs.Values.{negative, whole-value, mul-value, div-value, field-value}
 use Rattle.steps.specs.Limits.{outputExponentLimit}
 use Rattle.readings.specs.Readings.{valueOf, amplitude, quotient}
-use Rattle.readings.specs.Calls.{Exponent}
+use Rattle.readings.specs.Calls.{Exponent, powers}
 
 -- ---- 2^(e−30)
 
-field : (e : ℕ) → Exponent e → (993 + e) * 2 ^ 52 % 2 ^ 64 ≡ suc (992 + e) * 2 ^ 52
-field e h = omega (arith, h .0, h .1)
-
-pub power-number : (e : ℕ) → Exponent e → T (not (nanBits binary64 ((993 + e) * 2 ^ 52 % 2 ^ 64)))
-power-number e h = subst (λ (b : ℕ). T (not (nanBits binary64 b))) (sym (field e h)) (field-number (992 + e) (omega (arith, h .1)))
+pub power-at : (k n i : ℕ) (d : Float) → i < n → getD (powers k n) i d ≡ ofBits binary64 (suc (k + i) * 2 ^ 52)
+power-at k zero i d h = absurd (not-suc-le-zero h)
+power-at k (suc n) zero d h = ap (λ (m : ℕ). ofBits binary64 (suc m * 2 ^ 52)) (sym (add-zero k))
+power-at k (suc n) (suc i) d h = power-at (suc k) n i d (le-of-suc-le-suc h) ∙ ap (λ (m : ℕ). ofBits binary64 (suc m * 2 ^ 52)) {x = suc k + i} {y = k + suc i} (omega arith)
 
 unlike-false : (s : Bool) → unlike s false ≡ s
 unlike-false true = refl
 unlike-false false = refl
 
--- the fields' digits and their exponent are 1074 places together
+-- the leading digit, the field and 30 − e are 1074 places together
 scaled : (a n k : ℕ) → 1074 ≡ 52 + (n + k) → a * (2 ^ 52 * 2 ^ n) * 2 ^ k ≡ a * (1 * 2 ^ 1074)
 scaled a n k e = turn a (2 ^ 52) (2 ^ n) (2 ^ k) ∙ ap (λ (x : ℕ). a * (1 * x)) (sym (split3 1074 52 n k e))
   where
     turn : (a x y z : ℕ) → a * (x * y) * z ≡ a * (1 * (x * (y * z)))
     turn a x y z = omega arith
 
-pub product-is : (m : ℤ) (e : ℕ) → natAbs m ≤ 2 ^ 31 → Exponent e → mul binary64 (ofInt binary64 m) (ofBits binary64 ((993 + e) * 2 ^ 52 % 2 ^ 64)) ≡ valueOf m e
+pub product-is : (m : ℤ) (e : ℕ) → natAbs m ≤ 2 ^ 31 → Exponent e → mul binary64 (ofInt binary64 m) (ofBits binary64 (suc (992 + e) * 2 ^ 52)) ≡ valueOf m e
 unfolding valueOf
 product-is m e h k =
     let n = 992 + e in
-    ap (λ (b : ℕ). mul binary64 (ofInt binary64 m) (ofBits binary64 b)) (field e k)
-    ∙ mul-value binary64 (negative m) false (natAbs m) 1 (2 ^ 52 * 2 ^ n) (2 ^ 1074) (omega arith) (positive 1074) (ofInt binary64 m) (ofBits binary64 (suc n * 2 ^ 52))
+    mul-value binary64 (negative m) false (natAbs m) 1 (2 ^ 52 * 2 ^ n) (2 ^ 1074) (omega arith) (positive 1074) (ofInt binary64 m) (ofBits binary64 (suc n * 2 ^ 52))
     (whole-value m (omega arith)) (field-value n (omega (arith, k .1)))
     ∙ ap (λ (s : Bool). round binary64 s (natAbs m * (2 ^ 52 * 2 ^ n)) (1 * 2 ^ 1074)) (unlike-false (negative m))
     ∙ round-same binary64 (negative m) (natAbs m * (2 ^ 52 * 2 ^ n)) (1 * 2 ^ 1074) (natAbs m) (2 ^ (30 - e)) (positive 1074) (positive (30 - e)) (scaled (natAbs m) n (30 - e) (omega (arith, k .1)))

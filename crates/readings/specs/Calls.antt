@@ -1,13 +1,18 @@
 -- What the functions ask of each other.
 use mathlib.Core.Path.{_≡_}
-use mathlib.Core.Bool.{Bool, true}
-use mathlib.Core.List.{List}
-use Prim.Native.Nat.{ℕ, _≤_}
+use mathlib.Core.Bool.{true, cond}
+use mathlib.Core.List.{List, [], _∷_}
+use Prim.Native.Nat.{ℕ, zero, suc, _+_, _*_, _^_, _≤_}
 use lib.IntN.{ℤ}
 use lib.ListN.{length}
+use lib.Ieee.{Float, binary64, ofBits}
 use Rattle.laws.specs.Lists.{all}
 use Rattle.steps.specs.Limits.{blockLimit, outputExponentLimit}
-use Rattle.readings.specs.Readings.{Lists, exponentFits}
+use Rattle.readings.specs.Limits.{amplitudeLimit}
+use Rattle.readings.specs.Readings.{Lists, amplitudes, isWhole, squares, quotient, exponentFits}
+use Rattle.readings.specs.declared.errors.Sum.{Sum}
+use Rattle.readings.specs.declared.Power.{Power}
+use Rattle.readings.specs.declared.Power.the-variants.{Mean, Floor}
 
 abbrev pub listsOf : List ℤ → List ℕ → List ℤ → List ℕ → Lists
 listsOf y xi z theta = record { y = y; xi = xi; z = z; theta = theta }
@@ -15,11 +20,24 @@ listsOf y xi z theta = record { y = y; xi = xi; z = z; theta = theta }
 abbrev pub Exponent : ℕ → Type 0
 Exponent e = (1 ≤ e) × (e ≤ outputExponentLimit)
 
--- errors that can be squared and summed
-pub record Summable (z : List ℤ) (theta : List ℕ) : Type 0 where
-  pub alike : length theta ≡ length z
-  pub short : length z ≤ blockLimit
-  pub fit : all exponentFits theta ≡ true
+-- floats of n exponent's fields from k + 1 on, without a digit but the leading one
+abbrev pub powers : ℕ → ℕ → List Float
+powers k zero = []
+powers k (suc n) = ofBits binary64 (suc k * 2 ^ 52) ∷ powers (suc k) n
+
+-- 2^(e−30) for each e up to the greatest exponent: its field is 993 + e
+abbrev pub powerTable : List Float
+powerTable = powers 992 (outputExponentLimit + 1)
+
+-- what a sum of a² can come to before the last one
+abbrev pub sumLimit : ℕ
+sumLimit = blockLimit * (amplitudeLimit * amplitudeLimit)
+
+abbrev pub sumOf : List ℤ → List ℕ → Sum
+sumOf z theta = record { sum = squares (amplitudes z theta); whole = all isWhole (amplitudes z theta) }
+
+abbrev pub powerFrom : Sum → ℕ → Power
+powerFrom s n = cond (s .whole) (Mean (quotient (s .sum) n)) (Floor (quotient (s .sum) n))
 
 -- lists that have a reading for each of n places
 pub record Fillable (l : Lists) (n : ℕ) : Type 0 where
@@ -27,5 +45,6 @@ pub record Fillable (l : Lists) (n : ℕ) : Type 0 where
   pub xi-long : length (l .xi) ≡ n
   pub z-long : length (l .z) ≡ n
   pub theta-long : length (l .theta) ≡ n
+  pub few : n ≤ blockLimit
   pub xi-fit : all exponentFits (l .xi) ≡ true
   pub theta-fit : all exponentFits (l .theta) ≡ true

@@ -1,33 +1,44 @@
 // What can be read.
 ghost use mathlib.Core.Path.{_≡_};
+ghost use mathlib.Core.Bool.{_&&_};
+ghost use lib.ListN.{length};
 ghost use Rattle.laws.specs.Lists.{all};
 ghost use Rattle.steps.specs.Side.{allBelow};
+ghost use Rattle.readings.specs.Limits.{outputLimit, errorLimit};
 ghost use Rattle.readings.specs.Readings.{exponentFits, lengthsFit, readable};
 ghost use Rattle.readings.specs.Calls.{listsOf};
 use super::limits;
 
-fn all_below(xs: &[i32], limit: u32) -> bool
-    ensures { λ r. ⌜ r ≡ allBelow limit (now (xs .entry)) ⌝ }
+// |Y| and |Z|.
+fn mantissas_fit(y: &[i32], z: &[i32]) -> bool
+    requires { ⌜ length (now z) ≡ length (now y) ⌝ }
+    ensures { λ r. ⌜ r ≡ (allBelow outputLimit (now (y .entry)) && allBelow errorLimit (now (z .entry))) ⌝ }
 {
-    let mut fit = true;
+    let mut y_fit = true;
+    let mut z_fit = true;
     let mut i: usize = 0;
-    while i < xs.len() {
-        fit = fit & (numbers::bit_length::magnitude32(xs[i]) < limit);
+    while i < y.len() {
+        y_fit = y_fit & (numbers::bit_length::magnitude32(y[i]) < limits::OUTPUT);
+        z_fit = z_fit & (numbers::bit_length::magnitude32(z[i]) < limits::ERROR);
         i += 1;
     }
-    fit
+    y_fit & z_fit
 }
 
-fn exponents_fit(xs: &[u8]) -> bool
-    ensures { λ r. ⌜ r ≡ all exponentFits (now (xs .entry)) ⌝ }
+// ξ and θ.
+fn exponents_fit(xi: &[u8], theta: &[u8]) -> bool
+    requires { ⌜ length (now theta) ≡ length (now xi) ⌝ }
+    ensures { λ r. ⌜ r ≡ (all exponentFits (now (xi .entry)) && all exponentFits (now (theta .entry))) ⌝ }
 {
-    let mut fit = true;
+    let mut xi_fit = true;
+    let mut theta_fit = true;
     let mut i: usize = 0;
-    while i < xs.len() {
-        fit = fit & ((1 <= xs[i]) & (xs[i] <= limits::EXPONENT));
+    while i < xi.len() {
+        xi_fit = xi_fit & ((1 <= xi[i]) & (xi[i] <= limits::EXPONENT));
+        theta_fit = theta_fit & ((1 <= theta[i]) & (theta[i] <= limits::EXPONENT));
         i += 1;
     }
-    fit
+    xi_fit & theta_fit
 }
 
 fn lengths_fit(y: &[i32], xi: &[u8], z: &[i32], theta: &[u8], n: usize) -> bool
@@ -48,8 +59,5 @@ pub fn readable(y: &[i32], xi: &[u8], z: &[i32], theta: &[u8], n: usize) -> bool
     if !lengths_fit(y, xi, z, theta, n) {
         return false;
     }
-    all_below(z, limits::ERROR)
-        & exponents_fit(xi)
-        & exponents_fit(theta)
-        & all_below(y, limits::OUTPUT)
+    mantissas_fit(y, z) & exponents_fit(xi, theta)
 }

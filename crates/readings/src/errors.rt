@@ -1,11 +1,10 @@
 // The error power.
 ghost use mathlib.Core.Path.{_≡_};
-ghost use lib.ListN.{length};
-ghost use Prim.Native.Nat.{_^_, _≤_, _<_};
-ghost use Rattle.laws.specs.Lists.{all};
+ghost use mathlib.Core.Bool.{_&&_};
+ghost use Prim.Native.Nat.{_+_, _*_, _^_, _≤_, _<_};
 ghost use Rattle.steps.specs.Limits.{blockLimit, outputExponentLimit};
-ghost use Rattle.readings.specs.Readings.{amplitude, amplitudes, counted, isWhole, squares, quotient, powerOf};
-ghost use Rattle.readings.specs.Calls.{Summable};
+ghost use Rattle.readings.specs.Readings.{amplitude, counted, isWhole, quotient};
+ghost use Rattle.readings.specs.Calls.{sumLimit, powerFrom};
 use super::Power;
 use super::limits;
 
@@ -27,29 +26,22 @@ fn counted(a: u64) -> u64
     }
 }
 
-// The sum of a², and whether no a was cut.
-struct Sum {
-    sum: u64,
-    whole: bool,
+// A sum of a², and whether none of them was cut.
+pub struct Sum {
+    pub sum: u64,
+    pub whole: bool,
 }
 
-fn squares(z: &[i32], theta: &[u8]) -> Sum
-    requires { ⌜ Summable (now z) (now theta) ⌝ }
-    ensures { λ r. ⌜ r ≡ record { sum = squares (amplitudes (now (z .entry)) (now (theta .entry))); whole = all isWhole (amplitudes (now (z .entry)) (now (theta .entry))) } ⌝ }
+// One error more.
+pub fn with_error(s: Sum, z: i32, theta: u8) -> Sum
+    requires { ⌜ (s .sum ≤ sumLimit) × (theta ≤ outputExponentLimit) ⌝ }
+    ensures { λ r. ⌜ r ≡ record { sum = s .sum + counted (amplitude z theta) * counted (amplitude z theta); whole = s .whole && isWhole (amplitude z theta) } ⌝ }
 {
-    let mut sum: u64 = 0;
-    let mut whole = true;
-    let mut i: usize = 0;
-    while i < z.len() {
-        let a = amplitude(z[i], theta[i]);
-        let c = counted(a);
-        sum += c * c;
-        whole = whole & (a <= limits::AMPLITUDE);
-        i += 1;
-    }
+    let a = amplitude(z, theta);
+    let c = counted(a);
     Sum {
-        sum: sum,
-        whole: whole,
+        sum: s.sum + c * c,
+        whole: s.whole & (a <= limits::AMPLITUDE),
     }
 }
 
@@ -62,12 +54,11 @@ fn quotient(sum: u64, n: usize) -> f64
 }
 
 // A mean, or only a floor.
-pub fn power(z: &[i32], theta: &[u8]) -> Power
-    requires { ⌜ Summable (now z) (now theta) × (1 ≤ length (now z)) ⌝ }
-    ensures { λ r. ⌜ r ≡ powerOf (amplitudes (now (z .entry)) (now (theta .entry))) ⌝ }
+pub fn power(s: Sum, n: usize) -> Power
+    requires { ⌜ (s .sum < 2 ^ 53) × (1 ≤ n) × (n ≤ blockLimit) ⌝ }
+    ensures { λ r. ⌜ r ≡ powerFrom s n ⌝ }
 {
-    let s = squares(z, theta);
-    let q = quotient(s.sum, z.len());
+    let q = quotient(s.sum, n);
     if s.whole {
         Power::Mean(q)
     } else {

@@ -4,6 +4,7 @@ ghost use Rattle.readings.specs.Calls.{listsOf};
 
 pub mod check;
 pub mod errors;
+pub mod fill;
 pub mod limits;
 pub mod value;
 
@@ -28,9 +29,10 @@ pub enum Answer {
 pub fn readings(y: &[i32], xi: &[u8], z: &[i32], theta: &[u8], out: &mut [[f64; 2]]) -> Answer
     ensures { λ a. ⌜ Read (listsOf (now (y .entry)) (now (xi .entry)) (now (z .entry)) (now (theta .entry))) (now (out .entry)) a (now (out .exit)) ⌝ }
 {
-    if !check::readable(y, xi, z, theta, out.len()) {
+    let n = out.len();
+    if !check::readable(y, xi, z, theta, n) {
         return Answer::Refused;
     }
-    value::fill(y, xi, z, theta, out);
-    Answer::Given(errors::power(z, theta))
+    let s = fill::fill(y, xi, z, theta, out);
+    Answer::Given(errors::power(s, n))
 }

@@ -5,10 +5,12 @@ use native.Mathlib.Omega.{arith}
 use lib.ListN.{length}
 use borrow.Author.Needs.{needs}
 use borrow.Author.Tests.{not-true, not-false}
-use Rattle.readings.specs.Readings.{Lists, readable}
-use Rattle.readings.specs.Calls.{listsOf}
+use Rattle.readings.specs.Readings.{Lists, amplitudes, readable}
+use Rattle.readings.specs.Calls.{listsOf, powerFrom}
+use Rattle.readings.specs.declared.errors.Sum.{Sum}
 use Rattle.readings.specs.declared.Answer.the-variants.{Given}
-use Rattle.readings.proofs.ReadableLaws.{readable-says, readable-sums, refused, given}
+use Rattle.readings.proofs.ListLaws.{amplitudes-length, squares-bound, power-from}
+use Rattle.readings.proofs.ReadableLaws.{readable-says, refused, given}
 use Rattle.readings.proofs.readings.Statement.{statement}
 use Rattle.readings.proofs.readings.Tie as tie
 
@@ -24,17 +26,32 @@ returns c = let s = c .before .before .before .before in refused (lists s) (s .a
 fill-requires : tie.Need-fill-requires
 fill-requires c κs = readable-says (readable-is (c .before)) .fill
 
+-- as many a as readings
+long : (c : tie.Else1) → let s = c .before .before .before .before in length (amplitudes (s .args .z .now) (s .args .theta .now)) ≡ length (s .args .out .now)
+long c =
+    let s = c .before .before .before .before in
+    let f = readable-says (readable-is c) .fill in
+    amplitudes-length (s .args .z .now) (s .args .theta .now) (f .theta-long ∙ sym (f .z-long)) ∙ f .z-long
+
 power-requires : tie.Need-power-requires
 power-requires c κs =
-    let r = readable-says (readable-is (c .before .before .before)) in
-    (readable-sums r, omega (arith, r .some, r .fill .z-long))
+    let d = c .before .before .before in
+    let s = d .before .before .before .before in
+    let r = readable-says (readable-is d) in
+    let e = ap (λ (x : Sum). x .sum) (c .before .fill .ensures .1) in
+    (omega (arith, e, squares-bound (amplitudes (s .args .z .now) (s .args .theta .now)), long d, r .fill .few), r .some, r .fill .few)
 
 returns-2 : tie.Need-returns-2
 returns-2 c =
     let d = c .before .before .before .before in
     let s = d .before .before .before .before in
+    let n = length (s .args .out .now) in
     let r = given (lists s) (s .args .out .now) (readable-is d) in
-    record { answer = ap Given (c .power .ensures) ∙ r .answer; output = c .before .before .fill .ensures ∙ r .output }
+    let f = c .before .before .fill .ensures in
+    record {
+      answer = ap Given (c .power .ensures ∙ ap (λ (x : Sum). powerFrom x n) (f .1) ∙ power-from (s .args .z .now) (s .args .theta .now) n (long d)) ∙ r .answer;
+      output = f .0 ∙ r .output;
+    }
 
 pub readings-spec : {M : Type 1} → statement M
 readings-spec = tie.close (tie.spec (λ c κs. search needs) returns fill-requires power-requires (λ c. search needs) returns-2)
