@@ -2,6 +2,7 @@
 
 use crate::assumptions::{Assumptions, DAYS_A_YEAR};
 use crate::history::{OldRule, Reading};
+use crate::power::ErrorPower;
 use crate::words;
 
 /// A reading with its own by the old rule.
@@ -72,11 +73,16 @@ fn stretch(given: &Assumptions, readings: &[Reading], when: &str, spell: &str) -
     )
 }
 
-/// The mean error powers, the station's own and by the old rule.
+/// The error powers over all their blocks, the station's own and by the old
+/// rule.
 fn powers(pairs: &[Pair]) -> (String, String) {
-    let own = pairs.iter().filter_map(|(x, _)| x.error_power).collect();
+    let own = pairs.iter().filter_map(|(x, _)| x.error_power);
     let old = pairs.iter().filter_map(|(_, old)| old.error_power);
-    (words::mean_power(own), words::mean_power(old.collect()))
+    (in_words(own), in_words(old))
+}
+
+fn in_words(powers: impl Iterator<Item = ErrorPower>) -> String {
+    ErrorPower::joined(powers).map_or("none".to_string(), ErrorPower::in_words)
 }
 
 fn where_greater(all: &[Pair]) -> String {

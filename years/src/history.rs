@@ -5,6 +5,7 @@ use crate::burst::{Burst, Sender};
 use crate::cable::{CableModel, Weather};
 use crate::old_rule::RisesOnly;
 use crate::payload;
+use crate::power::ErrorPower;
 use crate::random::{Purpose, Random};
 use crate::station::{Decided, Return, Station};
 use tigbulode::sides::{Library, Operations};
@@ -20,8 +21,8 @@ pub struct Reading {
     pub pressure_received: Option<u16>,
     pub symbols: u32,
     pub wrong: u32,
-    /// None where no payload block was accepted.
-    pub error_power: Option<f64>,
+    /// Of the payload; none where no block of it was accepted.
+    pub error_power: Option<ErrorPower>,
     pub gain_least: u8,
     pub gain_most: u8,
     pub clipped: u32,
@@ -40,7 +41,7 @@ pub struct Reading {
 #[derive(Clone, Copy, Debug)]
 pub struct OldRule {
     pub psi: u8,
-    pub error_power: Option<f64>,
+    pub error_power: Option<ErrorPower>,
     pub wrong: u32,
     pub received: bool,
 }
@@ -66,8 +67,9 @@ struct World<'a> {
 /// The blocks of a burst, by the station and by the old rule.
 type Both = (Vec<Decided>, Option<Vec<Decided>>);
 
-/// Every reading in turn; `done` is told how many there are so far.
-pub fn run(given: &Assumptions, done: impl FnMut(u32)) -> Vec<Reading> {
+/// Every reading in turn; `done` is told how many there are so far. A message
+/// where what a block handed out can't be read.
+pub fn run(given: &Assumptions, done: impl FnMut(u32)) -> Result<Vec<Reading>, String> {
     run_beside(given, &RisesOnly, done)
 }
 
@@ -76,7 +78,7 @@ pub fn run_beside(
     given: &Assumptions,
     old: &dyn Operations,
     mut done: impl FnMut(u32),
-) -> Vec<Reading> {
+) -> Result<Vec<Reading>, String> {
     let old = given.old_rule.then(|| Station::new(given, old));
     let mut world = World {
         given,
@@ -86,31 +88,30 @@ pub fn run_beside(
         old,
         losses: Random::new(given.seed, Purpose::Power),
     };
-    world.commission();
+    world.commission()?;
     let mut readings = Vec::new();
     for number in 0..given.readings() {
-        readings.push(world.reading(number));
+        readings.push(world.reading(number)?);
         done(number + 1);
     }
-    readings
+    Ok(readings)
 }
 
 impl World<'_> {
     /// Passes a burst through the cable, and what is received to the stations.
-    fn pass(&mut self, burst: &Burst, weather: &Weather) -> Both {
+    fn pass(&mut self, burst: &Burst, weather: &Weather) -> Result<Both, String> {
         let unheard = self.sender.lead() + 1 - weather.taps.len();
         let levels = self.cable.receive(weather, &burst.sent[unheard..]);
+        let own = self.station.burst(&levels, &burst.entries)?;
         let old = self.old.as_mut();
-        (
-            self.station.burst(&levels, &burst.entries),
-            old.map(|station| station.burst(&levels, &burst.entries)),
-        )
+        let old = old.map(|station| station.burst(&levels, &burst.entries));
+        Ok((own, old.transpose()?))
     }
 
-    fn commission(&mut self) {
+    fn commission(&mut self) -> Result<(), String> {
         let weather = self.cable.weather(0.0);
         let burst = self.sender.commissioning();
-        self.pass(&burst, &weather);
+        self.pass(&burst, &weather).map(|_| ())
     }
 
     /// Whether power is lost before a reading, and how the station came back.
@@ -138,16 +139,16 @@ impl World<'_> {
         due
     }
 
-    fn reading(&mut self, number: u32) -> Reading {
+    fn reading(&mut self, number: u32) -> Result<Reading, String> {
         let day = self.given.day_of(number);
         let power_lost = self.lose_power();
         let weather = self.cable.weather(day);
         let pressure_sent = self.given.pressure.number_at(day);
         let burst = self.sender.reading(pressure_sent);
-        let (blocks, old_blocks) = self.pass(&burst, &weather);
+        let (blocks, old_blocks) = self.pass(&burst, &weather)?;
         let payload = self.payload(&blocks);
         let saved = self.save(number);
-        Reading {
+        Ok(Reading {
             number,
             day,
             pressure_true: self.given.pressure.at(day),
@@ -167,7 +168,7 @@ impl World<'_> {
             power_lost,
             refused: self.station.refused,
             old: old_blocks.and_then(|blocks| self.by_old_rule(&blocks, &burst)),
-        }
+        })
     }
 
     /// The blocks after the preamble.
@@ -212,9 +213,7 @@ fn wrong(blocks: &[Decided], sent: &[i8]) -> u32 {
     (sent.len() - blocks.iter().zip(parts).map(right).sum::<usize>()) as u32
 }
 
-/// The mean squared error over the payload.
-fn error_power(blocks: &[Decided]) -> Option<f64> {
-    let count: usize = blocks.iter().map(|b| b.decisions.len()).sum();
-    let sum: f64 = blocks.iter().map(|b| b.squared_errors).sum();
-    (count > 0).then(|| sum / count as f64)
+/// The error power over the accepted blocks.
+fn error_power(blocks: &[Decided]) -> Option<ErrorPower> {
+    ErrorPower::joined(blocks.iter().filter_map(|block| block.error_power))
 }

@@ -1,6 +1,7 @@
 //! One station through twenty years of readings. The cable, the weather, the
-//! gain control and the converter are assumed; the equaliser is the static
-//! library. Beside it runs the same station by the old rule, for comparison.
+//! gain control and the converter are assumed; the equaliser is the station's
+//! static library, and error powers are the laboratory's. Beside it runs the
+//! same station by the old rule, for comparison.
 //!
 //! Numbers are whole, or f64 with nothing but + − × ÷ and comparisons, which
 //! every machine rounds alike. The pages' dB and axes alone take more.
@@ -19,6 +20,7 @@ pub mod history;
 pub mod old_rule;
 pub mod page;
 pub mod payload;
+pub mod power;
 pub mod progress;
 pub mod random;
 pub mod reader;

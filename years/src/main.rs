@@ -56,7 +56,8 @@ fn run(path: &Path, outdir: &Path) -> Result<String, (u8, String)> {
     std::fs::create_dir_all(outdir)
         .map_err(|e| (1, format!("{}: can't be made: {e}", outdir.display())))?;
     let mut progress = Progress::new(given.readings());
-    let readings = history::run(&given, |done| progress.at(done));
+    let readings =
+        history::run(&given, |done| progress.at(done)).map_err(|message| (1, message))?;
     let summary = table::summary(&given, &readings);
     let mut texts = vec![("summary.txt".to_string(), summary.clone())];
     if !is_same(path, &outdir.join("years-assumptions.txt")) {

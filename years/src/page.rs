@@ -1,11 +1,12 @@
 //! What stands on a page: its words and its panels.
 
 use crate::axis::Axis;
-use crate::curve::{line, steps, Curve, Look, Point, Rows, BLACK, BLUE, GREY, ORANGE, RED};
+use crate::curve::{floors, line, steps, Curve, Look, Point, Rows, BLACK, BLUE, GREY, ORANGE, RED};
 use crate::history::{OldRule, Reading};
+use crate::power::{ErrorPower, CUT_NOTE, ZERO_NOTE};
 use crate::station::Return;
 use crate::table::{largest_back, largest_forward};
-use crate::view::{Span, View};
+use crate::view::{Drawn, Span, View};
 use crate::words::{self, decibels};
 
 pub struct Page {
@@ -78,7 +79,7 @@ fn head(view: &View) -> Vec<String> {
     let lost = words::share(view.total(is_lost), readings, "reading", "lost");
     let past = words::count(past, "wrong pressure");
     let [taps, step] = words::settings(&view.given.sizes);
-    let proved = "Run by the proved library: every block, save and load.";
+    let proved = "By proved libraries: every block, save, load and error power.";
     let mut lines = vec![
         format!("{lost}, {past} past the check"),
         format!("Assumed: cable, noise, gain control, converter. {proved}"),
@@ -321,55 +322,74 @@ fn guessing(view: &View, axis: &Axis) -> Option<Curve> {
 }
 
 /// The powers of single readings, beside which spans have their means.
-fn single_powers(view: &View) -> Vec<(f64, f64)> {
+fn single_powers(view: &View) -> Vec<Drawn> {
+    if view.span == Span::Reading {
+        return Vec::new();
+    }
     let few = view.readings.iter().step_by(view.thinned());
-    let powers = few.filter_map(|x| Some((x.day / view.unit, decibels(x.error_power?))));
-    powers.filter(|_| view.span != Span::Reading).collect()
+    few.map(|x| view.power_of(x)).collect()
 }
 
-fn single_marks(view: &View, powers: Vec<(f64, f64)>) -> Curve {
+fn single_marks(view: &View, powers: &[Drawn]) -> Curve {
     let few = match view.thinned() {
         1 => String::new(),
         every => format!(", 1 in {every} drawn"),
     };
     let style = format!("points pt 7 ps 0.15 lc rgb '{BLUE}'");
     let title = format!("mean of a reading{few}");
-    Curve::marks(powers.into_iter(), &style, &title)
+    Curve::marks(powers.iter().filter_map(place), &style, &title)
 }
 
-fn in_decibels(mut powers: Vec<Point>) -> Vec<Point> {
-    powers
-        .iter_mut()
-        .for_each(|p| p.value = p.value.map(decibels));
-    powers
+/// Where a power stands, where there is one.
+fn place(drawn: &Drawn) -> Option<(f64, f64)> {
+    Some((drawn.point.at, drawn.point.value?))
+}
+
+fn points(powers: &[Drawn]) -> Vec<Point> {
+    powers.iter().map(|drawn| drawn.point).collect()
+}
+
+fn any(powers: &[Drawn], of: fn(ErrorPower) -> bool) -> bool {
+    powers.iter().any(|drawn| drawn.power.is_some_and(of))
+}
+
+/// Marks of powers that are only floors.
+fn floor_marks(powers: &[Drawn]) -> Curve {
+    let is_floor = |drawn: &&Drawn| drawn.power.is_some_and(ErrorPower::is_floor);
+    floors(powers.iter().filter(is_floor).filter_map(place))
+}
+
+fn power_notes(powers: &[Drawn]) -> Vec<String> {
+    let mut notes = vec![
+        "0 dB: one symbol unit (r.m.s.), half the",
+        "distance between neighbours; the error",
+        "is to the station's own decision, so one",
+        "that only guesses shows about −5 dB;",
+        CUT_NOTE,
+    ];
+    notes.extend(any(powers, ErrorPower::is_zero).then_some(ZERO_NOTE));
+    notes.into_iter().map(str::to_string).collect()
 }
 
 fn error_power(view: &View) -> Panel {
-    let means = in_decibels(view.means(|x| x.error_power));
-    let old = in_decibels(view.means_old(|b| b.error_power));
-    let single = single_powers(view);
-    let (low, high) = ends(&means, -20.0, 0.0);
-    let start = ends(&old, low, high);
-    let (low, high) = single
-        .iter()
-        .fold(start, |(low, high), (_, v)| (low.min(*v), high.max(*v)));
+    let (own, old, single) = (view.powers(), view.powers_old(), single_powers(view));
+    let all = [&own[..], &old, &single].concat();
+    let (low, high) = ends(&points(&all), -20.0, 0.0);
     let axis = Axis::around(low, high, 6, 5.0);
     let mut curves: Vec<Curve> = guessing(view, &axis).into_iter().collect();
-    curves.push(single_marks(view, single));
+    curves.push(single_marks(view, &single));
     let title = format!("mean of {}", view.span.name());
     let old_title = format!("{title}, by the old rule");
-    curves.extend(line(&old, OLD, Some(&old_title)));
-    curves.extend(line(&means, THICK, Some(&title)));
+    curves.extend(line(&points(&old), OLD, Some(&old_title)));
+    curves.extend(line(&points(&own), THICK, Some(&title)));
+    curves.push(floor_marks(&all));
+    let notes = power_notes(&all);
+    let marked = any(&all, ErrorPower::is_floor);
     Panel {
-        height: 230.0,
+        height: 150.0 + 20.0 * notes.len() as f64 + if marked { 24.0 } else { 0.0 },
         label: "dB",
         name: "error power".to_string(),
-        notes: vec![
-            "0 dB: one symbol unit (r.m.s.), half the".to_string(),
-            "distance between neighbours; the error".to_string(),
-            "is to the station's own decision, so one".to_string(),
-            "that only guesses shows about −5 dB".to_string(),
-        ],
+        notes,
         axis,
         curves,
     }

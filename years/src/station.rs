@@ -2,7 +2,8 @@
 //! count of the calls that the library turned down.
 
 use crate::assumptions::Assumptions;
-use crate::converter::{convert, full_scale, gain_for, peak, power_of_two};
+use crate::converter::{convert, full_scale, gain_for, peak};
+use crate::power::{ErrorPower, Handed};
 use crate::random::{Purpose, Random};
 use tigbulode::sides::Operations;
 use tigbulode::{Block, Equaliser, Outputs, IMAGE_BYTES};
@@ -25,7 +26,8 @@ pub struct Station<'a> {
 pub struct Decided {
     /// Empty where the block was turned down.
     pub decisions: Vec<i8>,
-    pub squared_errors: f64,
+    /// None where it was.
+    pub error_power: Option<ErrorPower>,
     pub gain: u8,
     /// Samples beyond the converter's range.
     pub clipped: u32,
@@ -69,8 +71,9 @@ impl<'a> Station<'a> {
         }
     }
 
-    /// Takes the levels of a burst, block by block.
-    pub fn burst(&mut self, levels: &[f64], entries: &[i8]) -> Vec<Decided> {
+    /// Takes the levels of a burst, block by block; a message where what a
+    /// block hands out can't be read.
+    pub fn burst(&mut self, levels: &[f64], entries: &[i8]) -> Result<Vec<Decided>, String> {
         let n = usize::from(self.given.sizes.n);
         let blocks = levels.chunks(n).zip(entries.chunks(n));
         blocks
@@ -79,24 +82,28 @@ impl<'a> Station<'a> {
     }
 
     /// Sets the gain by the blocks before, converts the levels and runs the block.
-    fn block(&mut self, levels: &[f64], entries: &[i8]) -> Decided {
+    fn block(&mut self, levels: &[f64], entries: &[i8]) -> Result<Decided, String> {
         let sizes = self.given.sizes;
         let gain = gain_for(self.level, self.given.gain.headroom, sizes.r, sizes.l);
         self.level = peak(levels).max(self.given.gain.hold * self.level);
         let converted = levels.iter().map(|x| convert(*x, sizes.r, gain));
         let (samples, beyond): (Vec<i16>, Vec<bool>) = converted.unzip();
-        let (decisions, squared_errors) = self.run(&samples, &vec![gain; samples.len()], entries);
-        Decided {
+        let (decisions, error_power) = self.run(Block {
+            samples: &samples,
+            gains: &vec![gain; samples.len()],
+            entries,
+        })?;
+        Ok(Decided {
             decisions,
-            squared_errors,
+            error_power,
             gain,
             clipped: beyond.iter().filter(|b| **b).count() as u32,
-        }
+        })
     }
 
-    /// The decisions and the sum of squared errors of one call.
-    fn run(&mut self, samples: &[i16], gains: &[u8], entries: &[i8]) -> (Vec<i8>, f64) {
-        let n = samples.len();
+    /// The decisions and the error power of one call.
+    fn run(&mut self, block: Block) -> Result<(Vec<i8>, Option<ErrorPower>), String> {
+        let n = block.samples.len();
         let (mut y, mut z) = (vec![0; n], vec![0; n]);
         let (mut xi, mut theta) = (vec![0; n], vec![0; n]);
         let mut decision = vec![0; n];
@@ -107,19 +114,19 @@ impl<'a> Station<'a> {
             z: &mut z,
             theta: &mut theta,
         };
-        let block = Block {
-            samples,
-            gains,
-            entries,
-        };
         let number = self.by.run(&mut self.record, block, out);
         if number != 0 {
             self.count(number);
-            return (Vec::new(), 0.0);
+            return Ok((Vec::new(), None));
         }
-        let errors = z.iter().zip(&theta);
-        let error = |(z, theta): (&i32, &u8)| f64::from(*z) * power_of_two(i32::from(*theta) - 30);
-        (decision, errors.map(error).map(|e| e * e).sum())
+        let handed = Handed {
+            y: &y,
+            xi: &xi,
+            z: &z,
+            theta: &theta,
+        };
+        let (_, power) = handed.read()?;
+        Ok((decision, Some(ErrorPower::of_block(power))))
     }
 
     /// Keeps the image of the record, and its check sum beside it.

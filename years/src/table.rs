@@ -4,6 +4,7 @@ use crate::assumptions::{Assumptions, DAYS_A_YEAR};
 use crate::comparison;
 use crate::converter::power_of_two;
 use crate::history::{OldRule, Reading};
+use crate::power::ErrorPower;
 use crate::station::Return;
 use crate::words;
 use std::io::{Result, Write};
@@ -38,7 +39,7 @@ pub fn largest_back(reading: &Reading) -> f64 {
 fn header(given: &Assumptions) -> String {
     let mut line = "reading,day (days),time (years),pressure true (bar),pressure sent (bar),\
          pressure received (bar),payload symbols,wrong decisions,error power (squared symbol units),\
-         largest feed forward weight,largest feedback weight,psi,b,B,least gain,greatest gain,\
+         mean or floor,largest feed forward weight,largest feedback weight,psi,b,B,least gain,greatest gain,\
          clipped samples,loud spell,faint spell,noisy joint,saved,power lost,refused"
         .to_string();
     let numbers = (1..=9).map(|n| format!(",refused {n}"));
@@ -54,16 +55,21 @@ fn header(given: &Assumptions) -> String {
 
 /// The last columns, where the old rule is run.
 const OLD_RULE: &str = ",psi by the old rule,error power by the old rule (squared symbol units),\
-     wrong decisions by the old rule,lost by the old rule";
+     mean or floor by the old rule,wrong decisions by the old rule,lost by the old rule";
 
-fn power(power: Option<f64>) -> String {
-    power.map_or(String::new(), |e| format!("{e:.4e}"))
+/// The power with all its digits, and whether it is a mean or only a floor.
+fn power(power: Option<ErrorPower>) -> [String; 2] {
+    power.map_or([String::new(), String::new()], |power| {
+        [format!("{:e}", power.value()), power.kind().to_string()]
+    })
 }
 
-fn by_old_rule(old: &OldRule) -> [String; 4] {
+fn by_old_rule(old: &OldRule) -> [String; 5] {
+    let [power, kind] = power(old.error_power);
     [
         old.psi.to_string(),
-        power(old.error_power),
+        power,
+        kind,
         old.wrong.to_string(),
         u8::from(!old.received).to_string(),
     ]
@@ -85,10 +91,9 @@ fn row(given: &Assumptions, reading: &Reading) -> String {
         bar(given, reading.pressure_received),
         reading.symbols.to_string(),
         reading.wrong.to_string(),
-        power(reading.error_power),
-        format!("{:.6}", largest_forward(reading)),
-        format!("{:.6}", largest_back(reading)),
     ];
+    fields.extend(power(reading.error_power));
+    fields.extend([largest_forward, largest_back].map(|of| format!("{:.6}", of(reading))));
     let record = &reading.record;
     let gains = [reading.gain_least, reading.gain_most];
     fields.extend([record.psi, record.b, record.big].map(|n| n.to_string()));

@@ -3,6 +3,7 @@
 use crate::assumptions::{Assumptions, DAYS_A_YEAR};
 use crate::curve::Point;
 use crate::history::{OldRule, Reading};
+use crate::power::ErrorPower;
 
 /// A page draws reading by reading up to so many, days up to so many, weeks
 /// beyond.
@@ -72,6 +73,13 @@ impl Span {
             Span::Week
         }
     }
+}
+
+/// An error power and its point, in dB.
+#[derive(Clone, Copy, Debug)]
+pub struct Drawn {
+    pub point: Point,
+    pub power: Option<ErrorPower>,
 }
 
 /// Whether any of them was received.
@@ -153,21 +161,46 @@ impl<'a> View<'a> {
 
     /// A point for each span: the mean of its readings.
     pub fn means(&self, of: impl Fn(&Reading) -> Option<f64>) -> Vec<Point> {
-        self.means_by(received, of)
+        let point = |part: &&[Reading]| self.point(part, received(part), mean(part, &of));
+        self.parts.iter().map(point).collect()
+    }
+
+    /// The error power of each span.
+    pub fn powers(&self) -> Vec<Drawn> {
+        self.powers_by(received, |x| x.error_power)
     }
 
     /// The same by the old rule.
-    pub fn means_old(&self, of: impl Fn(&OldRule) -> Option<f64>) -> Vec<Point> {
-        self.means_by(received_old, |x| of(x.old.as_ref()?))
+    pub fn powers_old(&self) -> Vec<Drawn> {
+        self.powers_by(received_old, |x| x.old.as_ref()?.error_power)
     }
 
-    fn means_by(
+    /// The error power of a reading.
+    pub fn power_of(&self, reading: &Reading) -> Drawn {
+        self.power_by(std::slice::from_ref(reading), true, |x| x.error_power)
+    }
+
+    fn powers_by(
         &self,
         received: fn(&[Reading]) -> bool,
-        of: impl Fn(&Reading) -> Option<f64>,
-    ) -> Vec<Point> {
-        let point = |part: &&[Reading]| self.point(part, received(part), mean(part, &of));
-        self.parts.iter().map(point).collect()
+        of: impl Fn(&Reading) -> Option<ErrorPower>,
+    ) -> Vec<Drawn> {
+        let drawn = |part: &&[Reading]| self.power_by(part, received(part), &of);
+        self.parts.iter().map(drawn).collect()
+    }
+
+    fn power_by(
+        &self,
+        part: &[Reading],
+        received: bool,
+        of: impl Fn(&Reading) -> Option<ErrorPower>,
+    ) -> Drawn {
+        let power = ErrorPower::joined(part.iter().filter_map(of));
+        let level = power.map(ErrorPower::decibels);
+        Drawn {
+            point: self.point(part, received, level),
+            power,
+        }
     }
 
     /// A point for each reading, or each few where there are many; what the

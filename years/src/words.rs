@@ -36,16 +36,6 @@ pub fn decibels(power: f64) -> f64 {
     10.0 * power.max(1e-10).log10()
 }
 
-/// "−18.4 dB", the mean of powers; "none" where there are none.
-pub fn mean_power(powers: Vec<f64>) -> String {
-    if powers.is_empty() {
-        return "none".to_string();
-    }
-    let level = decibels(powers.iter().sum::<f64>() / powers.len() as f64);
-    let sign = if level < -0.05 { "−" } else { "" };
-    format!("{sign}{:.1} dB", level.abs())
-}
-
 /// Characters of a line at most, so that it fits a page's head.
 const LINE: usize = 110;
 

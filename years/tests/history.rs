@@ -2,15 +2,11 @@
 
 mod common;
 
-use common::alone as given;
+use common::{alone as given, history};
 use years::assumptions::Assumptions;
-use years::history::{run, Reading};
+use years::history::Reading;
 use years::station::Return;
 use years::table;
-
-fn history(given: &Assumptions) -> Vec<Reading> {
-    run(given, |_| {})
-}
 
 fn csv(given: &Assumptions, readings: &[Reading]) -> String {
     let mut bytes = Vec::new();
@@ -137,7 +133,7 @@ fn every_row_has_the_columns_of_the_header() {
     let columns = |line: &str| line.split(',').count();
     let mut lines = table.lines();
     let header = lines.next().expect("a header");
-    assert_eq!(columns(header), 23 + 9 + 5);
+    assert_eq!(columns(header), 24 + 9 + 5);
     assert!(table.lines().all(|line| columns(line) == columns(header)));
     assert_eq!(lines.count(), 365);
 }

@@ -2,15 +2,16 @@
 
 mod common;
 
-use common::given;
+use common::{given, history};
 use reference::Settings;
 use std::sync::OnceLock;
 use tigbulode::sides::{Library, Operations};
 use tigbulode::{Answer, Block, Equaliser, Outputs, Saved};
 use years::assumptions::Assumptions;
-use years::history::{run, run_beside, OldRule, Reading};
+use years::history::{run_beside, OldRule, Reading};
 use years::old_rule::RisesOnly;
 use years::page::{page, Page};
+use years::power::ErrorPower;
 use years::script::script;
 use years::station::Return;
 use years::view::View;
@@ -33,14 +34,15 @@ const SPELLS: [(&str, &str); 12] = [
     ("power_loss_days", "0"),
 ];
 
-fn history(changes: &[(&str, &str)]) -> Vec<Reading> {
-    run(&given(changes), |_| {})
-}
-
 /// The history of [`SPELLS`], run once.
 fn spells() -> &'static [Reading] {
     static READINGS: OnceLock<Vec<Reading>> = OnceLock::new();
-    READINGS.get_or_init(|| history(&SPELLS))
+    READINGS.get_or_init(|| history(&given(&SPELLS)))
+}
+
+/// The same with another in the place of the old rule.
+fn beside(other: &dyn Operations) -> Vec<Reading> {
+    run_beside(&given(&SPELLS), other, |_| {}).expect("every block is read")
 }
 
 fn old(reading: &Reading) -> OldRule {
@@ -51,8 +53,12 @@ fn old(reading: &Reading) -> OldRule {
 /// old rule.
 fn powers(readings: &[Reading], days: std::ops::Range<f64>) -> (f64, f64) {
     let there: Vec<_> = readings.iter().filter(|x| days.contains(&x.day)).collect();
-    let mean = |of: &dyn Fn(&Reading) -> Option<f64>| {
-        let sum: f64 = there.iter().filter_map(|x| of(x)).sum();
+    let mean = |of: &dyn Fn(&Reading) -> Option<ErrorPower>| {
+        let sum: f64 = there
+            .iter()
+            .filter_map(|x| of(x))
+            .map(ErrorPower::value)
+            .sum();
         decibels(sum / there.len() as f64)
     };
     (mean(&|x| x.error_power), mean(&|x| old(x).error_power))
@@ -137,7 +143,7 @@ fn both_are_the_same_until_the_exponent_first_falls() {
 
 #[test]
 fn the_amended_rule_in_the_place_of_the_old_one_is_found() {
-    let readings = run_beside(&given(&SPELLS), &Library, |_| {});
+    let readings = beside(&Library);
     assert!(readings.iter().all(alike));
     for check in [
         exponents_come_down,
@@ -175,7 +181,7 @@ impl Operations for OtherStep {
 
 #[test]
 fn an_old_rule_with_another_step_is_found() {
-    let readings = run_beside(&given(&SPELLS), &OtherStep, |_| {});
+    let readings = beside(&OtherStep);
     for check in [errors_are_smaller, the_same_until_a_fall] {
         check(&readings).expect_err("found");
     }
@@ -183,15 +189,15 @@ fn an_old_rule_with_another_step_is_found() {
 
 fn csv(given: &Assumptions) -> String {
     let mut bytes = Vec::new();
-    table::csv(given, &run(given, |_| {}), &mut bytes).expect("written");
+    table::csv(given, &history(given), &mut bytes).expect("written");
     String::from_utf8(bytes).expect("text")
 }
 
-/// Whether every line has the columns of the station alone, then four more.
+/// Whether every line has the columns of the station alone, then five more.
 fn same_columns_first(with: &str, alone: &str) -> bool {
     let same = |(line, alone): (&str, &str)| {
         let more = line.strip_prefix(alone);
-        more.is_some_and(|more| more.starts_with(',') && more.matches(',').count() == 4)
+        more.is_some_and(|more| more.starts_with(',') && more.matches(',').count() == 5)
     };
     with.lines().count() == alone.lines().count() && with.lines().zip(alone.lines()).all(same)
 }
@@ -201,7 +207,7 @@ fn same_columns_first(with: &str, alone: &str) -> bool {
 fn bent_tables(table: &str) -> Vec<String> {
     let (start, last) = table.trim_end().rsplit_once('\n').expect("rows");
     let columns = last.split(',').count();
-    let bent = (0..columns - 4).map(|place| {
+    let bent = (0..columns - 5).map(|place| {
         let mut fields: Vec<String> = last.split(',').map(String::from).collect();
         fields[place].push('1');
         format!("{start}\n{}\n", fields.join(","))
@@ -235,7 +241,7 @@ fn what_the_old_rule_left_behind_goes_with_a_new_set_up() {
         &[("power_loss_days", "60"), ("damaged_images", "0.5")],
         &SPELLS[..],
     ];
-    let readings = history(&changes.concat());
+    let readings = history(&given(&changes.concat()));
     let anew = readings.iter().filter(|x| {
         let again = x.power_lost == Some(Return::CheckSumWrong);
         assert!(!again || x.error_power == old(x).error_power);
@@ -246,7 +252,11 @@ fn what_the_old_rule_left_behind_goes_with_a_new_set_up() {
 
 #[test]
 fn without_a_check_sum_a_bent_exponent_cost_years_by_the_old_rule() {
-    let readings = history(&[("seed", "9"), ("check_sum", "0"), ("faint_days", "0")]);
+    let readings = history(&given(&[
+        ("seed", "9"),
+        ("check_sum", "0"),
+        ("faint_days", "0"),
+    ]));
     let lost = readings.iter().filter(|x| x.pressure_received.is_none());
     let lost_old = readings.iter().filter(|x| !old(x).received);
     assert_eq!((lost.count(), lost_old.count()), (61, 2178));
@@ -289,7 +299,7 @@ fn a_page_draws_the_old_rule_only_where_it_is_run() {
         assert_eq!(text.matches(words).count(), 1, "{words}");
     }
     let alone = given(&[&SPELLS[..], &[("old_rule", "0")]].concat());
-    let text = script(&all_years(&alone, &run(&alone, |_| {})));
+    let text = script(&all_years(&alone, &history(&alone)));
     assert!(titles.iter().all(|words| !text.contains(words)) && !text.contains(head));
 }
 

@@ -2,11 +2,12 @@
 
 mod common;
 
-use common::alone as given;
+use common::{alone as given, history};
 use years::assumptions::Assumptions;
 use years::curve::Curve;
-use years::history::{run, Reading};
+use years::history::Reading;
 use years::page::{page, Page, Panel};
+use years::power::ErrorPower;
 use years::script::script;
 use years::view::View;
 use years::words::decibels;
@@ -22,7 +23,7 @@ fn calm(more: &[(&str, &str)]) -> (Assumptions, Vec<Reading>) {
         ("power_loss_days", "0"),
     ]);
     let given = given(&changes);
-    let readings = run(&given, |_| {});
+    let readings = history(&given);
     (given, readings)
 }
 
@@ -114,7 +115,7 @@ fn dots_are_named_once_where_they_are_first_drawn() {
 /// The error powers of readings.
 fn powers(readings: &[Reading]) -> Vec<f64> {
     let powers = readings.iter().map(|x| x.error_power.expect("a power"));
-    powers.collect()
+    powers.map(ErrorPower::value).collect()
 }
 
 /// Their mean in dB.
@@ -176,7 +177,7 @@ fn a_weight_whose_sign_changes_does_not_cancel() {
 #[test]
 fn a_page_says_what_is_other_than_the_default() {
     let few = given(&[("seed", "9"), ("years", "1"), ("joint_days", "0")]);
-    let readings = run(&few, |_| {});
+    let readings = history(&few);
     let text = script(&all_years(&few, &readings));
     let changes = "seed = 9, years = 1, joint_days = 0, old_rule = 0";
     assert!(text.contains(&format!("'other than the default: {changes}'")));
@@ -266,7 +267,7 @@ fn a_page_names_what_is_there() {
         ("damaged_images", "0.5"),
     ];
     let with = given(&changes);
-    let readings = run(&with, |_| {});
+    let readings = history(&with);
     let text = script(&all_years(&with, &readings));
     for there in [
         "loud spell",
@@ -278,7 +279,7 @@ fn a_page_names_what_is_there() {
         assert!(text.contains(there), "{there}");
     }
     let without = given(&[&changes[..], &[("check_sum", "0")]].concat());
-    let readings = run(&without, |_| {});
+    let readings = history(&without);
     let text = script(&all_years(&without, &readings));
     for there in ["no image taken, set up anew: ", "calls turned down so far"] {
         assert!(text.contains(there), "{there}");
@@ -303,7 +304,7 @@ fn a_wrong_pressure_is_marked_and_on_no_line() {
 #[test]
 fn days_around_a_mark_stay_within_the_history() {
     let given = given(&[("years", "1"), ("loud_first_day", "2"), ("loud_days", "5")]);
-    let readings = run(&given, |_| {});
+    let readings = history(&given);
     let view = View::near(&given, &readings, |x| x.loud).expect("a view");
     assert_eq!((view.from, view.to), (0.0, 30.0));
     assert_eq!(view.readings.len(), 60);

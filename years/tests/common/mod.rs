@@ -1,6 +1,7 @@
 use std::path::{Path, PathBuf};
 use years::assumptions::{parse, Assumptions};
 pub use years::changes::DEFAULT;
+use years::history::{run, Reading};
 
 /// The default text with other values for some keys; the first of two counts.
 pub fn text_with(changes: &[(&str, &str)]) -> String {
@@ -21,6 +22,12 @@ pub fn given(changes: &[(&str, &str)]) -> Assumptions {
 #[allow(dead_code)]
 pub fn alone(changes: &[(&str, &str)]) -> Assumptions {
     given(&[changes, &[("old_rule", "0")]].concat())
+}
+
+/// A whole history.
+#[allow(dead_code)]
+pub fn history(given: &Assumptions) -> Vec<Reading> {
+    run(given, |_| {}).expect("every block is read")
 }
 
 /// An empty folder for one test.
