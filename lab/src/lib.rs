@@ -1,5 +1,5 @@
 //! Step sizes on a cable that a person describes. The laboratory's library
-//! makes a trace for each step size, the station's runs it.
+//! makes a trace for each step size and reads what the station's hands out.
 //!
 //! * [`share`]: a share of the greatest admitted M.
 //! * [`words`]: the text as words with their lines.

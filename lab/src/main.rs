@@ -104,7 +104,8 @@ fn lab(file: &Path, outdir: &Path) -> Result<String, Failure> {
     for (place, (step, bytes)) in made.into_iter().enumerate() {
         eprintln!("step size {} of {steps}: M = {}", place + 1, step.m);
         let trace = Trace::of_bytes(&bytes).map_err(|wrong| (1, wrong.join("\n")))?;
-        runs.push(run(step, &trace, &sent, given.training.value));
+        let ran = run(step, &trace, &sent, given.training.value);
+        runs.push(ran.map_err(|message| (1, message))?);
     }
     let summary = summary::summary(&given, &runs);
     let name = file.file_name().unwrap_or_default().to_string_lossy();

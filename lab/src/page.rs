@@ -2,13 +2,14 @@
 //! every step size.
 
 use crate::counts::Counts;
-use crate::run::{decibels, mean_power, Ran, Run};
-use crate::summary::{cable, in_decibels, last_blocks, named, stop, wrong};
+use crate::run::{joined, Ran, Run};
+use crate::summary::{cable, last_blocks, named, stop, wrong};
 use crate::text::{Given, MOST_STEPS};
 use crate::words::shown;
 use years::axis::Axis;
-use years::curve::{Curve, Rows, GREY};
-use years::words::{count, percent};
+use years::curve::{floors, Curve, Rows, GREY};
+use years::power::{ErrorPower, CUT_NOTE, ZERO_NOTE};
+use years::words::{count, decibels, percent};
 
 pub struct Page {
     pub title: String,
@@ -69,7 +70,7 @@ pub fn page(given: &Given, runs: &[Run], file: &str) -> Page {
     let mut lines = vec![outcome(runs)];
     lines.extend(cable(given));
     lines.push(
-        "Trace by the laboratory's library, blocks run by the station's: both are proved."
+        "Trace and error power by the laboratory's library, blocks run by the station's: both are proved."
             .to_string(),
     );
     lines.extend(runs.iter().filter_map(stopped));
@@ -168,16 +169,22 @@ fn together(given: &Given) -> usize {
     blocks.div_ceil(MOST_POINTS)
 }
 
-/// Means of blocks in a row, each in the middle of its samples; the first and
-/// the last reach to the ends.
-fn powers(given: &Given, run: &Run) -> Vec<(f64, f64)> {
+/// The power of blocks in a row, each in the middle of its samples.
+fn middles(given: &Given, run: &Run) -> Vec<(f64, ErrorPower)> {
     let (n, few) = (f64::from(given.n.value), together(given));
     let groups = run.blocks.chunks(few).enumerate();
     let middles = groups.filter_map(|(place, blocks)| {
         let middle = (place * few) as f64 + blocks.len() as f64 / 2.0;
-        Some((middle * n, decibels(mean_power(blocks)?)))
+        Some((middle * n, joined(blocks)?))
     });
-    let middles: Vec<(f64, f64)> = middles.collect();
+    middles.collect()
+}
+
+/// The same in dB; the first and the last reach to the ends.
+fn powers(given: &Given, run: &Run) -> Vec<(f64, f64)> {
+    let n = f64::from(given.n.value);
+    let middles = middles(given, run).into_iter();
+    let middles: Vec<(f64, f64)> = middles.map(|(at, power)| (at, power.decibels())).collect();
     let first = middles.first().map(|(_, value)| (0.0, *value));
     let end = run.blocks.len() as f64 * n;
     let last = middles.last().map(|(_, value)| (end, *value));
@@ -204,6 +211,21 @@ fn guessing(given: &Given) -> Curve {
     Curve::new(rows, style, Some("−5 dB: any error within one unit"))
 }
 
+/// Marks of powers that are only floors, where there are any.
+fn floor_marks(given: &Given, runs: &[Run]) -> Option<Curve> {
+    let all = runs.iter().flat_map(|run| middles(given, run));
+    let only_floors = all.filter(|(_, power)| power.is_floor());
+    let marks = floors(only_floors.map(|(at, power)| (at, power.decibels())));
+    (!marks.rows.is_empty()).then_some(marks)
+}
+
+/// Where a power of 0 is drawn, if there is one.
+fn zero_note(given: &Given, runs: &[Run]) -> Option<String> {
+    let mut all = runs.iter().flat_map(|run| middles(given, run));
+    let any = all.any(|(_, power)| power.is_zero());
+    any.then(|| ZERO_NOTE.to_string())
+}
+
 fn error_notes(given: &Given, runs: &[Run]) -> Vec<String> {
     let mean = match together(given) {
         1 => "each point the mean of a block".to_string(),
@@ -214,11 +236,13 @@ fn error_notes(given: &Given, runs: &[Run]) -> Vec<String> {
         "distance between neighbours; the error is",
         "to the training symbol, then to the station's",
         "own decision, right or wrong: a low one is no",
-        "success where decisions below are wrong",
+        "success where decisions below are wrong;",
+        CUT_NOTE,
     ];
     let last = runs.iter().map(|run| run.last_blocks().len()).max();
     let fixed = fixed.map(str::to_string).into_iter();
     fixed
+        .chain(zero_note(given, runs))
         .chain([
             mean,
             format!("dB below: the mean of {}", last_blocks(last.unwrap_or(0))),
@@ -233,11 +257,12 @@ fn error_power(given: &Given, runs: &[Run]) -> Panel {
     let title = |run: &Run| {
         let end = run
             .last_error_power()
-            .map_or(String::new(), |power| format!(", {}", in_decibels(power)));
+            .map_or(String::new(), |power| format!(", {}", power.in_words()));
         format!("{}{end}", named(&run.step))
     };
     let mut drawn = vec![guessing(given)];
     drawn.extend(curves(runs, |_, run| in_rows(&powers(given, run)), title));
+    drawn.extend(floor_marks(given, runs));
     Panel {
         least_height: 330.0,
         label: "error power, dB",

@@ -1,15 +1,19 @@
 //! A trace through the station, block by block.
 
 use crate::cable::StepSize;
-use tigbulode::{Block, Equaliser, Outputs, MOST_BLOCK};
+use tigbulode::{Block, Equaliser, Outputs};
+use tigbulode_laboratory::Reading;
 use traces::trace::{Sample, Settings, Trace};
 use years::converter::power_of_two;
+use years::power::{self, ErrorPower};
 
 /// What came of one block.
 #[derive(Clone, Debug, PartialEq)]
 pub struct Ran {
-    /// The mean of squared errors.
-    pub error_power: f64,
+    /// y and the error of each sample, and its decision.
+    pub readings: Vec<Reading>,
+    pub decisions: Vec<i8>,
+    pub error_power: ErrorPower,
     /// Decisions after training, and how many of them are not what was sent.
     pub decided: usize,
     pub wrong: usize,
@@ -28,13 +32,39 @@ pub struct Run {
     pub stopped: Option<u8>,
 }
 
-const MOST: usize = MOST_BLOCK as usize;
+/// What a block hands out.
+#[derive(Clone, Debug)]
+pub struct Handed {
+    pub y: Vec<i32>,
+    pub xi: Vec<u8>,
+    pub decision: Vec<i8>,
+    pub z: Vec<i32>,
+    pub theta: Vec<u8>,
+}
 
-/// What a block hands out of use here.
-struct Handed {
-    decision: [i8; MOST],
-    z: [i32; MOST],
-    theta: [u8; MOST],
+impl Handed {
+    fn zeros(n: usize) -> Handed {
+        Handed {
+            y: vec![0; n],
+            xi: vec![0; n],
+            decision: vec![0; n],
+            z: vec![0; n],
+            theta: vec![0; n],
+        }
+    }
+
+    /// y and the error of each sample, and the error power, by the laboratory's
+    /// library.
+    pub fn read(&self) -> Result<(Vec<Reading>, ErrorPower), String> {
+        let lists = power::Handed {
+            y: &self.y,
+            xi: &self.xi,
+            z: &self.z,
+            theta: &self.theta,
+        };
+        let (readings, power) = lists.read()?;
+        Ok((readings, ErrorPower::of_block(power)))
+    }
 }
 
 /// The state that the settings of a trace start from.
@@ -44,11 +74,7 @@ fn set_up(s: &Settings) -> Equaliser {
 
 /// The number of a block, and what it hands out.
 fn pass(state: &mut Equaliser, part: &[Sample]) -> (u8, Handed) {
-    let mut handed = Handed {
-        decision: [0; MOST],
-        z: [0; MOST],
-        theta: [0; MOST],
-    };
+    let mut handed = Handed::zeros(part.len());
     let samples: Vec<i16> = part.iter().map(|sample| sample.m).collect();
     let gains: Vec<u8> = part.iter().map(|sample| sample.g).collect();
     let entries: Vec<i8> = part.iter().map(|sample| sample.entry).collect();
@@ -57,26 +83,18 @@ fn pass(state: &mut Equaliser, part: &[Sample]) -> (u8, Handed) {
         gains: &gains,
         entries: &entries,
     };
-    let n = part.len();
     let number = tigbulode::run(
         state,
         block,
         Outputs {
-            y: &mut vec![0; n],
-            xi: &mut vec![0; n],
-            decision: &mut handed.decision[..n],
-            z: &mut handed.z[..n],
-            theta: &mut handed.theta[..n],
+            y: &mut handed.y,
+            xi: &mut handed.xi,
+            decision: &mut handed.decision,
+            z: &mut handed.z,
+            theta: &mut handed.theta,
         },
     );
     (number, handed)
-}
-
-/// The mean of squared errors Z·2^(θ−30).
-pub fn error_power(z: &[i32], theta: &[u8]) -> f64 {
-    let error = |(z, theta): (&i32, &u8)| f64::from(*z) * power_of_two(i32::from(*theta) - 30);
-    let squares = z.iter().zip(theta).map(error).map(|error| error * error);
-    squares.sum::<f64>() / z.len() as f64
 }
 
 /// Weights as W·2^(ψ−15), feed forward first.
@@ -89,22 +107,25 @@ pub fn weights(state: &Equaliser) -> Vec<f64> {
 
 /// A block that was accepted; `sent` are its symbols, of which the first
 /// `trained` were training entries.
-fn ran(state: &Equaliser, handed: &Handed, sent: &[i8], trained: usize) -> Ran {
-    let n = sent.len();
-    let decisions = handed.decision[trained..n].iter();
+fn ran(state: &Equaliser, handed: Handed, sent: &[i8], trained: usize) -> Result<Ran, String> {
+    let (readings, error_power) = handed.read()?;
+    let decisions = handed.decision[trained..].iter();
     let wrong = decisions.zip(&sent[trained..]).filter(|(d, v)| d != v);
-    Ran {
-        error_power: error_power(&handed.z[..n], &handed.theta[..n]),
-        decided: n - trained,
+    Ok(Ran {
+        readings,
+        error_power,
+        decided: sent.len() - trained,
         wrong: wrong.count(),
+        decisions: handed.decision,
         psi: state.psi,
         weights: weights(state),
-    }
+    })
 }
 
 /// Runs a trace up to its end, or to a block that is turned down. `sent` are
-/// the symbols, the first `training` of which are the trace's entries.
-pub fn run(step: StepSize, trace: &Trace, sent: &[i8], training: usize) -> Run {
+/// the symbols, the first `training` of which are the trace's entries. A
+/// message where what a block hands out can't be read.
+pub fn run(step: StepSize, trace: &Trace, sent: &[i8], training: usize) -> Result<Run, String> {
     let n = usize::from(trace.settings.n);
     let mut state = set_up(&trace.settings);
     let mut blocks = Vec::new();
@@ -116,13 +137,13 @@ pub fn run(step: StepSize, trace: &Trace, sent: &[i8], training: usize) -> Run {
             break;
         }
         let trained = training.saturating_sub(place * n).min(n);
-        blocks.push(ran(&state, &handed, sent, trained));
+        blocks.push(ran(&state, handed, sent, trained)?);
     }
-    Run {
+    Ok(Run {
         step,
         blocks,
         stopped,
-    }
+    })
 }
 
 impl Run {
@@ -141,21 +162,12 @@ impl Run {
     }
 
     /// None where no block was accepted.
-    pub fn last_error_power(&self) -> Option<f64> {
-        mean_power(self.last_blocks())
+    pub fn last_error_power(&self) -> Option<ErrorPower> {
+        joined(self.last_blocks())
     }
 }
 
-/// The mean error power of blocks.
-pub fn mean_power(blocks: &[Ran]) -> Option<f64> {
-    let sum: f64 = blocks.iter().map(|block| block.error_power).sum();
-    (!blocks.is_empty()).then(|| sum / blocks.len() as f64)
-}
-
-/// The least that is told, in dB.
-pub const LEAST_DB: f64 = -100.0;
-
-/// A power in dB, 0 dB being an error power of 1.
-pub fn decibels(power: f64) -> f64 {
-    (10.0 * power.log10()).max(LEAST_DB)
+/// The error power of blocks in a row.
+pub fn joined(blocks: &[Ran]) -> Option<ErrorPower> {
+    ErrorPower::joined(blocks.iter().map(|block| block.error_power))
 }

@@ -2,8 +2,9 @@
 //! page.
 
 use crate::cable::StepSize;
-use crate::run::{decibels, Run};
+use crate::run::Run;
 use crate::text::{fraction, Given};
+use years::power::ErrorPower;
 use years::words::{count, percent, settings};
 
 /// "share 1/8: M = 65536", or the name alone where that is "M = 65536".
@@ -25,9 +26,13 @@ fn with_minus(number: &str) -> String {
     number.replace('-', "−")
 }
 
-/// "−21.3 dB".
-pub fn in_decibels(power: f64) -> String {
-    with_minus(&format!("{:.1} dB", decibels(power)))
+/// "−21.3 dB (7.4131e-3)"; a floor and 0 in words alone.
+fn power_text(power: ErrorPower) -> String {
+    let figure = match power.is_floor() || power.is_zero() {
+        true => String::new(),
+        false => format!(" ({:.4e})", power.value()),
+    };
+    power.in_words() + &figure
 }
 
 /// "107 of 6400 (1.7 %)".
@@ -109,9 +114,9 @@ fn end(given: &Given, run: &Run) -> Option<String> {
     let power = run.last_error_power()?;
     let (forward, back) = last.weights.split_at(given.p.value.into());
     Some(format!(
-        "; error power over {} {} ({power:.4e}); ψ {}; feed forward weights {}; feedback weights {}",
+        "; error power over {} {}; ψ {}; feed forward weights {}; feedback weights {}",
         last_blocks(run.last_blocks().len()),
-        in_decibels(power),
+        power_text(power),
         last.psi,
         list(forward),
         list(back),

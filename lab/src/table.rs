@@ -1,6 +1,6 @@
 //! The table: a row for each step size and block.
 
-use crate::run::{decibels, Ran, Run};
+use crate::run::{Ran, Run};
 use crate::text::Given;
 
 /// The weight of greatest magnitude.
@@ -11,7 +11,7 @@ fn largest(weights: &[f64]) -> f64 {
 
 fn header(given: &Given) -> String {
     let columns = "step,M,share of the greatest M,block,first sample,turned down with,\
-         error power (squared symbol units),error power (dB; at least -100),\
+         error power (squared symbol units),mean or floor,error power (dB; not below -100),\
          decisions after training,wrong decisions after training,psi,\
          largest feed forward weight,largest feedback weight";
     let mut line = columns.to_string();
@@ -24,8 +24,9 @@ fn header(given: &Given) -> String {
 fn figures(given: &Given, block: &Ran) -> String {
     let (forward, back) = block.weights.split_at(given.p.value.into());
     let mut fields = vec![
-        format!("{:.6e}", block.error_power),
-        format!("{:.3}", decibels(block.error_power)),
+        format!("{:e}", block.error_power.value()),
+        block.error_power.kind().to_string(),
+        format!("{:.3}", block.error_power.decibels()),
         block.decided.to_string(),
         block.wrong.to_string(),
         block.psi.to_string(),
@@ -53,7 +54,7 @@ fn rows(given: &Given, place: usize, run: &Run) -> String {
         .map(|(block, ran)| format!("{},{}\n", start(block, 0), figures(given, ran)))
         .collect();
     if let Some(number) = run.stopped {
-        let empty = ",".repeat(7 + usize::from(given.p.value) + usize::from(given.q.value));
+        let empty = ",".repeat(8 + usize::from(given.p.value) + usize::from(given.q.value));
         text.push_str(&format!("{}{empty}\n", start(run.blocks.len(), number)));
     }
     text

@@ -2,7 +2,7 @@
 
 mod common;
 
-use common::{falling, given, runs, with_line, EXAMPLE, WORKED};
+use common::{falling, given, loud, runs, silent, with_line, EXAMPLE, WORKED};
 use lab::page::{page, Page, Panel};
 use lab::script::script;
 
@@ -99,7 +99,7 @@ fn error_powers_are_means_of_blocks_in_a_row() {
     let powers: Vec<f64> = runs[1]
         .blocks
         .iter()
-        .map(|block| block.error_power)
+        .map(|block| block.error_power.value())
         .collect();
     for (place, two) in powers.chunks(2).enumerate() {
         let (at, value) = rows[place + 1];
@@ -107,6 +107,33 @@ fn error_powers_are_means_of_blocks_in_a_row() {
         assert!((value - 10.0 * ((two[0] + two[1]) / 2.0).log10()).abs() < 1e-5);
     }
     assert_eq!((rows[0].0, rows[151].0), (0.0, 9600.0));
+}
+
+const MARKED: &str = "at least this: an error of 256 or more";
+const ZERO: &str = "power 0, all below 1/256, is at −100 dB";
+
+#[test]
+fn a_floor_is_marked_where_there_is_one() {
+    let page = page_of(&loud());
+    let panel = panel(&page, "error power");
+    let marks = rows(panel, MARKED);
+    assert_eq!(marks.len(), 1);
+    assert!(rows(panel, "share 1: M = 699050, at least 23.0 dB").contains(&marks[0]));
+    assert!(script(&page).contains(MARKED) && !script(&page).contains(ZERO));
+    for text in [EXAMPLE, &falling()] {
+        let text = script(&page_of(text));
+        assert!(!text.contains(MARKED) && !text.contains(ZERO));
+    }
+}
+
+#[test]
+fn a_power_of_0_is_at_the_foot_and_the_page_says_so() {
+    let page = page_of(&silent());
+    let panel = panel(&page, "error power");
+    assert!(panel.notes.iter().any(|note| note == ZERO));
+    let rows = rows(panel, "share 1: M = 67108864, below −48.1 dB");
+    assert_eq!(rows.last(), Some(&(640.0, -100.0)));
+    assert!(!script(&page).contains(MARKED));
 }
 
 /// The height at which a panel has the word 0.
@@ -216,7 +243,7 @@ fn outside(panel: &Panel) -> Option<&str> {
 
 #[test]
 fn every_point_is_within_its_panel() {
-    for text in [EXAMPLE, WORKED, &falling()] {
+    for text in [EXAMPLE, WORKED, &falling(), &loud(), &silent()] {
         for mut panel in page_of(text).panels {
             assert_eq!(outside(&panel), None, "{}", panel.name);
             let beyond = panel.up.high + 0.1;

@@ -2,28 +2,59 @@
 
 mod common;
 
-use common::{falling, given, runs, with_line, EXAMPLE, WORKED};
+use common::{falling, given, loud, runs, silent, with_line, EXAMPLE, WORKED};
 use lab::cable::traces;
-use lab::run::{decibels, error_power, mean_power, Ran, Run};
+use lab::run::{joined, Handed, Ran, Run};
 use lab::text::Given;
 use lab::{summary, table};
+use reference::readings as second;
 use reference::{Inputs, Outputs, State};
 use tigbulode::sides::settings_of;
+use tigbulode_laboratory::{Power, Reading};
 use traces::trace::{Sample, Trace};
+use years::power::ErrorPower;
+use years::words::decibels;
 
-#[test]
-fn error_power_is_the_mean_of_squares() {
-    assert_eq!(error_power(&[1 << 28], &[2]), 1.0);
-    assert_eq!(error_power(&[-(1 << 28), 0], &[2, 24]), 0.5);
-    assert_eq!(
-        error_power(&[3 << 20, -(1 << 20)], &[10, 11]),
-        (9.0 + 4.0) / 2.0
-    );
-    assert_eq!(error_power(&[0, 0], &[5, 5]), 0.0);
+/// What a block hands out, with these errors.
+fn handed(z: &[i32], theta: &[u8]) -> Handed {
+    Handed {
+        y: vec![0; z.len()],
+        xi: vec![1; z.len()],
+        decision: vec![1; z.len()],
+        z: z.to_vec(),
+        theta: theta.to_vec(),
+    }
 }
 
 #[test]
-fn decibels_have_a_floor() {
+fn error_power_is_the_mean_of_squares_of_errors_cut_to_256ths() {
+    let power = |z: &[i32], theta: &[u8]| handed(z, theta).read().expect("read").1.power;
+    assert_eq!(power(&[1 << 28], &[2]), Power::Mean(1.0));
+    assert_eq!(power(&[-(1 << 28), 0], &[2, 24]), Power::Mean(0.5));
+    let errors = [3 << 20, -(1 << 20)];
+    assert_eq!(power(&errors, &[10, 11]), Power::Mean((9.0 + 4.0) / 2.0));
+    assert_eq!(power(&[0, 0], &[5, 5]), Power::Mean(0.0));
+    // just below 1/256, just below 2/256, just below 256, and 256 itself
+    assert_eq!(power(&[(1 << 20) - 1], &[2]), Power::Mean(0.0));
+    assert_eq!(power(&[-(1 << 21) + 1], &[2]), Power::Mean(1.0 / 65536.0));
+    let most = 65535.0f64 * 65535.0 / 65536.0;
+    assert_eq!(power(&[(1 << 29) - 1], &[9]), Power::Mean(most));
+    assert_eq!(power(&[-(1 << 29)], &[9]), Power::Floor(most));
+}
+
+#[test]
+fn what_cannot_be_read_is_an_internal_error() {
+    for theta in [0, 25] {
+        let told = handed(&[1], &[theta]).read().expect_err("turned down");
+        assert!(
+            told.starts_with("internal error: ") && told.contains(" with 11 "),
+            "{told}"
+        );
+    }
+}
+
+#[test]
+fn decibels_end_at_100_below() {
     assert_eq!(decibels(1.0), 0.0);
     assert_eq!(decibels(100.0), 20.0);
     assert!((decibels(0.5) + 3.0103).abs() < 1e-4);
@@ -38,20 +69,25 @@ fn the_worked_example_comes_out() {
     let runs = runs(&given);
     let unit = 1.0 / 32768.0;
     let second = 264_241_152.0 / f64::from(1 << 28);
-    let ran = |error_power, decided, weights: [f64; 2]| Ran {
-        error_power,
+    let ran = |error: f64, decided, weights: [f64; 2]| Ran {
+        readings: vec![Reading {
+            y: 1.0 - error,
+            error,
+        }],
+        decisions: vec![1],
+        error_power: ErrorPower::of_block(Power::Mean(error * error)),
         decided,
         wrong: 0,
         psi: 0,
         weights: weights.map(|weight| weight * unit).to_vec(),
     };
     let first = ran(1.0, 0, [1024.0, 0.0]);
-    let blocks = vec![first, ran(second * second, 1, [2032.0, 2016.0])];
+    let blocks = vec![first, ran(second, 1, [2032.0, 2016.0])];
     assert_eq!(runs[0].blocks, blocks);
     assert_eq!(runs[0].stopped, None);
     let rows = "\
-1,67108864,1.000000,0,0,0,1.000000e0,0.000,0,0,0,0.031250,0.000000,0.031250,0.000000
-1,67108864,1.000000,1,1,0,9.689941e-1,-0.137,1,0,0,0.062012,0.061523,0.062012,0.061523
+1,67108864,1.000000,0,0,0,1e0,mean,0.000,0,0,0,0.031250,0.000000,0.031250,0.000000
+1,67108864,1.000000,1,1,0,9.68994140625e-1,mean,-0.137,1,0,0,0.062012,0.061523,0.062012,0.061523
 ";
     assert!(table::csv(&given, &runs).ends_with(rows));
 }
@@ -75,6 +111,25 @@ fn wrong_decisions_are_counted_after_training_alone() {
     assert_eq!(counts(6), [(0, 0), (0, 0), (0, 0)]);
 }
 
+/// The readings and the error power by the second implementation.
+fn read_by_reference(out: &Outputs) -> (Vec<Reading>, ErrorPower) {
+    let handed = second::Handed {
+        y: &out.y,
+        xi: &out.xi,
+        z: &out.z,
+        theta: &out.theta,
+    };
+    let mut lent = vec![second::Reading::default(); out.y.len()];
+    let power = match second::readings(&handed, &mut lent).expect("read") {
+        second::Power::Mean(value) => Power::Mean(value),
+        second::Power::Floor(value) => Power::Floor(value),
+    };
+    let readings = lent
+        .into_iter()
+        .map(|second::Reading { y, error }| Reading { y, error });
+    (readings.collect(), ErrorPower::of_block(power))
+}
+
 /// A block by the second implementation.
 fn block_by_reference(state: &mut State, part: &[Sample], sent: &[i8]) -> Ran {
     let samples: Vec<i16> = part.iter().map(|x| x.m).collect();
@@ -88,14 +143,16 @@ fn block_by_reference(state: &mut State, part: &[Sample], sent: &[i8]) -> Ran {
     let n = part.len();
     let mut out = Outputs::zeros(n);
     assert_eq!(reference::run(state, inputs, &mut out), 0);
-    let errors = (0..n).map(|i| f64::from(out.z[i]) * 2f64.powi(i32::from(out.theta[i]) - 30));
+    let (readings, error_power) = read_by_reference(&out);
     let decided: Vec<usize> = (0..n).filter(|i| training[*i] == 0).collect();
     let wrong = decided.iter().filter(|i| out.decision[**i] != sent[**i]);
     let unit = 2f64.powi(i32::from(state.psi) - 15);
     Ran {
-        error_power: errors.map(|e| e * e).sum::<f64>() / n as f64,
+        readings,
+        error_power,
         decided: decided.len(),
         wrong: wrong.count(),
+        decisions: out.decision.clone(),
         psi: state.psi,
         weights: state.weights.iter().map(|w| f64::from(*w) * unit).collect(),
     }
@@ -141,6 +198,51 @@ fn an_exponent_that_falls_does_so_as_in_the_second_implementation() {
     assert_eq!((most, last), (Some(4), Some(3)));
 }
 
+#[test]
+fn a_cable_that_turns_loud_brings_a_floor() {
+    let given = given(&loud());
+    let runs = runs(&given);
+    let made = traces(&given).expect("it is accepted");
+    for ((_, bytes), run) in made.iter().zip(&runs) {
+        let trace = Trace::of_bytes(bytes).expect("a trace");
+        assert_eq!(run.blocks, by_reference(&given, &trace));
+    }
+    let floors = |run: &Run| {
+        let blocks = run.blocks.iter().enumerate();
+        let floors = blocks.filter(|(_, block)| block.error_power.is_floor());
+        floors.map(|(place, _)| place).collect::<Vec<_>>()
+    };
+    assert_eq!((floors(&runs[0]), floors(&runs[1])), (vec![], vec![300]));
+    let csv = table::csv(&given, &runs);
+    let told = csv.lines().filter(|line| line.contains(",floor,"));
+    let told: Vec<&str> = told.collect();
+    assert_eq!(told.len(), 1);
+    assert!(told[0].starts_with("2,699050,1.000000,300,9600,0,5.69312083864212e3,floor,37.554,"));
+    let summary = summary::summary(&given, &runs);
+    let ends = [
+        "over the last 31 blocks 21.9 dB (1.5621e2); ψ",
+        "over the last 31 blocks at least 23.0 dB; ψ",
+    ];
+    for (line, end) in summary.lines().skip(4).zip(ends) {
+        assert!(line.contains(end), "{line}");
+    }
+}
+
+#[test]
+fn errors_below_1_256th_are_told_as_a_power_of_0() {
+    let given = given(&silent());
+    let runs = runs(&given);
+    let last = runs[0].blocks.last().expect("a block");
+    let small = |reading: &Reading| reading.error != 0.0 && reading.error.abs() < 1.0 / 256.0;
+    assert!(last.error_power.is_zero() && last.readings.iter().all(small));
+    let csv = table::csv(&given, &runs);
+    let row = csv.lines().last().expect("a row");
+    assert!(row.contains(",0e0,mean,-100.000,"), "{row}");
+    let summary = summary::summary(&given, &runs);
+    let words = "error power over the last 2 blocks below −48.1 dB; ψ";
+    assert!(summary.contains(words), "{summary}");
+}
+
 /// What the example is there to show.
 #[test]
 fn one_step_is_too_slow_one_is_right_and_one_is_at_the_limit() {
@@ -150,13 +252,13 @@ fn one_step_is_too_slow_one_is_right_and_one_is_at_the_limit() {
     assert_eq!(wrong, [3763, 0, 94]);
     assert!(runs.iter().all(|run| run.decided() == 6400));
     assert_eq!(Some(runs[2].step.m), given.greatest_step());
-    let before_end = |run: &Run| mean_power(&run.blocks[90..100]).map(decibels);
+    let before_end = |run: &Run| joined(&run.blocks[90..100]).map(ErrorPower::decibels);
     let trained: Vec<f64> = runs.iter().filter_map(before_end).collect();
     assert!(
         trained[0] > 0.0 && trained[1] < -6.0 && trained[2] < -6.0,
         "{trained:?}"
     );
-    let end = |run: &Run| run.last_error_power().map(decibels);
+    let end = |run: &Run| run.last_error_power().map(ErrorPower::decibels);
     assert!(end(&runs[1]) < end(&runs[2]));
 }
 
@@ -179,7 +281,7 @@ fn the_table_has_a_row_for_each_block_and_its_columns() {
         ]
     );
     assert_eq!(
-        columns[13..],
+        columns[14..],
         [
             "feed forward 0",
             "feed forward 1",
@@ -245,7 +347,7 @@ fn the_summary_has_a_line_for_each_step_size() {
         "response 0.4 −0.07 −0.02 0.02 −0.01 0 0 0 0.04, no noise",
         "9600 symbols, random from seed 1; training on the first 3200; least gain 0 (L)",
         "share 1/4: M = 524288, 0.250000 of the greatest: wrong decisions after training 0 of 6400 (0 %); \
-         error power over the last 30 blocks −6.8 dB (2.0828e-1); ψ 3; feed forward weights 2.476562 0.046875; \
+         error power over the last 30 blocks −6.8 dB (2.0677e-1); ψ 3; feed forward weights 2.476562 0.046875; \
          feedback weights 0.150879 0.050781 −0.05835 0.016846",
     ];
     for line in shown {
@@ -319,7 +421,8 @@ fn the_example_fares_as_in_plain_floating_point() {
     let given = given(EXAMPLE);
     for run in runs(&given) {
         let (wrong, power) = plain_lms(&given, run.step.m);
-        let apart = decibels(power) - run.last_error_power().map_or(0.0, decibels);
+        let end = run.last_error_power().map_or(0.0, ErrorPower::decibels);
+        let apart = decibels(power) - end;
         assert!(apart.abs() < 0.2, "{}: {apart} dB", run.step.name);
         assert!(
             wrong.abs_diff(run.wrong()) <= run.wrong() / 10,
@@ -339,11 +442,11 @@ fn without_the_echo_the_greatest_step_is_the_best() {
     let ends: Vec<f64> = runs
         .iter()
         .filter_map(Run::last_error_power)
-        .map(decibels)
+        .map(ErrorPower::decibels)
         .collect();
     assert_eq!((runs[1].wrong(), runs[2].wrong()), (0, 0));
     assert!(
-        (ends[1] + 21.3).abs() < 0.1 && (ends[2] + 35.3).abs() < 0.1,
+        (ends[1] + 21.4).abs() < 0.1 && (ends[2] + 36.1).abs() < 0.1,
         "{ends:?}"
     );
     assert!(decibels(plain_lms(&given, runs[1].step.m).1) < -45.0);

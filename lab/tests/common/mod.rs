@@ -42,6 +42,32 @@ pub fn falling() -> String {
     )
 }
 
+/// A cable whose echo takes most of its main path away as long as the signs of
+/// the symbols change every two, and adds to it where that pattern breaks off,
+/// 9600 symbols later: weights that fit the faint samples meet loud ones, and
+/// with the greatest step an error is beyond 256.
+#[allow(dead_code)]
+pub fn loud() -> String {
+    let sign = |place: usize| (place / 2 % 2 == 0) == (place < 9600);
+    let symbols = (0..9664).map(|place| if sign(place) { "15" } else { "-15" });
+    let symbols = symbols.collect::<Vec<_>>().join(" ");
+    format!(
+        "p = 3\nq = 1\nN = 32\nr = 3\nL = 0\nresponse_fractions = -0.25 0 0 0 0.275\n\
+         symbols = {symbols}\ntraining = 9664\nshares = 1/4 1\n"
+    )
+}
+
+/// A cable that brings nothing: the feedback weight alone comes to the symbol
+/// that is always sent, and errors below 1/256 are left.
+#[allow(dead_code)]
+pub fn silent() -> String {
+    let symbols = vec!["1"; 640].join(" ");
+    format!(
+        "p = 1\nq = 1\nN = 32\nr = 0\nL = 0\nresponse = 0\n\
+         symbols = {symbols}\ntraining = 320\nshares = 1\n"
+    )
+}
+
 /// A text with one of its lines replaced.
 #[allow(dead_code)]
 pub fn with_line(text: &str, number: usize, line: &str) -> String {
@@ -62,7 +88,7 @@ pub fn runs(given: &Given) -> Vec<Run> {
     let made = traces(given).expect("the cable is accepted").into_iter();
     made.map(|(step, bytes)| {
         let trace = Trace::of_bytes(&bytes).expect("a trace");
-        run(step, &trace, &sent, given.training.value)
+        run(step, &trace, &sent, given.training.value).expect("every block is read")
     })
     .collect()
 }
