@@ -7,12 +7,14 @@
 //! * [`cable`]: the trace of each step size.
 //! * [`refusal`]: why the library turned a cable down.
 //! * [`run`]: a trace through the station, block by block.
-//! * [`table`], [`summary`]: what came of it, in rows and in sentences.
+//! * [`table`], [`readings`], [`summary`]: what came of it, in rows and in
+//!   sentences.
 //! * [`counts`], [`page`], [`script`]: the picture.
 
 pub mod cable;
 pub mod counts;
 pub mod page;
+pub mod readings;
 pub mod refusal;
 pub mod run;
 pub mod script;

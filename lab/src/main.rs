@@ -5,7 +5,7 @@ use lab::page::page;
 use lab::run::run;
 use lab::script::script;
 use lab::text::read;
-use lab::{summary, table};
+use lab::{readings, summary, table};
 use std::ffi::OsString;
 use std::io::Write;
 use std::path::Path;
@@ -18,6 +18,7 @@ const USAGE: &str = "\
 usage: lab FILE OUTDIR
 Runs the cable that the text FILE describes with each of its step sizes and writes to the folder OUTDIR:
   lab.csv       a row for each step size and block
+  readings.csv  a row for each step size and sample: y and the error
   summary.txt   what came of them
   lab.gnuplot   the page; gnuplot writes its picture to standard output
   lab-cable.txt a copy of FILE, where that isn't this file itself
@@ -111,6 +112,7 @@ fn lab(file: &Path, outdir: &Path) -> Result<String, Failure> {
     let name = file.file_name().unwrap_or_default().to_string_lossy();
     let mut texts = vec![
         ("lab.csv", table::csv(&given, &runs)),
+        ("readings.csv", readings::csv(&given, &runs)),
         ("summary.txt", summary.clone()),
         ("lab.gnuplot", script(&page(&given, &runs, &name))),
     ];

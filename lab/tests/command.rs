@@ -41,7 +41,13 @@ fn told(output: &Output) -> String {
 }
 
 const COPY: &str = "lab-cable.txt";
-const WRITTEN: [&str; 4] = [COPY, "lab.csv", "lab.gnuplot", "summary.txt"];
+const WRITTEN: [&str; 5] = [
+    COPY,
+    "lab.csv",
+    "lab.gnuplot",
+    "readings.csv",
+    "summary.txt",
+];
 
 #[test]
 fn two_runs_write_the_same_bytes_and_tell_their_progress() {
@@ -200,6 +206,7 @@ fn a_run_that_cannot_write_leaves_the_earlier_one_whole() {
             "lab.csv",
             "lab.gnuplot",
             "lab.gnuplot.part",
+            "readings.csv",
             "summary.txt"
         ]
     );

@@ -6,7 +6,7 @@ use common::{falling, given, loud, runs, silent, with_line, EXAMPLE, WORKED};
 use lab::cable::traces;
 use lab::run::{joined, Handed, Ran, Run};
 use lab::text::Given;
-use lab::{summary, table};
+use lab::{readings, summary, table};
 use reference::readings as second;
 use reference::{Inputs, Outputs, State};
 use tigbulode::sides::settings_of;
@@ -90,6 +90,12 @@ fn the_worked_example_comes_out() {
 1,67108864,1.000000,1,1,0,9.68994140625e-1,mean,-0.137,1,0,0,0.062012,0.061523,0.062012,0.061523
 ";
     assert!(table::csv(&given, &runs).ends_with(rows));
+    let rows = "\
+step,block,sample,sent,known,decision,y (symbol units),error (symbol units)
+1,0,0,1,1,1,0,1
+1,1,1,1,0,1,0.015625,0.984375
+";
+    assert_eq!(readings::csv(&given, &runs), rows);
 }
 
 /// A wrong decision is counted: without a weight every output is 0, so every
@@ -241,6 +247,46 @@ fn errors_below_1_256th_are_told_as_a_power_of_0() {
     let summary = summary::summary(&given, &runs);
     let words = "error power over the last 2 blocks below −48.1 dB; ψ";
     assert!(summary.contains(words), "{summary}");
+}
+
+/// A row of readings.csv as numbers.
+fn numbers(row: &str) -> Vec<f64> {
+    let words = row.split(',');
+    words.map(|word| word.parse().expect("a number")).collect()
+}
+
+#[test]
+fn every_sample_has_a_row_whose_numbers_read_back_exactly() {
+    let given = given(EXAMPLE);
+    let runs = runs(&given);
+    let csv = readings::csv(&given, &runs);
+    let sent = given.symbols.plain();
+    let mut rows = csv.lines().skip(1);
+    for (place, run) in runs.iter().enumerate() {
+        let samples = run
+            .blocks
+            .iter()
+            .flat_map(|ran| ran.readings.iter().zip(&ran.decisions));
+        for (sample, (reading, decision)) in samples.enumerate() {
+            let known = sample < given.training.value;
+            let wanted = [
+                (place + 1) as f64,
+                (sample / 32) as f64,
+                sample as f64,
+                sent[sample].into(),
+                u8::from(known).into(),
+                (*decision).into(),
+                reading.y,
+                reading.error,
+            ];
+            let row = numbers(rows.next().expect("a row"));
+            assert_eq!(row, wanted);
+            let aim = if known { sent[sample] } else { *decision };
+            let cut = f64::from(aim) - row[6] - row[7];
+            assert!(cut.abs() < 1e-6, "{row:?}");
+        }
+    }
+    assert_eq!(rows.next(), None);
 }
 
 /// What the example is there to show.
