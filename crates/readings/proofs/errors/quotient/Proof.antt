@@ -1,5 +1,4 @@
 -- Both numbers are exact, and one division rounds.
-use Prim.Native.Nat.{_*_}
 use native.Mathlib.Omega.{arith}
 use borrow.Author.Needs.{needs}
 use Rattle.floats.specs.Values.{whole-fits}
@@ -11,7 +10,7 @@ sum-fits : tie.Need-int-to-float-result
 sum-fits c = whole-fits (c .before .args .sum) (omega (arith, c .before .pre .0))
 
 divisor-fits : tie.Need-int-to-float-result-2
-divisor-fits c = whole-fits (65536 * c .before .before .args .n) (omega (arith, c .before .before .pre .2))
+divisor-fits c = whole-fits _ (omega (arith, c .before .before .pre .2))
 
 returns : tie.Need-returns
 returns c = let s = c .before .before in quotient-is (s .args .sum) (s .args .n) (s .pre .0) (s .pre .1) (s .pre .2)
