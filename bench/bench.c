@@ -410,6 +410,13 @@ static void print_halvings(unsigned halvings) {
     fflush(stdout);
 }
 
+static void print_times(const figures *f, int who) { printf(" | %7.2f %7.2f", f->median[who], f->least[who]); }
+
+// Of the proved code to another contender.
+static void print_ratios(const figures *f, int who) {
+    printf(" | %6.2f %7.2f", f->ratio[who], f->least[PROVED] / f->least[who]);
+}
+
 static void print_table(const char *title, const int (*sizes)[2], int rows) {
     unsigned halvings = 0;
     printf("\n%s\n", title);
@@ -418,10 +425,10 @@ static void print_table(const char *title, const int (*sizes)[2], int rows) {
     for (int i = 0; i < rows; i++) {
         prepare(&current, sizes[i][0], sizes[i][1], USUAL);
         figures f = measure(timed_run, CONTENDERS);
-        printf("%3d %3d | %7.2f %7.2f | %7.2f %7.2f | %7.2f %7.2f | %6.2f %7.2f | %6.2f | %6.2f\n", sizes[i][0],
-               sizes[i][1], f.median[PROVED], f.least[PROVED], f.median[CAREFUL], f.least[CAREFUL],
-               f.median[PLAIN], f.least[PLAIN], f.ratio[CAREFUL], f.least[PROVED] / f.least[CAREFUL],
-               f.ratio[PLAIN], f.median[NATIVE]);
+        printf("%3d %3d", sizes[i][0], sizes[i][1]);
+        print_times(&f, PROVED), print_times(&f, CAREFUL), print_times(&f, PLAIN);
+        print_ratios(&f, CAREFUL);
+        printf(" | %6.2f | %6.2f\n", f.ratio[PLAIN], f.median[NATIVE]);
         fflush(stdout);
         halvings += count_halvings(current.begun, &current.state[PROVED], N);
     }
@@ -451,9 +458,10 @@ static void print_falling(const int (*sizes)[2], int rows) {
     for (int i = 0; i < rows; i++) {
         prepare_falling(sizes[i][0], sizes[i][1]);
         figures f = measure(timed_falling, 4);
-        printf("%3d %3d | %7.2f %7.2f | %7.2f %7.2f | %6.2f %7.2f | %7.2f %8.2f\n", sizes[i][0], sizes[i][1],
-               f.median[0], f.least[0], f.median[1], f.least[1], f.ratio[1], f.least[0] / f.least[1],
-               f.least[0] - f.least[2], f.least[1] - f.least[3]);
+        printf("%3d %3d", sizes[i][0], sizes[i][1]);
+        print_times(&f, PROVED), print_times(&f, CAREFUL);
+        print_ratios(&f, CAREFUL);
+        printf(" | %7.2f %8.2f\n", f.least[0] - f.least[2], f.least[1] - f.least[3]);
     }
 }
 
@@ -532,9 +540,10 @@ static void print_cable(void) {
     printf("\nMicroseconds for the longest trace with 32 response values: 16,381 symbols, N = 1, r = 2, L = 0\n");
     printf("        |      proved     |  (a) careful C  | proved/careful | native\n");
     printf(" values |  median   least |  median   least | median   least | median\n");
-    printf("     32 | %7.2f %7.2f | %7.2f %7.2f | %6.2f %7.2f | %6.2f\n", f.median[PROVED], f.least[PROVED],
-           f.median[CAREFUL], f.least[CAREFUL], f.ratio[CAREFUL], f.least[PROVED] / f.least[CAREFUL],
-           f.median[NATIVE]);
+    printf("     32");
+    print_times(&f, PROVED), print_times(&f, CAREFUL);
+    print_ratios(&f, CAREFUL);
+    printf(" | %6.2f\n", f.median[NATIVE]);
 }
 
 static void print_readings(const int *sizes, int rows) {
@@ -545,9 +554,10 @@ static void print_readings(const int *sizes, int rows) {
     for (int i = 0; i < rows; i++) {
         piece = (size_t)sizes[i];
         figures f = measure(timed_readings, PLAIN);
-        printf("    %3d | %7.2f %7.2f | %7.2f %7.2f | %6.2f %7.2f | %6.2f\n", sizes[i], f.median[PROVED], f.least[PROVED],
-               f.median[CAREFUL], f.least[CAREFUL], f.ratio[CAREFUL], f.least[PROVED] / f.least[CAREFUL],
-               f.median[NATIVE]);
+        printf("    %3d", sizes[i]);
+        print_times(&f, PROVED), print_times(&f, CAREFUL);
+        print_ratios(&f, CAREFUL);
+        printf(" | %6.2f\n", f.median[NATIVE]);
     }
 }
 
