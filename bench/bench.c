@@ -28,7 +28,8 @@ run_call before_tigbulode_run __attribute__((weak));
 
 static run_call *const runs[] = {tigbulode_run, careful_run, careful_native_run};
 static simulation *const simulations[] = {proved_simulation, careful_simulation, native_simulation};
-static readings_call *const readers[] = {tigbulode_readings, careful_readings, careful_native_readings};
+static readings_call *const readers[] = {tigbulode_readings, careful_readings, careful_native_readings,
+                                         plain_readings};
 
 typedef struct {
     channel_block blocks[BLOCKS];
@@ -362,10 +363,11 @@ static void check_reading_answers(void) {
     read_counts seen = {0}, unused = {0};
     if (!check_readings(careful_readings, 100000, &seen)) fail("careful C and the proved code differ in readings");
     if (!check_readings(careful_native_readings, 30000, &seen)) fail("careful C for this processor differs in readings");
+    if (!check_readings(plain_readings, 100000, &seen)) fail("plain C and the proved code differ in readings");
     if (check_readings(careful_cutting_readings, 30000, &unused)) fail("a floor for a mean was not found");
     if (check_readings(faulty_readings, 30000, &unused)) fail("a reading of -0 was not found");
-    printf("careful C and the proved code agree bit for bit; random lists: means %u, floors %u, turned down %u\n",
-           seen.means, seen.floors, seen.turned_down);
+    printf("careful C, plain C and the proved code agree bit for bit; ");
+    printf("random lists: means %u, floors %u, turned down %u\n", seen.means, seen.floors, seen.turned_down);
     if (seen.means == 0 || seen.floors == 0 || seen.turned_down == 0 || seen.zeros == 0)
         fail("a mean, a floor, a reading of 0 or lists that are turned down were never seen");
 }
@@ -548,15 +550,17 @@ static void print_cable(void) {
 
 static void print_readings(const int *sizes, int rows) {
     prepare_readings();
-    printf("\nNanoseconds per sample for the readings of a block and its error power\n");
-    printf("        |      proved     |  (a) careful C  | proved/careful | native\n");
-    printf("      N |  median   least |  median   least | median   least | median\n");
+    printf("\nNanoseconds per sample for the readings of a block and its error power; goal 1.0 of plain C;\n");
+    printf("careful C, which is in tiles, as information\n");
+    printf("        |      proved     |     plain C     |  proved/plain  |    careful C    | proved/careful | native\n");
+    printf("      N |  median   least |  median   least | median   least |  median   least | median   least | median\n");
     for (int i = 0; i < rows; i++) {
         piece = (size_t)sizes[i];
-        figures f = measure(timed_readings, PLAIN);
+        figures f = measure(timed_readings, CONTENDERS);
         printf("    %3d", sizes[i]);
-        print_times(&f, PROVED), print_times(&f, CAREFUL);
-        print_ratios(&f, CAREFUL);
+        print_times(&f, PROVED);
+        print_times(&f, PLAIN), print_ratios(&f, PLAIN);
+        print_times(&f, CAREFUL), print_ratios(&f, CAREFUL);
         printf(" | %6.2f\n", f.median[NATIVE]);
     }
 }
@@ -567,7 +571,7 @@ int main(void) {
     static const int uneven[][2] = {{1, 16}, {4, 12}, {8, 3}, {12, 4}, {16, 1}};
     static const int releases_at[][3] = {{1, 1, 128},   {3, 3, 128},   {8, 8, 128}, {12, 12, 128},
                                          {16, 16, 128}, {16, 16, 16}, {2, 16, 1}, {1, 1, 1}};
-    static const int readings_at[] = {128, 1};
+    static const int readings_at[] = {128, 16, 1};
     check_answers();
     check_cable_answers();
     check_reading_answers();
@@ -579,7 +583,7 @@ int main(void) {
     print_falling(main_sizes, 3);
     if (before_tigbulode_run) print_releases(releases_at, 8);
     print_cable();
-    print_readings(readings_at, 2);
+    print_readings(readings_at, 3);
     printf("\nMemory of a station: %zu bytes of record, at most %d bytes of image\n", sizeof(tigbulode_equaliser),
            12 + 4 * 32);
     printf("Stack of a block run: proved %zu bytes, careful C %zu bytes\n", stack_of(tigbulode_run),
