@@ -1,2 +1,3 @@
-pub mod Values
-pub mod Nearest
+pub mod Floats
+pub mod ValueLaws
+pub mod NearestLaws

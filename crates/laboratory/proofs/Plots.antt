@@ -19,7 +19,7 @@ use Rattle.state.specs.State.{settings, memory}
 use Rattle.state.specs.declared.equaliser.Equaliser.{Equaliser}
 use Rattle.state.proofs.SizesLaws.{fit-within}
 use Rattle.checks.specs.Checks.{Lent, block}
-use Rattle.station.specs.Answers.{runNumber, accepted, Run}
+use Rattle.station.specs.Answers.{runNumber, accepted}
 use Rattle.station.specs.Claim.{Call, run, trial, save, load, left, Start, WithinLimits, AcceptedBlock, RunHolds, CallHolds, Holds}
 use Rattle.station.proofs.Claim.{claim}
 use Rattle.readings.specs.Limits.{outputLimit, errorLimit}

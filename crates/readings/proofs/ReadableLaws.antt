@@ -1,18 +1,16 @@
 -- What can be read, and the answer where it can and where it can't.
-use mathlib.Core.Path.{_≡_, refl, sym, ap, ap₂, _∙_}
+use mathlib.Core.Path.{_≡_, refl, sym, ap}
 use mathlib.Core.Bool.{Bool, true, false, cond, _&&_, and-true}
 use mathlib.Core.List.{List}
 use Prim.Native.Nat.{ℕ, _≤_}
-use native.Mathlib.Omega.{arith}
-use lib.Dec.{leb, eqb}
 use lib.ListN.{length}
 use lib.Ieee.{Float}
 use borrow.Author.Tests.{leb-true, eqb-true, le-leb, eq-eqb}
-use Rattle.laws.specs.Lists.{and-left, and-right, all}
+use Rattle.laws.specs.Lists.{and-left, and-right}
 use Rattle.steps.specs.Limits.{blockLimit}
 use Rattle.steps.specs.Side.{allBelow}
 use Rattle.readings.specs.Limits.{outputLimit, errorLimit}
-use Rattle.readings.specs.Readings.{Lists, exponentFits, lengthsFit, valuesFit, readable, readingsOf, amplitudes, powerOf}
+use Rattle.readings.specs.Readings.{Lists, lengthsFit, valuesFit, readable, readingsOf, amplitudes, powerOf}
 use Rattle.readings.specs.Answers.{answerOf, outputOf, numberOf, Read}
 use Rattle.readings.specs.Calls.{Fillable}
 use Rattle.readings.specs.declared.Answer.the-variants.{Given, Refused}

@@ -1,26 +1,25 @@
 -- Every list that can be read: exact readings, one rounded division, and a power that is a mean exactly where no a was cut.
-use mathlib.Core.Path.{_≡_, refl, sym, ap, ap₂, _∙_, subst}
+use mathlib.Core.Path.{_≡_, refl, sym, ap, ap₂, _∙_}
 use mathlib.Core.Bool.{Bool, true, false, _&&_}
 use mathlib.Core.List.{List, [], _∷_}
-use Prim.Native.Nat.{ℕ, zero, suc, _+_, _*_, _-_, _/_, _^_, _≤_, _<_}
+use Prim.Native.Nat.{ℕ, suc, _+_, _*_, _-_, _/_, _^_, _≤_, _<_}
 use native.Mathlib.Omega.{arith}
-use native.Mathlib.Nat.{mul-le-mul, suc-inj, lt-of-le-of-lt}
+use native.Mathlib.Nat.{mul-le-mul}
 use lib.IntN.{ℤ, pos, natAbs}
 use lib.ListN.{length, getD}
-use lib.Ieee.{Float, fin, binary64, round, ofInt}
+use lib.Ieee.{binary64}
 use lib.Ieee.Fits.{round-fits}
 use borrow.Author.Tests.{le-leb, ltb-true, leb-true}
 use Rattle.laws.specs.Lists.{and-left, and-right, all, all-at}
 use Rattle.laws.specs.Powers.{split, positive}
-use Rattle.laws.specs.Sums.{Each}
 use Rattle.steps.specs.Side.{isBelow}
-use Rattle.floats.specs.Values.{negative, same-value, exact, whole-value, zero-is-plus}
-use Rattle.floats.specs.Nearest.{small, rounded-nearest}
+use Rattle.floats.specs.Floats.{negative}
+use Rattle.floats.specs.ValueLaws.{same-value, exact, whole-value, zero-is-plus}
+use Rattle.floats.specs.NearestLaws.{small, rounded-nearest}
 use Rattle.readings.specs.Limits.{outputLimit, errorLimit, amplitudeLimit}
-use Rattle.readings.specs.Readings.{Lists, valueOf, amplitude, amplitudes, counted, isWhole, squares, quotient, powerOf, readable}
+use Rattle.readings.specs.Readings.{Lists, valueOf, amplitude, amplitudes, counted, isWhole, squares, quotient, readable}
 use Rattle.readings.specs.Calls.{Exponent}
 use Rattle.readings.specs.Holds.{Exactly, exactSquares, squaresAbove, Uncut, ReadExactly, DividedOnce, ReadingsHold, ZeroIsPlus}
-use Rattle.readings.specs.declared.Power.the-variants.{Mean, Floor}
 use Rattle.readings.proofs.ListLaws.{exponent-at, pairs-length, pairs-at, amplitudes-length, squares-bound, power-mean, power-floor}
 use Rattle.readings.proofs.ReadableLaws.{Readable, readable-says}
 use Rattle.readings.proofs.ValueLaws.{quotient-is}

@@ -1,7 +1,6 @@
 -- A mantissa times a power of two, without rounding.
 use mathlib.Core.Path.{_≡_, refl, sym, ap, ap₂, _∙_}
 use mathlib.Core.Bool.{Bool, true, false}
-use mathlib.Core.List.{List, [], _∷_}
 use Prim.Native.Nat.{ℕ, zero, suc, _+_, _*_, _-_, _/_, _%_, _^_, _≤_, _<_}
 use native.Mathlib.Omega.{arith}
 use native.Mathlib.Nat.{mod-eq-of-lt, add-zero, le-of-suc-le-suc, not-suc-le-zero, mul-one}
@@ -10,9 +9,10 @@ use lib.ListN.{getD}
 use lib.Ieee.{Float, binary64, unlike, round, mul, div, ofInt, ofBits}
 use lib.Ieee.Scale.{round-same}
 use Rattle.laws.specs.Powers.{split3, positive, rises, scale-le}
-use Rattle.floats.specs.Values.{negative, whole-value, mul-value, div-value, field-value}
+use Rattle.floats.specs.Floats.{negative}
+use Rattle.floats.specs.ValueLaws.{whole-value, mul-value, div-value, field-value}
 use Rattle.steps.specs.Limits.{outputExponentLimit}
-use Rattle.readings.specs.Readings.{valueOf, amplitude, quotient}
+use Rattle.readings.specs.Readings.{valueOf, quotient}
 use Rattle.readings.specs.Calls.{Exponent, powers}
 
 -- ---- 2^(e−30)

@@ -7,7 +7,6 @@ use lib.IntN.{pos}
 use lib.ListN.{length}
 use lib.Ieee.{Float, fin}
 use Rattle.readings.specs.Readings.{Lists, readingsOf, amplitudes, powerOf, readable}
-use Rattle.readings.specs.declared.Power.{Power}
 use Rattle.readings.specs.declared.Power.the-variants.{Mean, Floor}
 use Rattle.readings.specs.declared.Answer.{Answer}
 use Rattle.readings.specs.declared.Answer.the-variants.{Given, Refused}

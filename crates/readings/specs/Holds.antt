@@ -8,8 +8,7 @@ use lib.ListN.{length, getD}
 use lib.Ieee.{Float, fin, binary64, ofInt, div}
 use lib.Ieee.Exact.{HasValue}
 use Rattle.laws.specs.Sums.{Each}
-use Rattle.floats.specs.Values.{negative}
-use Rattle.floats.specs.Nearest.{Nearest}
+use Rattle.floats.specs.Floats.{negative, Nearest}
 use Rattle.readings.specs.Limits.{amplitudeLimit}
 use Rattle.readings.specs.Readings.{Lists, valueOf, pairOf, readingOf, readingsOf, amplitudes, counted, squares, quotient, powerOf}
 use Rattle.readings.specs.declared.Power.the-variants.{Mean, Floor}

@@ -1,5 +1,5 @@
 -- The limits of what can be read; the exponents and the length are those of a block.
-use Prim.Native.Nat.{ℕ, _*_, _^_}
+use Prim.Native.Nat.{ℕ, _^_}
 
 -- Y
 abbrev pub outputLimit : ℕ

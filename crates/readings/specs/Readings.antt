@@ -7,7 +7,7 @@ use lib.IntN.{ℤ, natAbs}
 use lib.ListN.{length}
 use lib.Ieee.{Float, binary64, round}
 use Rattle.laws.specs.Lists.{all}
-use Rattle.floats.specs.Values.{negative}
+use Rattle.floats.specs.Floats.{negative}
 use Rattle.steps.specs.Limits.{blockLimit, outputExponentLimit}
 use Rattle.steps.specs.Side.{allBelow}
 use Rattle.readings.specs.Limits.{outputLimit, errorLimit, amplitudeLimit}

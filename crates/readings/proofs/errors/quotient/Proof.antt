@@ -1,7 +1,7 @@
 -- Both numbers are exact, and one division rounds.
 use native.Mathlib.Omega.{arith}
 use borrow.Author.Needs.{needs}
-use Rattle.floats.specs.Values.{whole-fits}
+use Rattle.floats.specs.ValueLaws.{whole-fits}
 use Rattle.readings.proofs.ValueLaws.{quotient-is}
 use Rattle.readings.proofs.errors.quotient.Statement.{statement}
 use Rattle.readings.proofs.errors.quotient.Tie as tie

@@ -1,7 +1,6 @@
 -- A fraction rounded to a float: no float of the format is nearer to it.
 use mathlib.Core.Path.{_≡_, refl, sym, ap, ap₂, _∙_, subst}
 use mathlib.Core.Bool.{Bool, true, false, not, _&&_, true≢false}
-use mathlib.Core.Logic.{_⊎_, inl, inr}
 use Prim.Native.Nat.{ℕ, zero, suc, _+_, _-_, _*_, _/_, _%_, _^_, _≤_, _<_, compare, Ordering, Ordering·lt, Ordering·eq, Ordering·gt}
 use native.Mathlib.Omega.{arith}
 use native.Mathlib.Nat.{le-trans, le-of-eq, lt-of-le-of-lt, div-le-self, div-div-eq-div-mul, div-add-mod', mod-lt, mul-le-mul-right, mul-pos, mul-comm, mul-add, mul-sub, le-of-mul-le-mul-right, le-div-iff-mul-le}
@@ -14,27 +13,10 @@ use lib.Ieee.Exact.{HasValue}
 use lib.Ieee.Fits.{and-l, and-r, two, two-le-pos, nearest-le, kept-lt}
 use lib.Ieee.Nearest.{closest}
 use lib.Ieee.Order.{drop, kept}
-use lib.Ieee.Positive.{num, den, value→cross}
+use lib.Ieee.Positive.{den}
 use lib.Ieee.Scale.{grid, overflow, finite, round-val}
 use Rattle.laws.specs.Powers.{split, positive, rises, rises-strictly, raise, below, exponent-le}
-
--- ---- the statement
-
--- |a − b|
-abbrev pub apart : ℕ → ℕ → ℕ
-apart a b = a - b + (b - a)
-
--- how far a finite x is from a / c, in units of 1 / (c · den x)
-abbrev pub off : Float → ℕ → ℕ → ℕ
-off nan a c = 0
-off (inf s) a c = 0
-off (fin true m e) a c = m * up e * c + a * down e
-off (fin false m e) a c = apart (m * up e * c) (a * down e)
-
--- r is finite, and no x of the format is nearer to a / c
-pub record Nearest (f : Format) (r : Float) (a c : ℕ) : Type 0 where
-  pub number : T (finite r)
-  pub least : (x : Float) → T (fits f x) → T (finite x) → off r a c * den x ≤ off x a c * den r
+use Rattle.floats.specs.Floats.{apart, off, Nearest}
 
 -- ---- whole numbers
 

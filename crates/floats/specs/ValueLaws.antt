@@ -14,6 +14,7 @@ use lib.Ieee.Positive.{first-pos}
 use lib.Ieee.Scale.{round-same}
 use borrow.Author.Tests.{ne-eqb, lt-leb}
 use Rattle.laws.specs.Powers.{positive, rises, raise, below, double}
+use Rattle.floats.specs.Floats.{negative}
 
 -- ---- equal fractions
 
@@ -26,11 +27,6 @@ same-value (fin t m g) s a c b d C e h = (h .0, eq-of-mul-eq-mul-right c C (m * 
     cross x p a c b d h e = omega (arith, ap (λ (n : ℕ). n * d) h, ap (λ (n : ℕ). n * p) e)
 
 -- ---- a whole number
-
--- the sign of a float with the value of z: 0 is +0
-abbrev pub negative : ℤ → Bool
-negative (pos n) = false
-negative (negsuc n) = true
 
 pub whole-value : (z : ℤ) → natAbs z ≤ 2 ^ 53 → HasValue (ofInt binary64 z) (negative z) (natAbs z) 1
 unfolding ofInt
