@@ -10,13 +10,13 @@ use lib.Arith.{lt-of-le-ne}
 use lib.Ieee.{Float, nan, inf, fin, Format, binary64, prec, emax, low, up, down, size, nearest, round, fits}
 use lib.Ieee.Digits.{size-reaches, size-le}
 use lib.Ieee.Exact.{HasValue}
-use lib.Ieee.Fits.{and-l, and-r, two, two-le-pos, nearest-le, kept-lt}
+use lib.Ieee.Fits.{and-l, and-r, two, two-le-pos, nearest-le, kept-lt, round-fits, down-pos}
 use lib.Ieee.Nearest.{closest}
 use lib.Ieee.Order.{drop, kept}
-use lib.Ieee.Positive.{den}
+use lib.Ieee.Positive.{num, den}
 use lib.Ieee.Scale.{grid, overflow, finite, round-val}
 use Rattle.laws.specs.Powers.{split, positive, rises, rises-strictly, raise, below, exponent-le}
-use Rattle.floats.specs.Floats.{apart, off, Nearest}
+use Rattle.floats.specs.Floats.{AtMost, apart, off, Nearest}
 
 -- ---- whole numbers
 
@@ -221,4 +221,48 @@ module _ (f : Format) (a c : ℕ) (C : 0 < c) (h : grid f a c < overflow f) wher
   number-is (fin s n d) v = tt
 
   pub rounded-nearest : Nearest f (round f false a c) a c
-  rounded-nearest = let v = round-val f a c h in record { number = number-is (round f false a c) v; least = least-is (round f false a c) v }
+  rounded-nearest = let v = round-val f a c h in record { own = round-fits f false a c; number = number-is (round f false a c) v; least = least-is (round f false a c) v }
+
+-- ---- what a nearest value is at most
+
+-- r / p is as near to a / c as x / q, which is not below it
+nearer : (o r p x q a c : ℕ) → 0 < c → a * q ≤ x * c → r * c ≤ o + a * p → o * q ≤ apart (x * c) (a * q) * p → r * q ≤ x * p
+nearer o r p x q a c C h k l =
+    let d : apart (x * c) (a * q) + a * q ≡ x * c = omega arith in
+    le-of-mul-le-mul-right (omega (arith, mul-le-mul-right q k, ap (λ (y : ℕ). y * p) d, l)) C
+
+off-least : (r : Float) (a c : ℕ) → T (finite r) → num r * c ≤ off r a c + a * den r
+off-least nan a c t = absurd t
+off-least (inf s) a c t = absurd t
+off-least (fin true m e) a c t = omega arith
+off-least (fin false m e) a c t = apart-least (m * up e * c) (a * down e)
+  where
+    apart-least : (x y : ℕ) → x ≤ apart x y + y
+    apart-least x y = omega arith
+
+-- x / q is b / d
+not-below : (x q a c b d : ℕ) → 0 < d → x * d ≡ b * q → a * d ≤ b * c → a * q ≤ x * c
+not-below x q a c b d D e h = le-of-mul-le-mul-right (omega (arith, mul-le-mul-right q h, ap (λ (y : ℕ). y * c) e)) D
+
+carried : (r p x q b d : ℕ) → 0 < q → x * d ≡ b * q → r * q ≤ x * p → r * d ≤ b * p
+carried r p x q b d Q e h = le-of-mul-le-mul-right (omega (arith, mul-le-mul-right d h, ap (λ (y : ℕ). y * p) e)) Q
+
+-- no more than any value of the format that is not below a / c
+pub nearest-at-most : (f : Format) (r : Float) (a c : ℕ) → 0 < c → Nearest f r a c → (x : Float) (b d : ℕ) → T (fits f x) → HasValue x false b d → 0 < d → a * d ≤ b * c → AtMost r b d
+nearest-at-most f r a c C n nan b d t v D h = absurd v
+nearest-at-most f r a c C n (inf s) b d t v D h = absurd v
+nearest-at-most f r a c C n (fin true m e) b d t v D h = absurd (true≢false (v .0))
+nearest-at-most f nan a c C n (fin false m e) b d t v D h = absurd (n .number)
+nearest-at-most f (inf s) a c C n (fin false m e) b d t v D h = absurd (n .number)
+nearest-at-most f (fin s k g) a c C n (fin false m e) b d t v D h =
+    carried (k * up g) (down g) (m * up e) (down e) b d (down-pos e) (v .1)
+    (nearer (off (fin s k g) a c) (k * up g) (down g) (m * up e) (down e) a c C (not-below (m * up e) (down e) a c b d D (v .1) h) (off-least (fin s k g) a c tt) (n .least (fin false m e) t tt))
+
+-- a larger fraction
+pub at-most-more : (x : Float) (a c b d : ℕ) → 0 < c → a * d ≤ b * c → AtMost x a c → AtMost x b d
+at-most-more nan a c b d C h k = k
+at-most-more (inf s) a c b d C h k = k
+at-most-more (fin s m e) a c b d C h k = more (m * up e) (down e) a c b d C h k
+  where
+    more : (r p a c b d : ℕ) → 0 < c → a * d ≤ b * c → r * c ≤ a * p → r * d ≤ b * p
+    more r p a c b d C h k = le-of-mul-le-mul-right (omega (arith, mul-le-mul-right d k, mul-le-mul-right p h)) C

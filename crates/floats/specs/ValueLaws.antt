@@ -9,7 +9,7 @@ use lib.Dec.{T, eqb, eqb→eq, le→leb}
 use lib.Ieee.{Float, nan, inf, fin, Format, binary64, unlike, up, down, round, mul, div, ofInt, odd, ofFields, ofBits, inFloat, fits}
 use lib.Ieee.Exact.{HasValue, round-exact, odd-sign}
 use lib.Ieee.Back.{round-whole}
-use lib.Ieee.Fits.{up-pos, down-pos}
+use lib.Ieee.Fits.{up-pos, down-pos, round-fits}
 use lib.Ieee.Positive.{first-pos}
 use lib.Ieee.Scale.{round-same}
 use borrow.Author.Tests.{ne-eqb, lt-leb}
@@ -116,3 +116,9 @@ pub zero-is-plus : (f : Format) (x : Float) (c : ℕ) → 0 < c → T (fits f x)
 unfolding fits
 zero-is-plus f (fin s zero e) c C t h = ap₂ (λ (u : Bool) (z : ℤ). fin u 0 z) (h .0) (zero-exponent e (eqb→eq (up e * down e) 1 t))
 zero-is-plus f (fin s (suc m) e) c C t h = absurd (ne-of-gt (omega arith) (only-zero (suc m) (up e) c (h .1 ∙ zero-mul (down e)) (up-pos e) C))
+
+pub round-zero : (c : ℕ) → 0 < c → round binary64 false 0 c ≡ fin false 0 (pos 0)
+round-zero c C = zero-is-plus binary64 (round binary64 false 0 c) c C (round-fits binary64 false 0 c) (round-exact binary64 false 0 c 0 0 C (positive 53) (positive 2098) (nothing (2 ^ 1074) c))
+  where
+    nothing : (a b : ℕ) → 0 * a ≡ 0 * 1 * b
+    nothing a b = omega arith

@@ -1,1 +1,1 @@
-pub mod Plots
+pub mod Taken

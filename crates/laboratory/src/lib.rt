@@ -2,7 +2,7 @@
 ghost use mathlib.Core.Path.{_≡_};
 ghost use Rattle.cable_trace.specs.Answers.{cableOf, Output};
 ghost use Rattle.readings.specs.Calls.{listsOf};
-ghost use Rattle.laboratory.specs.Readings.{told, ReadOut};
+ghost use Rattle.laboratory.specs.Readings.{answered, ReadOut};
 use readings::Answer;
 use readings::Power;
 
@@ -27,29 +27,29 @@ pub extern "C" fn tigbulode_cable(
 
 // The error power of a block: 0 or 11, whether it is only a floor, and the power.
 #[repr(C)]
-pub struct Told {
+pub struct PowerAnswer {
     pub number: u8,
     pub is_floor: u8,
     pub power: f64,
 }
 
-fn told_of(a: Answer) -> Told
-    ensures { λ r. ⌜ r ≡ told a ⌝ }
+fn power_answer(a: Answer) -> PowerAnswer
+    ensures { λ r. ⌜ r ≡ answered a ⌝ }
 {
     match a {
         Answer::Given(p) => match p {
-            Power::Mean(x) => Told {
+            Power::Mean(x) => PowerAnswer {
                 number: 0,
                 is_floor: 0,
                 power: x,
             },
-            Power::Floor(x) => Told {
+            Power::Floor(x) => PowerAnswer {
                 number: 0,
                 is_floor: 1,
                 power: x,
             },
         },
-        Answer::Refused => Told {
+        Answer::Refused => PowerAnswer {
             number: 11,
             is_floor: 0,
             power: 0.0,
@@ -65,8 +65,8 @@ pub extern "C" fn tigbulode_readings(
     z: &[i32],
     theta: &[u8],
     out: &mut [[f64; 2]],
-) -> Told
+) -> PowerAnswer
     ensures { λ a. ⌜ ReadOut (listsOf (now (y .entry)) (now (xi .entry)) (now (z .entry)) (now (theta .entry))) (now (out .entry)) a (now (out .exit)) ⌝ }
 {
-    told_of(readings::readings(y, xi, z, theta, out))
+    power_answer(readings::readings(y, xi, z, theta, out))
 }

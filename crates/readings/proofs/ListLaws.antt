@@ -16,7 +16,7 @@ use Rattle.laws.specs.Lists.{and-left, and-right, all, all-at, Tested, tested-n
 use Rattle.steps.specs.Limits.{outputExponentLimit}
 use Rattle.readings.specs.Limits.{amplitudeLimit}
 use Rattle.readings.specs.Calls.{Exponent, sumOf, powerFrom}
-use Rattle.readings.specs.Readings.{pairOf, readingOf, pairs, amplitude, amplitudes, counted, isWhole, squares, quotient, powerOf, exponentFits}
+use Rattle.readings.specs.Readings.{pairOf, readingOf, pairs, amplitude, amplitudes, counted, isUncut, squares, quotient, powerOf, exponentFits}
 use Rattle.readings.specs.declared.Power.the-variants.{Mean, Floor}
 
 -- ---- exponents
@@ -81,36 +81,36 @@ squares-bound [] = omega arith
 squares-bound (a ∷ l) = omega (arith, squares-bound l, square-small a (counted a) refl)
 
 -- what a loop has of the first i
-pub record Summed (l : List ℕ) (sum : ℕ) (whole : Bool) (i : ℕ) : Type 0 where
+pub record Summed (l : List ℕ) (sum : ℕ) (uncut : Bool) (i : ℕ) : Type 0 where
   pub is : sum ≡ squares (take i l)
-  pub tested : Tested isWhole l whole i
+  pub tested : Tested isUncut l uncut i
 
 pub summed-none : (l : List ℕ) → Summed l 0 true 0
 unfolding squares
-summed-none l = record { is = refl; tested = tested-none isWhole l }
+summed-none l = record { is = refl; tested = tested-none isUncut l }
 
-module _ {l : List ℕ} {sum : ℕ} {whole : Bool} {i : ℕ} (s : Summed l sum whole i) where
+module _ {l : List ℕ} {sum : ℕ} {uncut : Bool} {i : ℕ} (s : Summed l sum uncut i) where
   pub summed-small : length l ≤ 128 → i ≤ length l → sum ≤ 128 * (amplitudeLimit * amplitudeLimit)
   summed-small h k = omega (arith, s .is, squares-bound (take i l), length-take-le i l k)
 
   -- one a more
-  pub summed-next : (a : ℕ) {one : Bool} → i < length l → a ≡ getD l i 0 → one ≡ isWhole a → Summed l (sum + counted a * counted a) (whole && one) (i + 1)
+  pub summed-next : (a : ℕ) {one : Bool} → i < length l → a ≡ getD l i 0 → one ≡ isUncut a → Summed l (sum + counted a * counted a) (uncut && one) (i + 1)
   summed-next a h e f = record {
     is = ap₂ (λ (x y : ℕ). x + counted y * counted y) (s .is) e ∙ sym (squares-take l i h) ∙ ap (λ (j : ℕ). squares (take j l)) (sym (add-one i));
-    tested = tested-next (s .tested) 0 h (f ∙ ap isWhole e);
+    tested = tested-next (s .tested) 0 h (f ∙ ap isUncut e);
   }
 
-  pub summed-all : length l ≤ i → (sum ≡ squares l) × (whole ≡ all isWhole l)
+  pub summed-all : length l ≤ i → (sum ≡ squares l) × (uncut ≡ all isUncut l)
   summed-all h = (s .is ∙ ap squares (take-all i l h), tested-all (s .tested) h)
 
 -- ---- the power
 
 module _ (l : List ℕ) (q : Float) (e : q ≡ quotient (squares l) (length l)) where
-  pub power-mean : all isWhole l ≡ true → Mean q ≡ powerOf l
+  pub power-mean : all isUncut l ≡ true → Mean q ≡ powerOf l
   unfolding powerOf
   power-mean w = ap Mean e ∙ sym (ap (λ (b : Bool). cond b (Mean (quotient (squares l) (length l))) (Floor (quotient (squares l) (length l)))) w)
 
-  pub power-floor : all isWhole l ≡ false → Floor q ≡ powerOf l
+  pub power-floor : all isUncut l ≡ false → Floor q ≡ powerOf l
   unfolding powerOf
   power-floor w = ap Floor e ∙ sym (ap (λ (b : Bool). cond b (Mean (quotient (squares l) (length l))) (Floor (quotient (squares l) (length l)))) w)
 

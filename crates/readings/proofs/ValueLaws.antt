@@ -46,7 +46,7 @@ product-is m e h k =
 
 pub amplitude-is : (m e : ℕ) → m ≤ 2 ^ 31 → e ≤ outputExponentLimit → m * 2 ^ e % 2 ^ 64 / 2 ^ 22 ≡ m * 2 ^ e / 2 ^ 22
 amplitude-is m e h k =
-    let a : 2 ^ e ≤ 2 ^ 24 = rises k in
+    let a : 2 ^ e ≤ 2 ^ outputExponentLimit = rises k in
     ap (λ (x : ℕ). x / 2 ^ 22) (mod-eq-of-lt (omega (arith, scale-le e h)))
 
 -- ---- the power

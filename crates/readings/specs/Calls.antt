@@ -9,7 +9,7 @@ use lib.Ieee.{Float, binary64, ofBits}
 use Rattle.laws.specs.Lists.{all}
 use Rattle.steps.specs.Limits.{blockLimit, outputExponentLimit}
 use Rattle.readings.specs.Limits.{amplitudeLimit}
-use Rattle.readings.specs.Readings.{Lists, amplitudes, isWhole, squares, quotient, exponentFits}
+use Rattle.readings.specs.Readings.{Lists, amplitudes, isUncut, squares, quotient, exponentFits}
 use Rattle.readings.specs.declared.errors.Sum.{Sum}
 use Rattle.readings.specs.declared.Power.{Power}
 use Rattle.readings.specs.declared.Power.the-variants.{Mean, Floor}
@@ -34,17 +34,22 @@ abbrev pub sumLimit : ℕ
 sumLimit = blockLimit * (amplitudeLimit * amplitudeLimit)
 
 abbrev pub sumOf : List ℤ → List ℕ → Sum
-sumOf z theta = record { sum = squares (amplitudes z theta); whole = all isWhole (amplitudes z theta) }
+sumOf z theta = record { sum = squares (amplitudes z theta); uncut = all isUncut (amplitudes z theta) }
 
 abbrev pub powerFrom : Sum → ℕ → Power
-powerFrom s n = cond (s .whole) (Mean (quotient (s .sum) n)) (Floor (quotient (s .sum) n))
+powerFrom s n = cond (s .uncut) (Mean (quotient (s .sum) n)) (Floor (quotient (s .sum) n))
 
--- lists that have a reading for each of n places
-pub record Fillable (l : Lists) (n : ℕ) : Type 0 where
+-- lists of n places each
+pub record Long (l : Lists) (n : ℕ) : Type 0 where
+  pub some : 1 ≤ n
+  pub few : n ≤ blockLimit
   pub y-long : length (l .y) ≡ n
   pub xi-long : length (l .xi) ≡ n
   pub z-long : length (l .z) ≡ n
   pub theta-long : length (l .theta) ≡ n
-  pub few : n ≤ blockLimit
+
+-- lists that have a reading for each of n places
+pub record Fillable (l : Lists) (n : ℕ) : Type 0 where
+  pub long : Long l n
   pub xi-fit : all exponentFits (l .xi) ≡ true
   pub theta-fit : all exponentFits (l .theta) ≡ true

@@ -8,7 +8,7 @@ use lib.ListN.{length, getD}
 use lib.Ieee.{Float, fin, binary64, ofInt, div}
 use lib.Ieee.Exact.{HasValue}
 use Rattle.laws.specs.Sums.{Each}
-use Rattle.floats.specs.Floats.{negative, Nearest}
+use Rattle.floats.specs.Floats.{negative, AtMost, Nearest}
 use Rattle.readings.specs.Limits.{amplitudeLimit}
 use Rattle.readings.specs.Readings.{Lists, valueOf, pairOf, readingOf, readingsOf, amplitudes, counted, squares, quotient, powerOf}
 use Rattle.readings.specs.declared.Power.the-variants.{Mean, Floor}
@@ -56,10 +56,12 @@ module _ (l : Lists) (n : ℕ) where
     -- a mean exactly if no a was cut
     pub mean : Uncut a → powerOf a ≡ Mean (quotient (squares a) n)
     pub floor : (Uncut a → ⊥) → powerOf a ≡ Floor (quotient (squares a) n)
-    -- then the exact sum of (256·error)² is at least the sum of a², and less than the sum of (a + 1)²
-    pub at-least : Uncut a → squares a * 2 ^ 44 ≤ exactSquares (l .z) (l .theta)
+    -- the exact sum of (256·error)² is at least the sum of a², and less than the sum of (a + 1)² where no a was cut
+    pub at-least : squares a * 2 ^ 44 ≤ exactSquares (l .z) (l .theta)
     pub below : Uncut a → exactSquares (l .z) (l .theta) < squaresAbove a * 2 ^ 44
+    -- a floor, rounded as it is, is at most the exact mean of error²
+    pub floor-below : (Uncut a → ⊥) → AtMost (quotient (squares a) n) (exactSquares (l .z) (l .theta)) (65536 * n * 2 ^ 44)
 
--- a zero reading is +0
+-- a zero reading is +0, and so is a zero power
 abbrev pub ZeroIsPlus : Type 0
-ZeroIsPlus = (e : ℕ) → valueOf (pos 0) e ≡ fin false 0 (pos 0)
+ZeroIsPlus = ((e : ℕ) → valueOf (pos 0) e ≡ fin false 0 (pos 0)) × ((n : ℕ) → 1 ≤ n → quotient 0 n ≡ fin false 0 (pos 0))

@@ -61,8 +61,8 @@ abbrev pub counted : ℕ → ℕ
 counted a = min a amplitudeLimit
 
 -- a is not cut: 65535 itself is not
-abbrev pub isWhole : ℕ → Bool
-isWhole a = leb a amplitudeLimit
+abbrev pub isUncut : ℕ → Bool
+isUncut a = leb a amplitudeLimit
 
 -- the sum of a²
 unfoldable pub squares : List ℕ → ℕ
@@ -75,7 +75,7 @@ quotient sum N = round binary64 false sum (65536 * N)
 
 -- a mean where no a was cut, else only a floor
 unfoldable pub powerOf : List ℕ → Power
-powerOf a = cond (all isWhole a) (Mean (quotient (squares a) (length a))) (Floor (quotient (squares a) (length a)))
+powerOf a = cond (all isUncut a) (Mean (quotient (squares a) (length a))) (Floor (quotient (squares a) (length a)))
 
 -- ---- what can be read
 

@@ -3,7 +3,7 @@ ghost use mathlib.Core.Path.{_≡_};
 ghost use mathlib.Core.Bool.{_&&_};
 ghost use Prim.Native.Nat.{_+_, _*_, _^_, _≤_, _<_};
 ghost use Rattle.steps.specs.Limits.{blockLimit, outputExponentLimit};
-ghost use Rattle.readings.specs.Readings.{amplitude, counted, isWhole, quotient};
+ghost use Rattle.readings.specs.Readings.{amplitude, counted, isUncut, quotient};
 ghost use Rattle.readings.specs.Calls.{sumLimit, powerFrom};
 use super::Power;
 use super::limits;
@@ -29,19 +29,19 @@ fn counted(a: u64) -> u64
 // A sum of a², and whether none of them was cut.
 pub struct Sum {
     pub sum: u64,
-    pub whole: bool,
+    pub uncut: bool,
 }
 
 // One error more.
 pub fn with_error(s: Sum, z: i32, theta: u8) -> Sum
     requires { ⌜ (s .sum ≤ sumLimit) × (theta ≤ outputExponentLimit) ⌝ }
-    ensures { λ r. ⌜ r ≡ record { sum = s .sum + counted (amplitude z theta) * counted (amplitude z theta); whole = s .whole && isWhole (amplitude z theta) } ⌝ }
+    ensures { λ r. ⌜ r ≡ record { sum = s .sum + counted (amplitude z theta) * counted (amplitude z theta); uncut = s .uncut && isUncut (amplitude z theta) } ⌝ }
 {
     let a = amplitude(z, theta);
     let c = counted(a);
     Sum {
         sum: s.sum + c * c,
-        whole: s.whole & (a <= limits::AMPLITUDE),
+        uncut: s.uncut & (a <= limits::AMPLITUDE),
     }
 }
 
@@ -59,7 +59,7 @@ pub fn power(s: Sum, n: usize) -> Power
     ensures { λ r. ⌜ r ≡ powerFrom s n ⌝ }
 {
     let q = quotient(s.sum, n);
-    if s.whole {
+    if s.uncut {
         Power::Mean(q)
     } else {
         Power::Floor(q)

@@ -16,7 +16,7 @@ pub fn fill(y: &[i32], xi: &[u8], z: &[i32], theta: &[u8], out: &mut [[f64; 2]])
     let table = powers();
     let mut s = Sum {
         sum: 0,
-        whole: true,
+        uncut: true,
     };
     let mut i: usize = 0;
     while i < out.len() {

@@ -8,5 +8,8 @@ pub const ERROR: u32 = 1073741824;
 // ξ and θ.
 pub const EXPONENT: u8 = 24;
 
+// How many exponents there are, with 0.
+pub const EXPONENTS: usize = EXPONENT as usize + 1;
+
 // a.
 pub const AMPLITUDE: u64 = 65535;

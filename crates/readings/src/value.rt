@@ -3,8 +3,7 @@ ghost use mathlib.Core.Path.{_≡_};
 ghost use Rattle.readings.specs.Readings.{valueOf, readingOf};
 ghost use Rattle.readings.specs.Calls.{Exponent, powerTable};
 use super::Reading;
-
-const EXPONENTS: usize = 25;
+use super::limits::EXPONENTS;
 
 // 2^(e−30) for each e up to the greatest exponent.
 const POWERS: [f64; EXPONENTS] = [

@@ -30,16 +30,16 @@ fill-requires c κs = readable-says (readable-is (c .before)) .fill
 long : (c : tie.Else1) → let s = c .before .before .before .before in length (amplitudes (s .args .z .now) (s .args .theta .now)) ≡ length (s .args .out .now)
 long c =
     let s = c .before .before .before .before in
-    let f = readable-says (readable-is c) .fill in
+    let f = readable-says (readable-is c) .fill .long in
     amplitudes-length (s .args .z .now) (s .args .theta .now) (f .theta-long ∙ sym (f .z-long)) ∙ f .z-long
 
 power-requires : tie.Need-power-requires
 power-requires c κs =
     let d = c .before .before .before in
     let s = d .before .before .before .before in
-    let r = readable-says (readable-is d) in
+    let r = readable-says (readable-is d) .fill .long in
     let e = ap (λ (x : Sum). x .sum) (c .before .fill .ensures .1) in
-    (omega (arith, e, squares-bound (amplitudes (s .args .z .now) (s .args .theta .now)), long d, r .fill .few), r .some, r .fill .few)
+    (omega (arith, e, squares-bound (amplitudes (s .args .z .now) (s .args .theta .now)), long d, r .few), r .some, r .few)
 
 returns-2 : tie.Need-returns-2
 returns-2 c =

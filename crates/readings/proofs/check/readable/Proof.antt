@@ -7,8 +7,8 @@ use Rattle.laws.specs.Lists.{all}
 use Rattle.steps.specs.Side.{allBelow}
 use Rattle.readings.specs.Limits.{outputLimit, errorLimit}
 use Rattle.readings.specs.Readings.{Lists, exponentFits, lengthsFit}
-use Rattle.readings.specs.Calls.{listsOf}
-use Rattle.readings.proofs.ReadableLaws.{Long, lengths-say, readable-short, readable-long, reordered}
+use Rattle.readings.specs.Calls.{listsOf, Long}
+use Rattle.readings.proofs.ReadableLaws.{lengths-say, readable-short, readable-long, reordered}
 use Rattle.readings.proofs.check.readable.Statement.{statement}
 use Rattle.readings.proofs.check.readable.Tie as tie
 

@@ -10,7 +10,7 @@ use Rattle.readings.specs.declared.Power.the-variants.{Mean, Floor}
 use Rattle.readings.proofs.errors.power.Statement.{statement}
 use Rattle.readings.proofs.errors.power.Tie as tie
 
-chosen : (s : Sum) (n : ℕ) {b : Bool} → s .whole ≡ b → powerFrom s n ≡ cond b (Mean (quotient (s .sum) n)) (Floor (quotient (s .sum) n))
+chosen : (s : Sum) (n : ℕ) {b : Bool} → s .uncut ≡ b → powerFrom s n ≡ cond b (Mean (quotient (s .sum) n)) (Floor (quotient (s .sum) n))
 chosen s n e = ap (λ (b : Bool). cond b (Mean (quotient (s .sum) n)) (Floor (quotient (s .sum) n))) e
 
 returns : tie.Need-returns

@@ -6,7 +6,7 @@ use native.Mathlib.Omega.{arith}
 use lib.IntN.{ℤ}
 use mir.Facts.{toZ-ofZ}
 use borrow.Author.Needs.{needs}
-use Rattle.readings.specs.Readings.{amplitude, counted, isWhole}
+use Rattle.readings.specs.Readings.{amplitude, counted, isUncut}
 use Rattle.readings.specs.declared.errors.Sum.{Sum}
 use Rattle.readings.proofs.ListLaws.{square-small}
 use Rattle.readings.proofs.errors.with_error.Statement.{statement}
@@ -16,7 +16,7 @@ square : (c : tie.After-counted) → c .counted .result * c .counted .result ≤
 square c = square-small (c .before .amplitude .result) (c .counted .result) (c .counted .ensures)
 
 abbrev made : ℕ → ℕ → Sum → Sum
-made a c s = record { sum = s .sum + c * c; whole = s .whole && isWhole a }
+made a c s = record { sum = s .sum + c * c; uncut = s .uncut && isUncut a }
 
 returns : tie.Need-returns
 returns c =

@@ -19,7 +19,7 @@ use Rattle.readings.proofs.fill.fill.Statement.{statement}
 use Rattle.readings.proofs.fill.fill.Tie as tie
 
 abbrev Inv-loop : tie.InvT-loop
-Inv-loop y xi z theta out₀ table s₀ i₀ out s i = (table ≡ powerTable) × Written (pairs y xi z theta) out₀ i out × Summed (amplitudes z theta) (s .sum) (s .whole) i
+Inv-loop y xi z theta out₀ table s₀ i₀ out s i = (table ≡ powerTable) × Written (pairs y xi z theta) out₀ i out × Summed (amplitudes z theta) (s .sum) (s .uncut) i
 
 abbrev μ-loop : tie.MeasureT-loop
 μ-loop y xi z theta out₀ table s₀ i₀ out s i = length out₀ - i
@@ -30,16 +30,16 @@ module _ (c : tie.In-loop Inv-loop μ-loop) where
   inside = omega (arith, c .loop-test .taken, c .before .loop .inv .1 .long)
 
   y-at : c .before .loop .i < length (c .before .before .before .before .before .args .y .now)
-  y-at = omega (arith, inside, c .before .before .before .before .before .pre .y-long)
+  y-at = omega (arith, inside, c .before .before .before .before .before .pre .long .y-long)
 
   xi-at : c .before .loop .i < length (c .before .before .before .before .before .args .xi .now)
-  xi-at = omega (arith, inside, c .before .before .before .before .before .pre .xi-long)
+  xi-at = omega (arith, inside, c .before .before .before .before .before .pre .long .xi-long)
 
   z-at : c .before .loop .i < length (c .before .before .before .before .before .args .z .now)
-  z-at = omega (arith, inside, c .before .before .before .before .before .pre .z-long)
+  z-at = omega (arith, inside, c .before .before .before .before .before .pre .long .z-long)
 
   theta-at : c .before .loop .i < length (c .before .before .before .before .before .args .theta .now)
-  theta-at = omega (arith, inside, c .before .before .before .before .before .pre .theta-long)
+  theta-at = omega (arith, inside, c .before .before .before .before .before .pre .long .theta-long)
 
   theta-fits : Exponent (getD (c .before .before .before .before .before .args .theta .now) (c .before .loop .i) 0)
   theta-fits = exponent-at (c .before .before .before .before .before .args .theta .now) (c .before .loop .i) (c .before .before .before .before .before .pre .theta-fit) theta-at
@@ -53,17 +53,17 @@ reading-of-requires c κs =
 -- as many a as readings
 pairs-long : (s : tie.Start Inv-loop μ-loop) → length (pairs (s .args .y .now) (s .args .xi .now) (s .args .z .now) (s .args .theta .now)) ≡ length (s .args .out .now)
 pairs-long s =
-    pairs-length (s .args .y .now) (s .args .xi .now) (s .args .z .now) (s .args .theta .now) (length (s .args .out .now)) (s .pre .y-long) (s .pre .xi-long) (s .pre .z-long) (s .pre .theta-long)
+    pairs-length (s .args .y .now) (s .args .xi .now) (s .args .z .now) (s .args .theta .now) (length (s .args .out .now)) (s .pre .long .y-long) (s .pre .long .xi-long) (s .pre .long .z-long) (s .pre .long .theta-long)
 
 sums-long : (s : tie.Start Inv-loop μ-loop) → length (amplitudes (s .args .z .now) (s .args .theta .now)) ≡ length (s .args .out .now)
-sums-long s = amplitudes-length (s .args .z .now) (s .args .theta .now) (s .pre .theta-long ∙ sym (s .pre .z-long)) ∙ s .pre .z-long
+sums-long s = amplitudes-length (s .args .z .now) (s .args .theta .now) (s .pre .long .theta-long ∙ sym (s .pre .long .z-long)) ∙ s .pre .long .z-long
 
 with-error-requires : tie.Need-with-error-requires Inv-loop μ-loop
 with-error-requires c κs =
     let l = c .before .before .before .before .before .before .before .before in
     let s = l .before .before .before .before .before in
     let n = sums-long s in
-    (summed-small (l .before .loop .inv .2) (omega (arith, n, s .pre .few)) (omega (arith, n, inside l)), theta-fits l .1)
+    (summed-small (l .before .loop .inv .2) (omega (arith, n, s .pre .long .few)) (omega (arith, n, inside l)), theta-fits l .1)
 
 -- the reading and the error of this place
 module _ (c : tie.After-with-error Inv-loop μ-loop) where
@@ -96,7 +96,7 @@ module _ (c : tie.After-with-error Inv-loop μ-loop) where
       ∙ sym (amplitudes-at Z θ i (z-at turn) (theta-at turn))
 
 abbrev made : ℕ → Bool → Sum
-made sum whole = record { sum = sum; whole = whole }
+made sum uncut = record { sum = sum; uncut = uncut }
 
 loop-again : tie.Need-loop-again Inv-loop μ-loop
 loop-again c =
@@ -105,7 +105,7 @@ loop-again c =
     let a = amplitudes (s .args .z .now) (s .args .theta .now) in (
       l .before .loop .inv .0,
       written-next (l .before .loop .inv .1) [] _ (omega (arith, inside l, pairs-long s)) (inside l) (reading-is c),
-      subst (λ (r : Sum). Summed a (r .sum) (r .whole) (i c + 1)) (sym (c .with-error .ensures))
+      subst (λ (r : Sum). Summed a (r .sum) (r .uncut) (i c + 1)) (sym (c .with-error .ensures))
           (summed-next (l .before .loop .inv .2) _ (omega (arith, inside l, sums-long s)) (a-is c) refl),
     )
 

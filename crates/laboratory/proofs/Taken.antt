@@ -27,7 +27,7 @@ use Rattle.readings.specs.Readings.{Lists, exponentFits, readable}
 use Rattle.readings.specs.Calls.{listsOf, Exponent}
 use Rattle.readings.proofs.ReadableLaws.{Readable, readable-of, number-given, given}
 use Rattle.readings.proofs.ReadingsHold.{readings-hold}
-use Rattle.laboratory.specs.Plots.{Plotted, BlockPlotted, CallPlotted, AllPlotted}
+use Rattle.laboratory.specs.Taken.{Taken, BlockTaken, CallTaken, AllTaken}
 
 -- what an accepted block hands out
 abbrev out : Equaliser → Lent → Lists
@@ -52,13 +52,8 @@ module _ (s : Equaliser) (g : WithinLimits s) (l : Lent) (h : AcceptedBlock s l)
       let w = fit-within (settings s) (g .sizes) in
       let long = handed-long (settings s) (memory s) (block l) in
       record {
-        some = w .N-least;
         fill = record {
-          y-long = long .y-long;
-          xi-long = long .xi-long;
-          z-long = long .z-long;
-          theta-long = long .theta-long;
-          few = w .N-most;
+          long = record { some = w .N-least; few = w .N-most; y-long = long .y-long; xi-long = long .xi-long; z-long = long .z-long; theta-long = long .theta-long };
           xi-fit = exponents-fit (out s l .xi) (long .xi-long) (λ n k. let b = at n k in (omega (arith, b .given .ξ-is, b .bounded .ξ-least), omega (arith, b .given .ξ-is, b .bounded .ξ-most)));
           theta-fit = exponents-fit (out s l .theta) (long .theta-long) (λ n k. let b = at n k in (omega (arith, b .given .θ-is, b .bounded .θ-least), omega (arith, b .given .θ-is, b .bounded .θ-most)));
         };
@@ -66,8 +61,8 @@ module _ (s : Equaliser) (g : WithinLimits s) (l : Lent) (h : AcceptedBlock s l)
         y-small = all-small outputLimit (out s l .y) (long .y-long) (λ n k. let b = at n k in subst (λ (x : ℤ). natAbs x < 2 ^ 29) (sym (b .given .Y-is)) (b .bounded .Y-small));
       }
 
-  plotted : Plotted (out s l .y) (out s l .xi) (out s l .z) (out s l .theta) (s .n)
-  plotted =
+  taken : Taken (out s l .y) (out s l .xi) (out s l .z) (out s l .theta) (s .n)
+  taken =
       let ok = readable-of can-be-read in
       record {
         accepted = number-given (out s l) (s .n) ok;
@@ -76,10 +71,10 @@ module _ (s : Equaliser) (g : WithinLimits s) (l : Lent) (h : AcceptedBlock s l)
       }
 
 -- what the contract of an accepted block says of its lists
-block-plotted : (s : Equaliser) → WithinLimits s → (l : Lent) → RunHolds s l → BlockPlotted s l
-block-plotted s g l h a y xi decision z theta r e =
+block-taken : (s : Equaliser) → WithinLimits s → (l : Lent) → RunHolds s l → BlockTaken s l
+block-taken s g l h a y xi decision z theta r e =
     rw (chosen (out s l .y) (l .y) (r .y-is), chosen (out s l .xi) (l .xi) (r .xi-is), chosen (out s l .z) (l .z) (r .z-is), chosen (out s l .theta) (l .theta) (r .theta-is))
-    (plotted s g l (h .accepted ok))
+    (taken s g l (h .accepted ok))
   where
     ok : runNumber s l ≡ 0
     ok = sym (r .number) ∙ e
@@ -87,15 +82,15 @@ block-plotted s g l h a y xi decision z theta r e =
     chosen : {A : Type 0} {x : A} (new old : A) → x ≡ accepted s l new old → x ≡ new
     chosen new old f = f ∙ ap (λ (b : Bool). cond b new old) (eq-eqb (runNumber s l) 0 ok)
 
-call-plotted : (s : Equaliser) → WithinLimits s → (c : Call) → CallHolds s c → CallPlotted s c
-call-plotted s g (run l t) h = block-plotted s g l h
-call-plotted s g (trial l t) h = block-plotted s g l (h .as-run)
-call-plotted s g (save buffer t) h = tt
-call-plotted s g (load bytes t) h = tt
+call-taken : (s : Equaliser) → WithinLimits s → (c : Call) → CallHolds s c → CallTaken s c
+call-taken s g (run l t) h = block-taken s g l h
+call-taken s g (trial l t) h = block-taken s g l (h .as-run)
+call-taken s g (save buffer t) h = tt
+call-taken s g (load bytes t) h = tt
 
-from-holds : (s : Equaliser) (cs : List Call) → Holds s cs → AllPlotted s cs
+from-holds : (s : Equaliser) (cs : List Call) → Holds s cs → AllTaken s cs
 from-holds s [] h = tt
-from-holds s (c ∷ cs) h = (call-plotted s (h .0) c (h .1 .0), from-holds (left s c) cs (h .1 .1))
+from-holds s (c ∷ cs) h = (call-taken s (h .0) c (h .1 .0), from-holds (left s c) cs (h .1 .1))
 
-pub plots : (s : Equaliser) → Start s → (cs : List Call) → AllPlotted s cs
-plots s start cs = from-holds s cs (claim s start cs)
+pub all-taken : (s : Equaliser) → Start s → (cs : List Call) → AllTaken s cs
+all-taken s start cs = from-holds s cs (claim s start cs)

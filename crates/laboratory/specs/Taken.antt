@@ -16,23 +16,23 @@ use Rattle.readings.specs.Calls.{listsOf}
 use Rattle.readings.specs.Holds.{ReadingsHold}
 
 -- lists of n places are accepted with any n readings lent, and all that is said of readings holds of them
-pub record Plotted (y : List ℤ) (xi : List ℕ) (z : List ℤ) (theta : List ℕ) (n : ℕ) : Type 0 where
+pub record Taken (y : List ℤ) (xi : List ℕ) (z : List ℤ) (theta : List ℕ) (n : ℕ) : Type 0 where
   pub accepted : numberOf (answerOf (listsOf y xi z theta) n) ≡ 0
   pub written : (before : List (List Float)) → length before ≡ n → outputOf (listsOf y xi z theta) before ≡ readingsOf (listsOf y xi z theta)
   pub holds : ReadingsHold (listsOf y xi z theta) n
 
 -- what a block on s hands out, by its contract
-abbrev pub BlockPlotted : Equaliser → Lent → Type 0
-BlockPlotted s l =
-    (a : Answer) (y : List ℤ) (xi : List ℕ) (decision z : List ℤ) (theta : List ℕ) → Run s l a y xi decision z theta → a .number ≡ 0 → Plotted y xi z theta (s .n)
+abbrev pub BlockTaken : Equaliser → Lent → Type 0
+BlockTaken s l =
+    (a : Answer) (y : List ℤ) (xi : List ℕ) (decision z : List ℤ) (theta : List ℕ) → Run s l a y xi decision z theta → a .number ≡ 0 → Taken y xi z theta (s .n)
 
-abbrev pub CallPlotted : Equaliser → Call → Type 0
-CallPlotted s (run l t) = BlockPlotted s l
-CallPlotted s (trial l t) = BlockPlotted s l
-CallPlotted s (save buffer t) = Unit
-CallPlotted s (load bytes t) = Unit
+abbrev pub CallTaken : Equaliser → Call → Type 0
+CallTaken s (run l t) = BlockTaken s l
+CallTaken s (trial l t) = BlockTaken s l
+CallTaken s (save buffer t) = Unit
+CallTaken s (load bytes t) = Unit
 
 -- every block of a list of calls, run or tried
-abbrev pub AllPlotted : Equaliser → List Call → Type 0
-AllPlotted s [] = Unit
-AllPlotted s (c ∷ cs) = CallPlotted s c × AllPlotted (left s c) cs
+abbrev pub AllTaken : Equaliser → List Call → Type 0
+AllTaken s [] = Unit
+AllTaken s (c ∷ cs) = CallTaken s c × AllTaken (left s c) cs
