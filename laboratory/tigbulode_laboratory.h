@@ -7,8 +7,10 @@
  * What a caller owes: a pointer is not null, even beside a length of 0; it is aligned for its type and valid for as many
  * elements as its length says; what is written overlaps nothing else that is lent to the same call; until the call returns,
  * nothing else writes to what is lent, and nothing else reads what is written; the stack has room (docs/PERFORMANCE.md has
- * the bytes). Every value is taken (but C converts a value to its parameter's type first: 257 for p arrives as 1;
- * -Wconversion tells). What can't be used is turned down with a number, and all lent memory is then as it was.
+ * the bytes); for the power of tigbulode_readings the processor is in its usual mode, rounding to nearest, in which every
+ * program starts and which fesetround may change (the readings themselves are exact in any mode). Every value is taken (but C
+ * converts a value to its parameter's type first: 257 for p arrives as 1; -Wconversion tells). What can't be used is turned
+ * down with a number, and all lent memory is then as it was.
  *
  * The archive is code for x86-64. The two functions in it are proved; the static inline ones below are plain C, and
  * laboratory/check tries them. */
