@@ -2,12 +2,12 @@
  * byte for byte; a damaged one gives its number and the fresh state. Each image is also compared with changed
  * expectations, which must be told apart. Exit status 1: a difference, with its place; 2: no such file, or one that
  * breaks off. */
-#include "arguments.h"
+#include "records.h"
 #include "tigbulode.h"
 
 #include <stdbool.h>
 
-enum { SENTINEL = 0x55, AFTER = 16, MOST_FILE = 1 << 20, NUMBERS = 10 };
+enum { AFTER = 16, NUMBERS = 10 };
 
 /* An image as it is lent, and what is expected of it. */
 typedef struct {
@@ -19,9 +19,8 @@ typedef struct {
     tigbulode_equaliser refused; /* the state, where it is not */
 } image;
 
-/* The file's bytes, lent to every load, and a copy that no call sees. */
-static uint8_t file[MOST_FILE], copy[MOST_FILE];
-static size_t file_length;
+/* Of the file's bytes, which are lent to every load, a copy that no call sees. */
+static uint8_t copy[MOST_FILE];
 
 static bool all_sentinels(const uint8_t *bytes, size_t length) {
     for (size_t i = 0; i < length; i++)
@@ -56,12 +55,8 @@ static const char *differs(const image *i) {
     return NULL;
 }
 
-/* Changed expectations, which must be told apart. */
-static unsigned tried, told;
-
 static void try_changed(const image *i) {
-    tried++;
-    told += differs(i) != NULL;
+    count_tried(differs(i));
 }
 
 static void try_other_numbers(image i) {
@@ -91,20 +86,12 @@ static void try_other_bytes(const image *i, size_t place) {
     try_changed(&other);
 }
 
-static void read_file(const char *name) {
-    file_length = read_whole("images", name, file, sizeof file);
-    memcpy(copy, file, sizeof copy);
-}
-
 /* The image at a place of the file: its length, its bytes, its number. */
 static image image_at(size_t place) {
     image i = {0};
-    size_t left = file_length - place;
-    if (left >= 2) i.length = copy[place] + 256u * copy[place + 1];
-    if (left < 3 + i.length) {
-        fprintf(stderr, "images: the file breaks off at byte %zu\n", file_length);
-        exit(2);
-    }
+    need(place, 2);
+    i.length = copy[place] + 256u * copy[place + 1];
+    need(place, 3 + i.length);
     i.lent = file + place + 2;
     i.bytes = i.saved = copy + place + 2;
     i.number = copy[place + 2 + i.length];
@@ -112,35 +99,30 @@ static image image_at(size_t place) {
     return i;
 }
 
-static void print_counts(const unsigned *counts, unsigned count) {
+/* Images by their answers. */
+static unsigned counts[NUMBERS];
+
+static void print_counts(unsigned count) {
     printf("images %u: good %u, damaged %u\n", count, counts[0], count - counts[0]);
     for (int number = 0; number < NUMBERS; number++)
         if (counts[number] > 0) printf("answer %d: %u\n", number, counts[number]);
 }
 
+static const char *compare(size_t place, unsigned before, size_t *bytes) {
+    const image i = image_at(place);
+    const char *difference = i.number < NUMBERS ? differs(&i) : "no number of a load";
+    if (difference != NULL) return difference;
+    try_other_numbers(i);
+    try_other_bytes(&i, before);
+    counts[i.number]++;
+    *bytes = 3 + i.length;
+    return NULL;
+}
+
 int main(int argc, char **argv) {
-    unsigned counts[NUMBERS] = {0}, count = 0;
     take_arguments(argc, argv, 1, "images FILE: loads every image of a file such as firmware/images.bin, and compares");
-    read_file(argv[1]);
-    for (size_t place = 0; place < file_length; count++) {
-        const image i = image_at(place);
-        const char *difference = i.number < NUMBERS ? differs(&i) : "no number of a load";
-        if (difference != NULL) {
-            printf("image %u at byte %zu: %s\n", count, place, difference);
-            return 1;
-        }
-        counts[i.number]++;
-        try_other_numbers(i);
-        try_other_bytes(&i, count);
-        place += 3 + i.length;
-    }
-    print_counts(counts, count);
-    printf("changed expectations told apart: %u of %u\n", told, tried);
-    if (told != tried) return 1;
-    if (memcmp(file, copy, sizeof file) != 0) {
-        printf("the file's bytes are changed\n");
-        return 1;
-    }
-    printf("no difference\n");
-    return 0;
+    read_records("images", argv[1]);
+    memcpy(copy, file, sizeof copy);
+    print_counts(compare_records("image", compare));
+    return end_of_records(memcmp(file, copy, sizeof file) == 0 ? NULL : "the file's bytes are changed");
 }

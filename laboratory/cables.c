@@ -2,17 +2,12 @@
  * of the trace, and what lies around it; a cable that is turned down leaves everything as it was. Each cable is also
  * compared with changed expectations, which must be told apart. Exit status 1: a difference, with its place; 2: no such
  * file, or one that breaks off. */
-#include "arguments.h"
+#include "records.h"
 #include "tigbulode_laboratory.h"
 
-#include <stdbool.h>
-
 enum {
-    SENTINEL = 0x55,
     AROUND = 64,
-    MOST_FILE = 1 << 20,
     MOST_LENT = 1 << 19,
-    MOST_VALUES = UINT16_MAX,
     FIXED = 20, /* bytes of a description before its response */
     NUMBERS = TIGBULODE_CABLE + 1
 };
@@ -25,9 +20,7 @@ typedef struct {
     uint8_t number;
 } cable;
 
-/* The file's bytes; what is lent of them; the trace with what is around it; and what each is to be after the call. */
-static uint8_t file[MOST_FILE];
-static size_t file_length;
+/* What is lent of the file; the trace with what is around it; and what each is to be after the call. */
 static int16_t response[MOST_VALUES], response_after[MOST_VALUES];
 static int8_t symbols[MOST_FILE], symbols_after[MOST_FILE];
 static uint8_t room[AROUND + MOST_LENT + AROUND], room_after[AROUND + MOST_LENT + AROUND];
@@ -49,12 +42,8 @@ static const char *differs(const cable *c, uint8_t number) {
     return NULL;
 }
 
-/* Changed expectations, which must be told apart. */
-static unsigned tried, told;
-
 static void try_changed(const cable *c, uint8_t number) {
-    tried++;
-    told += differs(c, number) != NULL;
+    count_tried(differs(c, number));
 }
 
 static void try_other_numbers(cable c, uint8_t number) {
@@ -83,23 +72,6 @@ static void try_other_bytes(const cable *c, uint8_t number, size_t place) {
     try_other_byte(c, number, symbols_after, d->symbols_length, place);
 }
 
-static void read_file(const char *name) {
-    file_length = read_whole("cables", name, file, sizeof file);
-}
-
-static uint32_t number_at(size_t place, int bytes) {
-    uint32_t number = 0;
-    for (int i = 0; i < bytes; i++) number |= (uint32_t)file[place + i] << 8 * i;
-    return number;
-}
-
-/* Ends where the file has fewer bytes left than a record needs. */
-static void need(size_t place, size_t bytes) {
-    if (bytes <= file_length - place) return;
-    fprintf(stderr, "cables: the file breaks off at byte %zu\n", file_length);
-    exit(2);
-}
-
 /* The response and the symbols at a place of the file, to lend and to compare. */
 static void take_lists(size_t place, size_t values, size_t count) {
     for (size_t i = 0; i < values; i++) response[i] = (int16_t)number_at(place + 2 * i, 2);
@@ -121,7 +93,7 @@ static cable cable_at(size_t place) {
     const size_t values = number_at(place + 6, 2), count = number_at(place + 12, 4);
     c.described = (tigbulode_cable_description){
         .p = file[place], .q = file[place + 1], .n = file[place + 2], .r = file[place + 3], .l = file[place + 4],
-        .step = number_at(place + 8, 4), .response = response, .response_length = values,
+        .step = (uint32_t)number_at(place + 8, 4), .response = response, .response_length = values,
         .symbols = symbols, .symbols_length = count, .training = number_at(place + 16, 4)};
     const size_t end = FIXED + 2 * values + count;
     need(place, end + 5);
@@ -134,41 +106,32 @@ static cable cable_at(size_t place) {
     return c;
 }
 
-static void print_counts(const unsigned *counts, unsigned count) {
+/* Cables by their answers. */
+static unsigned counts[NUMBERS];
+
+static void print_counts(unsigned count) {
     printf("cables %u: accepted %u, turned down %u\n", count, counts[0], count - counts[0]);
     for (int number = 0; number < NUMBERS; number++)
         if (counts[number] > 0) printf("answer %d: %u\n", number, counts[number]);
 }
 
-/* Simulates and compares a cable; gives what is wrong, or NULL. */
-static const char *compare(const cable *c, unsigned count) {
-    if (c->number >= NUMBERS) return "no number of a cable";
-    if (c->trace_length > MOST_LENT) return "a trace longer than this program lends";
-    const uint8_t number = call(c);
-    const char *difference = differs(c, number);
+static const char *compare(size_t place, unsigned before, size_t *bytes) {
+    const cable c = cable_at(place);
+    if (c.number >= NUMBERS) return "no number of a cable";
+    if (c.trace_length > MOST_LENT) return "a trace longer than this program lends";
+    const uint8_t number = call(&c);
+    const char *difference = differs(&c, number);
     if (difference != NULL) return difference;
-    try_other_numbers(*c, number);
-    try_other_bytes(c, number, count);
+    try_other_numbers(c, number);
+    try_other_bytes(&c, number, before);
+    counts[c.number]++;
+    *bytes = c.bytes;
     return NULL;
 }
 
 int main(int argc, char **argv) {
-    unsigned counts[NUMBERS] = {0}, count = 0;
     take_arguments(argc, argv, 1, "cables FILE: simulates every cable of a file such as laboratory/cables.bin, and compares");
-    read_file(argv[1]);
-    for (size_t place = 0; place < file_length; count++) {
-        const cable c = cable_at(place);
-        const char *difference = compare(&c, count);
-        if (difference != NULL) {
-            printf("cable %u at byte %zu: %s\n", count, place, difference);
-            return 1;
-        }
-        counts[c.number]++;
-        place += c.bytes;
-    }
-    print_counts(counts, count);
-    printf("changed expectations told apart: %u of %u\n", told, tried);
-    if (told != tried) return 1;
-    printf("no difference\n");
-    return 0;
+    read_records("cables", argv[1]);
+    print_counts(compare_records("cable", compare));
+    return end_of_records(NULL);
 }

@@ -3,16 +3,13 @@
  * which stay; lists that are turned down leave everything as it was. Each answer is also compared with changed
  * expectations, which must be told apart. Exit status 1: a difference, with its place; 2: no such file, or one that breaks
  * off. */
-#include "arguments.h"
+#include "records.h"
 #include "tigbulode_laboratory.h"
 
 #include <stdbool.h>
 
 enum {
-    SENTINEL = 0x55,
-    AROUND = 4, /* readings */
-    MOST_FILE = 1 << 20,
-    MOST_VALUES = UINT16_MAX,
+    AROUND = 4,  /* readings */
     LENGTHS = 10 /* bytes before the lists */
 };
 
@@ -30,9 +27,7 @@ typedef struct {
     tigbulode_power answer;
 } block;
 
-/* The file's bytes; what is lent of them, and what that is to be after the call. */
-static uint8_t file[MOST_FILE];
-static size_t file_length;
+/* What is lent of the file, and what that is to be after the call. */
 static lists lent, after;
 
 static tigbulode_power call(const block *b) {
@@ -55,12 +50,8 @@ static const char *differs(const block *b, tigbulode_power answer) {
     return NULL;
 }
 
-/* Changed expectations, which must be told apart. */
-static unsigned tried, told;
-
 static void try_changed(const block *b, tigbulode_power answer) {
-    tried++;
-    told += differs(b, answer) != NULL;
+    count_tried(differs(b, answer));
 }
 
 /* One bit changed of so many bytes. */
@@ -95,19 +86,6 @@ static void try_other_lists(const block *b, tigbulode_power answer, size_t place
     try_other_bit(b, answer, after.xi, b->xi, place);
     try_other_bit(b, answer, after.z, b->z * sizeof *after.z, place);
     try_other_bit(b, answer, after.theta, b->theta, place);
-}
-
-static uint64_t number_at(size_t place, int bytes) {
-    uint64_t number = 0;
-    for (int i = 0; i < bytes; i++) number |= (uint64_t)file[place + i] << 8 * i;
-    return number;
-}
-
-/* Ends where the file has fewer bytes left than a record needs. */
-static void need(size_t place, size_t bytes) {
-    if (bytes <= file_length - place) return;
-    fprintf(stderr, "readings: the file breaks off at byte %zu\n", file_length);
-    exit(2);
 }
 
 static double double_at(size_t place) {
@@ -166,57 +144,44 @@ static block block_at(size_t place) {
 }
 
 /* Blocks that were accepted, those of them with a floor, their readings, and the zeros among these. */
-typedef struct {
-    unsigned count, accepted, floors, readings, zero_y, zero_error;
+static struct {
+    unsigned accepted, floors, readings, zero_y, zero_error;
 } counts;
 
-static void count(counts *c, const block *b) {
-    c->count++;
+static void count(const block *b) {
     if (b->answer.number != TIGBULODE_LABORATORY_ACCEPTED) return;
-    c->accepted++;
-    c->floors += b->answer.is_floor;
-    c->readings += (unsigned)b->readings;
+    counts.accepted++;
+    counts.floors += b->answer.is_floor;
+    counts.readings += (unsigned)b->readings;
     for (size_t i = 0; i < b->readings; i++) {
-        c->zero_y += lent.readings[AROUND + i].y == 0;
-        c->zero_error += lent.readings[AROUND + i].error == 0;
+        counts.zero_y += lent.readings[AROUND + i].y == 0;
+        counts.zero_error += lent.readings[AROUND + i].error == 0;
     }
 }
 
-static void print_counts(const counts *c) {
-    printf("blocks %u: accepted %u, turned down %u\n", c->count, c->accepted, c->count - c->accepted);
-    printf("means %u, floors %u\n", c->accepted - c->floors, c->floors);
-    printf("readings %u: zero in y %u, in the error %u\n", c->readings, c->zero_y, c->zero_error);
+static void print_counts(unsigned blocks) {
+    printf("blocks %u: accepted %u, turned down %u\n", blocks, counts.accepted, blocks - counts.accepted);
+    printf("means %u, floors %u\n", counts.accepted - counts.floors, counts.floors);
+    printf("readings %u: zero in y %u, in the error %u\n", counts.readings, counts.zero_y, counts.zero_error);
 }
 
-/* Reads and compares a block; gives what is wrong, or NULL. */
-static const char *compare(const block *b, unsigned place) {
-    if (b->answer.number != TIGBULODE_LABORATORY_ACCEPTED && b->answer.number != TIGBULODE_READINGS)
+static const char *compare(size_t place, unsigned before, size_t *bytes) {
+    const block b = block_at(place);
+    if (b.answer.number != TIGBULODE_LABORATORY_ACCEPTED && b.answer.number != TIGBULODE_READINGS)
         return "no number of readings";
-    const tigbulode_power answer = call(b);
-    const char *difference = differs(b, answer);
+    const tigbulode_power answer = call(&b);
+    const char *difference = differs(&b, answer);
     if (difference != NULL) return difference;
-    try_other_answers(*b, answer, place);
-    try_other_lists(b, answer, place);
+    try_other_answers(b, answer, before);
+    try_other_lists(&b, answer, before);
+    count(&b);
+    *bytes = b.bytes;
     return NULL;
 }
 
 int main(int argc, char **argv) {
-    counts c = {0};
     take_arguments(argc, argv, 1, "readings FILE: the readings of every block of a file such as laboratory/readings.bin");
-    file_length = read_whole("readings", argv[1], file, sizeof file);
-    for (size_t place = 0; place < file_length;) {
-        const block b = block_at(place);
-        const char *difference = compare(&b, c.count);
-        if (difference != NULL) {
-            printf("block %u at byte %zu: %s\n", c.count, place, difference);
-            return 1;
-        }
-        count(&c, &b);
-        place += b.bytes;
-    }
-    print_counts(&c);
-    printf("changed expectations told apart: %u of %u\n", told, tried);
-    if (told != tried) return 1;
-    printf("no difference\n");
-    return 0;
+    read_records("readings", argv[1]);
+    print_counts(compare_records("block", compare));
+    return end_of_records(NULL);
 }
