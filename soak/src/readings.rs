@@ -17,6 +17,14 @@ pub trait Plots {
     fn readings(&self, lists: &Lists, readings: &mut [Reading]) -> Result<Power, u8>;
 }
 
+/// The power of a sort and size.
+fn power_of(is_floor: bool, value: f64) -> Power {
+    match is_floor {
+        true => Power::Floor(value),
+        false => Power::Mean(value),
+    }
+}
+
 impl Plots for Library {
     fn readings(&self, lists: &Lists, readings: &mut [Reading]) -> Result<Power, u8> {
         let Lists {
@@ -37,10 +45,7 @@ impl Plots for Second {
         for (reading, own) in readings.iter_mut().zip(lent) {
             (reading.y, reading.error) = (own.y, own.error);
         }
-        Ok(match power.is_floor() {
-            true => Power::Floor(power.value()),
-            false => Power::Mean(power.value()),
-        })
+        Ok(power_of(power.is_floor(), power.value()))
     }
 }
 

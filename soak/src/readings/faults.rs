@@ -1,18 +1,10 @@
 //! Built-in faults of readings.
 
-use super::Plots;
+use super::{power_of, Plots};
 use crate::faults::{Fault, Faulty};
 use reference::readings::magnitude;
 use reference::vectors::Lists;
 use tigbulode_laboratory::{Power, Reading};
-
-/// A power of another sort or size.
-fn power(is_floor: bool, value: f64) -> Power {
-    match is_floor {
-        true => Power::Floor(value),
-        false => Power::Mean(value),
-    }
-}
 
 /// Flips the sign of a zero.
 fn minus(number: &mut f64) {
@@ -36,13 +28,13 @@ impl Faulty<'_> {
                 readings.iter_mut().for_each(|r| minus(&mut r.error));
                 given
             }
-            Fault::ReadingsMean => power(false, value),
+            Fault::ReadingsMean => power_of(false, value),
             Fault::ReadingsCut => {
                 let cut = errors.any(|(&z, &theta)| magnitude(z, theta) == 65_535);
-                power(is_floor || cut, value)
+                power_of(is_floor || cut, value)
             }
             Fault::ReadingsPower | Fault::ReadingsPowerInBoth if rounded && value > 0.0 => {
-                power(is_floor, value.next_down())
+                power_of(is_floor, value.next_down())
             }
             _ => given,
         }
