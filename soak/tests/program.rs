@@ -53,61 +53,63 @@ fn every_fault_is_found_saved_and_found_again() {
     }
 }
 
+/// A fault, and what the text of its difference has to hold.
+const OWN_CHECKS: &[(&str, &str)] = &[
+    ("trial-state", ", trial: state, "),
+    ("trial-refused-output", ", trial: Z, place 0: library "),
+    ("trial-record", ", trial: record, weight 0: library "),
+    (
+        "trial-refused-record",
+        ", trial: record, weight 0: library ",
+    ),
+    ("trial-number", ", trial: answer, place 0: library 0, "),
+    ("save-record", ", save: record, weight 0: library "),
+    ("weight-in-both", "a weight is too far from the exact step"),
+    ("output-in-both", "y is a unit off"),
+    ("doubling", ", psi: library "),
+    (
+        "doubling-in-both",
+        "a weight is too far from the exact step",
+    ),
+    (
+        "trial-state-in-both",
+        ", trial: library: state, weight 0: trial ",
+    ),
+    (
+        "trial-kept-in-both",
+        ", set-up: library: record, M: with the trials ",
+    ),
+    ("cable-least-in-both", "of the trace answers 4"),
+    ("readings-output", ": y of sample "),
+    ("readings-zero", ": error of sample "),
+    ("readings-mean", "power: library a mean, second "),
+    (
+        "readings-cut",
+        "with an a of 65535: power: library a floor, ",
+    ),
+    ("readings-power", ": readings: power: library "),
+    (
+        "readings-refused",
+        "with a Y of 2^29: error of sample 0: library 0000000000000000, ",
+    ),
+    (
+        "readings-limit",
+        "with a Y of 2^29: answer: library 0, second implementation 11",
+    ),
+    (
+        "readings-length",
+        "with another length of the readings: answer: library 0, ",
+    ),
+    ("readings-power-in-both", ": readings: power: 3"),
+    (
+        "readings-exponent-in-both",
+        "readings with exponents of 24: answer 11",
+    ),
+];
+
 #[test]
 fn faults_are_found_by_their_own_check() {
-    let wanted = [
-        ("trial-state", ", trial: state, "),
-        ("trial-refused-output", ", trial: Z, place 0: library "),
-        ("trial-record", ", trial: record, weight 0: library "),
-        (
-            "trial-refused-record",
-            ", trial: record, weight 0: library ",
-        ),
-        ("trial-number", ", trial: answer, place 0: library 0, "),
-        ("save-record", ", save: record, weight 0: library "),
-        ("weight-in-both", "a weight is too far from the exact step"),
-        ("output-in-both", "y is a unit off"),
-        ("doubling", ", psi: library "),
-        (
-            "doubling-in-both",
-            "a weight is too far from the exact step",
-        ),
-        (
-            "trial-state-in-both",
-            ", trial: library: state, weight 0: trial ",
-        ),
-        (
-            "trial-kept-in-both",
-            ", set-up: library: record, M: with the trials ",
-        ),
-        ("cable-least-in-both", "of the trace answers 4"),
-        ("readings-output", ": y of sample "),
-        ("readings-zero", ": error of sample "),
-        ("readings-mean", "power: library a mean, second "),
-        (
-            "readings-cut",
-            "with an a of 65535: power: library a floor, ",
-        ),
-        ("readings-power", ": readings: power: library "),
-        (
-            "readings-refused",
-            "with a Y of 2^29: error of sample 0: library 0000000000000000, ",
-        ),
-        (
-            "readings-limit",
-            "with a Y of 2^29: answer: library 0, second implementation 11",
-        ),
-        (
-            "readings-length",
-            "with another length of the readings: answer: library 0, ",
-        ),
-        ("readings-power-in-both", ": readings: power: 3"),
-        (
-            "readings-exponent-in-both",
-            "readings with exponents of 24: answer 11",
-        ),
-    ];
-    for (name, check) in wanted {
+    for (name, check) in OWN_CHECKS {
         let folder = Folder::new(&format!("check-{name}"));
         let ended = soak(&folder, &["--fault", name, "3"]);
         assert_eq!(ended.status, Some(1));
