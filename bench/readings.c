@@ -60,6 +60,11 @@ INLINE total with_error(total t, double error) {
     return t;
 }
 
+INLINE total with_errors(total t, const double *errors) {
+    for (int i = 0; i < TILE; i++) t = with_error(t, errors[i]);
+    return t;
+}
+
 // The outputs and errors of a tile, in turn; the total with its errors. Each loop is one that compilers take in pairs.
 PLAIN_FLOATS static total write_tile(const int32_t *restrict y, const uint8_t *restrict xi, const int32_t *restrict z,
                                      const uint8_t *restrict theta, double *restrict out, total t) {
@@ -71,8 +76,7 @@ PLAIN_FLOATS static total write_tile(const int32_t *restrict y, const uint8_t *r
         out[2 * i] = y[i] * of_y[i];
         out[2 * i + 1] = errors[i];
     }
-    for (int i = 0; i < TILE; i++) t = with_error(t, errors[i]);
-    return t;
+    return with_errors(t, errors);
 }
 
 INLINE double value(int32_t mantissa, uint8_t exponent) {
@@ -82,17 +86,23 @@ INLINE double value(int32_t mantissa, uint8_t exponent) {
     return mantissa * power;
 }
 
-static total write_readings(const int32_t *y, const uint8_t *xi, const int32_t *z, const uint8_t *theta,
-                            tigbulode_reading *readings, size_t length) {
-    total t = {0, 0};
-    size_t i = 0;
-    for (; i + TILE <= length; i += TILE) t = write_tile(y + i, xi + i, z + i, theta + i, &readings[i].y, t);
-    for (; i < length; i++) {
+// What is left after the tiles.
+INLINE total write_rest(const int32_t *y, const uint8_t *xi, const int32_t *z, const uint8_t *theta,
+                        tigbulode_reading *readings, size_t length, total t) {
+    for (size_t i = length / TILE * TILE; i < length; i++) {
         readings[i].y = value(y[i], xi[i]);
         readings[i].error = value(z[i], theta[i]);
         t = with_error(t, readings[i].error);
     }
     return t;
+}
+
+static total write_readings(const int32_t *y, const uint8_t *xi, const int32_t *z, const uint8_t *theta,
+                            tigbulode_reading *readings, size_t length) {
+    total t = {0, 0};
+    for (size_t i = 0; i + TILE <= length; i += TILE)
+        t = write_tile(y + i, xi + i, z + i, theta + i, &readings[i].y, t);
+    return write_rest(y, xi, z, theta, readings, length, t);
 }
 
 tigbulode_power careful_readings(const int32_t *y, size_t y_length, const uint8_t *xi, size_t xi_length,
