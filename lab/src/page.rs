@@ -70,7 +70,7 @@ pub fn page(given: &Given, runs: &[Run], file: &str) -> Page {
     let mut lines = vec![outcome(runs)];
     lines.extend(cable(given));
     lines.push(
-        "Trace and error power by the laboratory's library, blocks run by the station's: both are proved."
+        "Trace and each block's error power by the laboratory's library, blocks run by the station's: both are proved."
             .to_string(),
     );
     lines.extend(runs.iter().filter_map(stopped));

@@ -79,7 +79,7 @@ fn head(view: &View) -> Vec<String> {
     let lost = words::share(view.total(is_lost), readings, "reading", "lost");
     let past = words::count(past, "wrong pressure");
     let [taps, step] = words::settings(&view.given.sizes);
-    let proved = "By proved libraries: every block, save, load and error power.";
+    let proved = "By proved libraries: every block, save and load, each block's error power.";
     let mut lines = vec![
         format!("{lost}, {past} past the check"),
         format!("Assumed: cable, noise, gain control, converter. {proved}"),
