@@ -109,7 +109,7 @@ fn error_powers_are_means_of_blocks_in_a_row() {
     assert_eq!((rows[0].0, rows[151].0), (0.0, 9600.0));
 }
 
-const MARKED: &str = "at least this: an error of 256 or more";
+const MARKED: &str = "only a floor: an error of 256 or more";
 const ZERO: &str = "power 0, all below 1/256, is at −100 dB";
 
 #[test]
@@ -118,7 +118,7 @@ fn a_floor_is_marked_where_there_is_one() {
     let panel = panel(&page, "error power");
     let marks = rows(panel, MARKED);
     assert_eq!(marks.len(), 1);
-    assert!(rows(panel, "share 1: M = 699050, at least 23.0 dB").contains(&marks[0]));
+    assert!(rows(panel, "share 1: M = 699050, at least 23.0 dB (a floor)").contains(&marks[0]));
     assert!(script(&page).contains(MARKED) && !script(&page).contains(ZERO));
     for text in [EXAMPLE, &falling()] {
         let text = script(&page_of(text));

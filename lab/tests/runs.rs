@@ -227,7 +227,7 @@ fn a_cable_that_turns_loud_brings_a_floor() {
     let summary = summary::summary(&given, &runs);
     let ends = [
         "over the last 31 blocks 21.9 dB (1.5621e2); ψ",
-        "over the last 31 blocks at least 23.0 dB; ψ",
+        "over the last 31 blocks at least 23.0 dB (a floor); ψ",
     ];
     for (line, end) in summary.lines().skip(4).zip(ends) {
         assert!(line.contains(end), "{line}");

@@ -93,7 +93,7 @@ impl Curve {
 /// Marks of error powers that are only floors.
 pub fn floors(places: impl Iterator<Item = (f64, f64)>) -> Curve {
     let style = format!("points pt 8 ps 1.4 lw 2 lc rgb '{RED}'");
-    Curve::marks(places, &style, "at least this: an error of 256 or more")
+    Curve::marks(places, &style, "only a floor: an error of 256 or more")
 }
 
 /// Points in a row that a line goes through, each with its value, and where

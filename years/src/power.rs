@@ -89,7 +89,7 @@ impl ErrorPower {
         }
     }
 
-    /// "−18.4 dB"; "at least 48.1 dB" of a floor, which is rounded down; of 0
+    /// "−18.4 dB"; "at least 48.1 dB (a floor)", rounded down; of 0
     /// what is known: below 1/65536.
     pub fn in_words(self) -> String {
         if self.is_zero() {
@@ -98,7 +98,10 @@ impl ErrorPower {
         let level = 10.0 * self.value().log10();
         match self.power {
             Power::Mean(_) => format!("{} dB", with_minus((10.0 * level).round() / 10.0)),
-            Power::Floor(_) => format!("at least {} dB", with_minus((10.0 * level).floor() / 10.0)),
+            Power::Floor(_) => {
+                let least = with_minus((10.0 * level).floor() / 10.0);
+                format!("at least {least} dB (a floor)")
+            }
         }
     }
 }

@@ -117,9 +117,9 @@ fn a_power_in_words() {
     assert_eq!(mean(100.0).in_words(), "20.0 dB");
     assert_eq!(mean(1e-11).in_words(), "−110.0 dB");
     // 27.98 and 28.03 dB: what is only a floor is rounded down
-    assert_eq!(floor(628.0).in_words(), "at least 27.9 dB");
+    assert_eq!(floor(628.0).in_words(), "at least 27.9 dB (a floor)");
     assert_eq!(mean(628.0).in_words(), "28.0 dB");
-    assert_eq!(floor(635.0).in_words(), "at least 28.0 dB");
+    assert_eq!(floor(635.0).in_words(), "at least 28.0 dB (a floor)");
     assert_eq!(mean(0.0).in_words(), "below −48.1 dB");
     assert!(10.0 * (1.0f64 / 65536.0).log10() < -48.1);
     assert_eq!((mean(0.0).kind(), floor(600.0).kind()), ("mean", "floor"));
@@ -271,7 +271,7 @@ fn all_years(given: &Assumptions, readings: &[Reading]) -> Page {
     page(&View::all(given, readings), "all".to_string())
 }
 
-const MARKED: &str = "at least this: an error of 256 or more";
+const MARKED: &str = "only a floor: an error of 256 or more";
 
 /// The rows of the marks of floors.
 fn marks(page: &Page) -> Vec<String> {
@@ -374,7 +374,7 @@ fn a_summary_says_at_least_where_one_block_of_a_stretch_is_a_floor() {
     let mut readings = history(&given);
     assert!(!comparison::lines(&given, &readings).contains("at least"));
     readings[10].error_power = Some(floor(600.0));
-    let line = "40 days before the faint spell: ψ 3 at the end, error power at least 8.7 dB; by the old rule ψ 3, −";
+    let line = "40 days before the faint spell: ψ 3 at the end, error power at least 8.7 dB (a floor); by the old rule ψ 3, −";
     let text = comparison::lines(&given, &readings);
     assert!(text.starts_with(line), "{text}");
     assert_eq!(text.matches("at least").count(), 1);
