@@ -6,21 +6,18 @@ use Prim.Native.Nat.{ℕ, zero, suc, _-_, _^_, _≤_, _<_}
 use native.Mathlib.Omega.{arith}
 use lib.Dec.{T}
 use lib.ListN.{length, length-map}
-use lib.IntN.{ℤ, pos, natAbs}
-use borrow.Author.Tests.{ltb-true, lt-ltb}
-use Rattle.laws.specs.Lists.{all-at, and-left, and-right}
-use Rattle.laws.specs.Sums.{Each, each-map, each-of}
-use Rattle.laws.specs.Tests.{tested-each}
+use lib.IntN.{ℤ, natAbs}
+use borrow.Author.Tests.{lt-ltb}
+use Rattle.laws.specs.Lists.{and-left, and-right}
+use Rattle.laws.specs.Sums.{Each, each-map}
 use Rattle.numbers.specs.Cut.{cut, raise}
 use Rattle.numbers.proofs.CutLaws.{cut-lt, raise-abs, raise-raise}
 use Rattle.steps.specs.Limits.{exponentLimit, halvingLimit, doublingLimit}
 use Rattle.steps.specs.Settings.{Settings}
-use Rattle.steps.specs.Side.{Small, isBelow, allBelow, allSmall, halved, doubled}
+use Rattle.steps.specs.Side.{Small, allBelow, allSmall, halved, doubled}
+use Rattle.steps.proofs.LargestLaws.{all-below, below-all}
 use Rattle.filter.specs.Sample.{Taps, Outcome, keep, halve, double, canFall, outcomeOf, settled, settledExponent, newForward, newBack, outcome}
 use Rattle.filter.specs.Exact.{valuesOf, SameValues}
-
-pub all-below : (limit : ℕ) (w : List ℤ) → allBelow limit w ≡ true → Each (λ (x : ℤ). natAbs x < limit) w
-all-below limit w e = each-of (λ (x : ℤ). natAbs x < limit) (pos 0) w (λ i h. ltb-true _ _ (all-at (isBelow limit) w i (pos 0) e h))
 
 -- ---- what an outcome says of ψ and of the new weights
 
@@ -89,7 +86,7 @@ small-same keep ψ f b h g i = record { ahead = refl; behind = refl }
 small-same halve ψ f b h g i = absurd (subst T (sym (ap₂ (λ (x y : Bool). x && y) (tests f g) (tests b i)) ∙ h) tt)
   where
     tests : (w : List ℤ) → Each Small w → allSmall w ≡ true
-    tests w g = tested-each (isBelow halvingLimit) Small (λ x l. lt-ltb (natAbs x) halvingLimit l) w g
+    tests w g = below-all halvingLimit w g
 small-same double ψ f b h g i = doubled-same ψ f b (h .0)
 
 -- ---- ψ passes its limit only by a halving from its limit

@@ -6,12 +6,12 @@ use Prim.Native.Nat.{ℕ, _^_, _≤_, _<_}
 use native.Mathlib.Omega.{arith}
 use lib.IntN.{ℤ, pos, natAbs}
 use lib.ListN.{length, getD}
-use borrow.Author.Tests.{eq-eqb, le-leb, lt-ltb}
+use borrow.Author.Tests.{eq-eqb}
 use Rattle.laws.specs.Lists.{all}
 use Rattle.laws.specs.Sums.{each-of}
-use Rattle.laws.specs.Tests.{tested-each}
 use Rattle.steps.specs.Limits.{outputExponentLimit}
-use Rattle.steps.specs.Side.{isBelow, allBelow}
+use Rattle.steps.specs.Side.{allBelow}
+use Rattle.steps.proofs.LargestLaws.{below-all}
 use Rattle.block.specs.Block.{handedY, handedξ, handedZ, handedθ}
 use Rattle.block.specs.Holds.{AtSample}
 use Rattle.block.proofs.BlockLeft.{handed-long}
@@ -25,6 +25,7 @@ use Rattle.station.proofs.Claim.{claim}
 use Rattle.readings.specs.Limits.{outputLimit, errorLimit}
 use Rattle.readings.specs.Readings.{Lists, exponentFits, readable}
 use Rattle.readings.specs.Calls.{listsOf, Exponent}
+use Rattle.readings.proofs.ListLaws.{exponents-fit}
 use Rattle.readings.proofs.ReadableLaws.{Readable, readable-of, number-given, given}
 use Rattle.readings.proofs.ReadingsHold.{readings-hold}
 use Rattle.laboratory.specs.Taken.{Taken, BlockTaken, CallTaken, AllTaken}
@@ -37,15 +38,11 @@ module _ (s : Equaliser) (g : WithinLimits s) (l : Lent) (h : AcceptedBlock s l)
   at : (n : ℕ) → n < s .n → AtSample (settings s) (memory s) (block l) n
   at n k = h .sample n k
 
-  exponents-fit : (xs : List ℕ) → length xs ≡ s .n → ((n : ℕ) → n < s .n → (1 ≤ getD xs n 0) × (getD xs n 0 ≤ outputExponentLimit)) → all exponentFits xs ≡ true
-  exponents-fit xs e f =
-      tested-each exponentFits Exponent (λ x k. simp (le-leb 1 x (k .0), le-leb x outputExponentLimit (k .1))) xs
-      (each-of Exponent 0 xs (λ n k. f n (omega arith)))
+  exponents : (xs : List ℕ) → length xs ≡ s .n → ((n : ℕ) → n < s .n → (1 ≤ getD xs n 0) × (getD xs n 0 ≤ outputExponentLimit)) → all exponentFits xs ≡ true
+  exponents xs e f = exponents-fit xs (each-of Exponent 0 xs (λ n k. f n (omega arith)))
 
   all-small : (limit : ℕ) (xs : List ℤ) → length xs ≡ s .n → ((n : ℕ) → n < s .n → natAbs (getD xs n (pos 0)) < limit) → allBelow limit xs ≡ true
-  all-small limit xs e f =
-      tested-each (isBelow limit) (λ x. natAbs x < limit) (λ x k. lt-ltb (natAbs x) limit k) xs
-      (each-of (λ x. natAbs x < limit) (pos 0) xs (λ n k. f n (omega arith)))
+  all-small limit xs e f = below-all limit xs (each-of (λ x. natAbs x < limit) (pos 0) xs (λ n k. f n (omega arith)))
 
   can-be-read : Readable (out s l) (s .n)
   can-be-read =
@@ -54,8 +51,8 @@ module _ (s : Equaliser) (g : WithinLimits s) (l : Lent) (h : AcceptedBlock s l)
       record {
         fill = record {
           long = record { some = w .N-least; few = w .N-most; y-long = long .y-long; xi-long = long .xi-long; z-long = long .z-long; theta-long = long .theta-long };
-          xi-fit = exponents-fit (out s l .xi) (long .xi-long) (λ n k. let b = at n k in (omega (arith, b .given .ξ-is, b .bounded .ξ-least), omega (arith, b .given .ξ-is, b .bounded .ξ-most)));
-          theta-fit = exponents-fit (out s l .theta) (long .theta-long) (λ n k. let b = at n k in (omega (arith, b .given .θ-is, b .bounded .θ-least), omega (arith, b .given .θ-is, b .bounded .θ-most)));
+          xi-fit = exponents (out s l .xi) (long .xi-long) (λ n k. let b = at n k in (omega (arith, b .given .ξ-is, b .bounded .ξ-least), omega (arith, b .given .ξ-is, b .bounded .ξ-most)));
+          theta-fit = exponents (out s l .theta) (long .theta-long) (λ n k. let b = at n k in (omega (arith, b .given .θ-is, b .bounded .θ-least), omega (arith, b .given .θ-is, b .bounded .θ-most)));
         };
         z-small = all-small errorLimit (out s l .z) (long .z-long) (λ n k. let b = at n k in subst (λ (x : ℤ). natAbs x < 2 ^ 30) (sym (b .given .Z-is)) (b .bounded .Z-small));
         y-small = all-small outputLimit (out s l .y) (long .y-long) (λ n k. let b = at n k in subst (λ (x : ℤ). natAbs x < 2 ^ 29) (sym (b .given .Y-is)) (b .bounded .Y-small));

@@ -1,6 +1,6 @@
 -- The lists of readings and of a, place by place, and the sum of a².
 use mathlib.Core.Path.{_≡_, refl, sym, ap, ap₂, _∙_}
-use mathlib.Core.Bool.{Bool, true, false, cond, _&&_}
+use mathlib.Core.Bool.{Bool, true, cond, _&&_}
 use mathlib.Core.List.{List, [], _∷_}
 use Prim.Native.Nat.{ℕ, zero, suc, _+_, _*_, _≤_, _<_}
 use native.Mathlib.Omega.{arith}
@@ -11,12 +11,15 @@ use lib.ListN.{length, getD, take}
 use lib.Seq.{take-all, length-take-le}
 use lib.Dec.{leb}
 use lib.Ieee.{Float}
-use borrow.Author.Tests.{leb-true}
+use borrow.Author.Tests.{leb-true, le-leb}
 use Rattle.laws.specs.Lists.{and-left, and-right, all, all-at, Tested, tested-none, tested-next, tested-all}
-use Rattle.steps.specs.Limits.{outputExponentLimit}
+use Rattle.laws.specs.Sums.{Each}
+use Rattle.laws.specs.Tests.{tested-each}
+use Rattle.steps.specs.Limits.{blockLimit, outputExponentLimit}
 use Rattle.readings.specs.Limits.{amplitudeLimit}
-use Rattle.readings.specs.Calls.{Exponent, sumOf, powerFrom}
+use Rattle.readings.specs.Calls.{Exponent, sumLimit, sumOf, powerFrom}
 use Rattle.readings.specs.Readings.{pairOf, readingOf, pairs, amplitude, amplitudes, counted, isUncut, squares, quotient, powerOf, exponentFits}
+use Rattle.readings.specs.declared.errors.Sum.{Sum}
 use Rattle.readings.specs.declared.Power.the-variants.{Mean, Floor}
 
 -- ---- exponents
@@ -26,6 +29,9 @@ exponent-at l i e h =
     let x = getD l i 0 in
     let f = all-at exponentFits l i 0 e h in
     (leb-true 1 x (and-left (leb 1 x) (leb x outputExponentLimit) f), leb-true x outputExponentLimit (and-right (leb 1 x) (leb x outputExponentLimit) f))
+
+pub exponents-fit : (l : List ℕ) → Each Exponent l → all exponentFits l ≡ true
+exponents-fit l h = tested-each exponentFits Exponent (λ x k. simp (le-leb 1 x (k .0), le-leb x outputExponentLimit (k .1))) l h
 
 -- ---- readings
 
@@ -90,7 +96,7 @@ unfolding squares
 summed-none l = record { is = refl; tested = tested-none isUncut l }
 
 module _ {l : List ℕ} {sum : ℕ} {uncut : Bool} {i : ℕ} (s : Summed l sum uncut i) where
-  pub summed-small : length l ≤ 128 → i ≤ length l → sum ≤ 128 * (amplitudeLimit * amplitudeLimit)
+  pub summed-small : length l ≤ blockLimit → i ≤ length l → sum ≤ sumLimit
   summed-small h k = omega (arith, s .is, squares-bound (take i l), length-take-le i l k)
 
   -- one a more
@@ -105,15 +111,13 @@ module _ {l : List ℕ} {sum : ℕ} {uncut : Bool} {i : ℕ} (s : Summed l sum u
 
 -- ---- the power
 
-module _ (l : List ℕ) (q : Float) (e : q ≡ quotient (squares l) (length l)) where
-  pub power-mean : all isUncut l ≡ true → Mean q ≡ powerOf l
-  unfolding powerOf
-  power-mean w = ap Mean e ∙ sym (ap (λ (b : Bool). cond b (Mean (quotient (squares l) (length l))) (Floor (quotient (squares l) (length l)))) w)
+pub power-chosen : (s : Sum) (n : ℕ) {b : Bool} → s .uncut ≡ b → powerFrom s n ≡ cond b (Mean (quotient (s .sum) n)) (Floor (quotient (s .sum) n))
+power-chosen s n e = ap (λ (b : Bool). cond b (Mean (quotient (s .sum) n)) (Floor (quotient (s .sum) n))) e
 
-  pub power-floor : all isUncut l ≡ false → Floor q ≡ powerOf l
+module _ (Z : List ℤ) (θ : List ℕ) (n : ℕ) (e : length (amplitudes Z θ) ≡ n) where
+  pub power-from : powerFrom (sumOf Z θ) n ≡ powerOf (amplitudes Z θ)
   unfolding powerOf
-  power-floor w = ap Floor e ∙ sym (ap (λ (b : Bool). cond b (Mean (quotient (squares l) (length l))) (Floor (quotient (squares l) (length l)))) w)
+  power-from = ap (powerFrom (sumOf Z θ)) (sym e)
 
-pub power-from : (Z : List ℤ) (θ : List ℕ) (n : ℕ) → length (amplitudes Z θ) ≡ n → powerFrom (sumOf Z θ) n ≡ powerOf (amplitudes Z θ)
-unfolding powerOf
-power-from Z θ n e = ap (powerFrom (sumOf Z θ)) (sym e)
+  pub power-is : {b : Bool} → all isUncut (amplitudes Z θ) ≡ b → let q = quotient (squares (amplitudes Z θ)) n in powerOf (amplitudes Z θ) ≡ cond b (Mean q) (Floor q)
+  power-is f = sym power-from ∙ power-chosen (sumOf Z θ) n f

@@ -9,11 +9,14 @@ use lib.IntN.{ℤ, pos, natAbs}
 use lib.ListN.{length, getD}
 use lib.Ieee.{binary64, round}
 use lib.Ieee.Fits.{round-fits}
-use borrow.Author.Tests.{le-leb, ltb-true, leb-true, leb-false}
-use Rattle.laws.specs.Lists.{all, all-at}
+use borrow.Author.Tests.{le-leb, leb-true, leb-false}
+use Rattle.laws.specs.Lists.{all}
 use Rattle.laws.specs.Powers.{split, positive}
+use Rattle.laws.specs.Sums.{each-at}
 use Rattle.laws.specs.Tests.{each-tested, tested-each, refuted}
-use Rattle.steps.specs.Side.{isBelow}
+use Rattle.steps.specs.Limits.{blockLimit}
+use Rattle.steps.specs.Side.{allBelow}
+use Rattle.steps.proofs.LargestLaws.{all-below}
 use Rattle.floats.specs.Floats.{negative, AtMost, Nearest}
 use Rattle.floats.specs.ValueLaws.{same-value, exact, whole-value, round-zero}
 use Rattle.floats.specs.NearestLaws.{small, rounded-nearest, nearest-at-most, at-most-more}
@@ -21,7 +24,7 @@ use Rattle.readings.specs.Limits.{outputLimit, errorLimit, amplitudeLimi
 use Rattle.readings.specs.Readings.{Lists, valueOf, amplitude, amplitudes, counted, isUncut, squares, quotient, readable}
 use Rattle.readings.specs.Calls.{Exponent}
 use Rattle.readings.specs.Holds.{Exactly, exactSquares, squaresAbove, Uncut, ReadExactly, DividedOnce, ReadingsHold, ZeroIsPlus}
-use Rattle.readings.proofs.ListLaws.{exponent-at, pairs-length, pairs-at, amplitudes-length, squares-bound, power-mean, power-floor}
+use Rattle.readings.proofs.ListLaws.{exponent-at, pairs-length, pairs-at, amplitudes-length, squares-bound, power-is}
 use Rattle.readings.proofs.ReadableLaws.{Readable, readable-says}
 use Rattle.readings.proofs.ValueLaws.{quotient-is}
 
@@ -40,8 +43,8 @@ pub zero-plus : ZeroIsPlus
 unfolding valueOf quotient
 zero-plus = ((λ e. round-zero (2 ^ (30 - e)) (positive (30 - e))), (λ n h. round-zero (65536 * n) (omega arith)))
 
-below-at : (limit : ℕ) (l : List ℤ) (i : ℕ) → all (isBelow limit) l ≡ true → i < length l → natAbs (getD l i (pos 0)) < limit
-below-at limit l i e h = ltb-true (natAbs (getD l i (pos 0))) limit (all-at (isBelow limit) l i (pos 0) e h)
+below-at : (limit : ℕ) (l : List ℤ) (i : ℕ) → allBelow limit l ≡ true → i < length l → natAbs (getD l i (pos 0)) < limit
+below-at limit l i e h = each-at (λ (x : ℤ). natAbs x < limit) l i (pos 0) (all-below limit l e) h
 
 -- ---- the sums
 
@@ -119,7 +122,7 @@ unfolding quotient
 rounded sum n h some = rounded-nearest binary64 sum (65536 * n) (omega arith) (small sum (65536 * n) 39 (omega arith) h (omega arith))
 
 -- a sum over 65536·n, rounded, is at most one more over it: between them lies k / 2^23, which is not rounded
-module _ (sum n : ℕ) (h : sum < 2 ^ 39) (some : 1 ≤ n) (few : n ≤ 128) where
+module _ (sum n : ℕ) (h : sum < 2 ^ 39) (some : 1 ≤ n) (few : n ≤ blockLimit) where
   abbrev k : ℕ
   k = sum * 128 / n + 1
 
@@ -177,8 +180,8 @@ module _ (l : Lists) (n : ℕ) (ok : readable l n ≡ true) where
     long = let f = r .fill in pairs-length (l .y) (l .xi) (l .z) (l .theta) n (f .long .y-long) (f .long .xi-long) (f .long .z-long) (f .long .theta-long);
     readings = read;
     power = divided;
-    mean = λ u. sym (power-mean a (quotient (squares a) n) (ap (quotient (squares a)) (sym long)) (uncut-all a u));
-    floor = λ c. sym (power-floor a (quotient (squares a) n) (ap (quotient (squares a)) (sym long)) (some-cut a c));
+    mean = λ u. power-is (l .z) (l .theta) n long (uncut-all a u);
+    floor = λ c. power-is (l .z) (l .theta) n long (some-cut a c);
     at-least = sums-low (l .z) (l .theta);
     below = λ u. omega (arith, sums-high (l .z) (l .theta) u, long, r .fill .long .some);
     floor-below = λ c. quotient-most (squares a) n sum-small (r .fill .long .some) (r .fill .long .few) (exactSquares (l .z) (l .theta)) (sums-cut (l .z) (l .theta) (some-cut a c));

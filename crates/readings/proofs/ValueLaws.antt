@@ -11,7 +11,7 @@ use lib.Ieee.Scale.{round-same}
 use Rattle.laws.specs.Powers.{split3, positive, rises, scale-le}
 use Rattle.floats.specs.Floats.{negative}
 use Rattle.floats.specs.ValueLaws.{whole-value, mul-value, div-value, field-value}
-use Rattle.steps.specs.Limits.{outputExponentLimit}
+use Rattle.steps.specs.Limits.{blockLimit, outputExponentLimit}
 use Rattle.readings.specs.Readings.{valueOf, quotient}
 use Rattle.readings.specs.Calls.{Exponent, powers}
 
@@ -51,7 +51,7 @@ amplitude-is m e h k =
 
 -- ---- the power
 
-pub quotient-is : (sum n : ℕ) → sum < 2 ^ 53 → 1 ≤ n → n ≤ 128 → div binary64 (ofInt binary64 (pos sum)) (ofInt binary64 (pos (65536 * n))) ≡ quotient sum n
+pub quotient-is : (sum n : ℕ) → sum < 2 ^ 53 → 1 ≤ n → n ≤ blockLimit → div binary64 (ofInt binary64 (pos sum)) (ofInt binary64 (pos (65536 * n))) ≡ quotient sum n
 unfolding quotient
 quotient-is sum n h k l =
     div-value binary64 false false sum 1 (65536 * n) 1 (omega arith) (omega arith) (ofInt binary64 (pos sum)) (ofInt binary64 (pos (65536 * n))) (omega arith)

@@ -15,8 +15,8 @@ use Rattle.laws.specs.Tests.{both, last-le, each-tested, each-parts, all-take, 
 use Rattle.steps.specs.Limits.{exponentLimit, halvingLimit, lengthLimit, places}
 use Rattle.steps.specs.Settings.{Settings, Within, scaleForward, isEntry}
 use Rattle.steps.specs.Side.{Small, isBelow}
+use Rattle.steps.proofs.LargestLaws.{all-below}
 use Rattle.block.specs.Sound.{Sound}
-use Rattle.filter.proofs.OutcomeLaws.{all-below}
 use Rattle.state.specs.Sizes.{sizesFit, admits, settingsNumber, given}
 use Rattle.state.specs.State.{settings, memory, taps, samples, filler, symbols, isZero, isStored, soundExponents, soundWeights, soundPast, isSound, fresh, refused}
 use Rattle.state.specs.Answers.{setUpState, examined}

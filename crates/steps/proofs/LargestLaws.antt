@@ -15,6 +15,7 @@ use borrow.Author.Tests.{lt-ltb, le-ltb, ltb-true, ltb-false}
 use Rattle.laws.specs.Machine.{or-assoc}
 use Rattle.laws.specs.Powers.{positive}
 use Rattle.laws.specs.Sums.{Each, each-map, each-of, each-weaken}
+use Rattle.laws.specs.Tests.{each-tested, tested-each}
 use Rattle.numbers.specs.BitLength.{bitLength}
 use Rattle.numbers.proofs.BitLengthLaws.{bit-length-zero, bit-length-mono, bit-length-le, bit-length-lt}
 use Rattle.steps.specs.Side.{isBelow, allBelow, magnitudes, largest, together, longest}
@@ -116,6 +117,15 @@ together-next ns i m n e f = ap₂ bitOr e f ∙ together-take ns i ∙ ap (λ (
 -- all of them
 pub together-all : (ns : List ℕ) (i m : ℕ) → length ns ≤ i → m ≡ together (take i ns) → m ≡ together ns
 together-all ns i m h e = e ∙ ap together (take-all i ns h)
+
+-- ---- below a limit
+
+-- the test of every magnitude, as facts, and back
+pub all-below : (limit : ℕ) (w : List ℤ) → allBelow limit w ≡ true → Each (λ (x : ℤ). natAbs x < limit) w
+all-below limit w e = each-tested (isBelow limit) (λ x. natAbs x < limit) (λ x h. ltb-true (natAbs x) limit h) w e
+
+pub below-all : (limit : ℕ) (w : List ℤ) → Each (λ (x : ℤ). natAbs x < limit) w → allBelow limit w ≡ true
+below-all limit w h = tested-each (isBelow limit) (λ x. natAbs x < limit) (λ x l. lt-ltb (natAbs x) limit l) w h
 
 -- ---- below a power of two
 
