@@ -10,3 +10,4 @@ pub mod Machine
 pub mod Tests
 pub mod Comparisons
 pub mod Fills
+pub mod Negated

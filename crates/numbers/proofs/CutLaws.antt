@@ -40,6 +40,9 @@ cut-neg (pos zero) k = rw zero-div
 cut-neg (pos (suc n)) k = refl
 cut-neg (negsuc n) k = sym (negℤ-negℤ (pos (suc n / 2 ^ k)))
 
+pub raise-neg : (z : ℤ) (k : ℕ) → raise (negℤ z) k ≡ negℤ (raise z k)
+raise-neg z k = neg-*ℤ z (pos (2 ^ k))
+
 pub cut-none : (z : ℤ) → cut z 0 ≡ z
 unfolding cut
 cut-none (pos n) = ap pos (div-one n)
@@ -80,7 +83,7 @@ cut-error z k = by-sign (λ z. natAbs (z -ℤ raise (cut z k) k) < 2 ^ k) whole 
 
     turned : (z : ℤ) → negℤ z -ℤ raise (cut (negℤ z) k) k ≡ negℤ (z -ℤ raise (cut z k) k)
     turned z =
-        ap (λ (c : ℤ). negℤ z -ℤ raise c k) (cut-neg z k) ∙ ap (λ (c : ℤ). negℤ z -ℤ c) (neg-*ℤ (cut z k) (pos (2 ^ k)))
+        ap (λ (c : ℤ). negℤ z -ℤ raise c k) (cut-neg z k) ∙ ap (λ (c : ℤ). negℤ z -ℤ c) (raise-neg (cut z k) k)
         ∙ sym (negℤ-+ℤ z (negℤ (raise (cut z k) k)))
 
     negative : (z : ℤ) → natAbs (z -ℤ raise (cut z k) k) < 2 ^ k → natAbs (negℤ z -ℤ raise (cut (negℤ z) k) k) < 2 ^ k
@@ -112,8 +115,8 @@ rescale-zero i j = ap (λ (z : ℤ). cut z j) (zero-*ℤ (pos (2 ^ i))) ∙ cut-
 pub rescale-most : (z : ℤ) (i j : ℕ) → natAbs (rescale z i j) * 2 ^ j ≤ natAbs z * 2 ^ i
 rescale-most z i j = omega (arith, cut-scaled (raise z i) j, raise-abs z i)
 
-rescale-neg : (z : ℤ) (j k : ℕ) → cut (raise (negℤ z) j) k ≡ negℤ (cut (raise z j) k)
-rescale-neg z j k = ap (λ (c : ℤ). cut c k) (neg-*ℤ z (pos (2 ^ j))) ∙ cut-neg (raise z j) k
+pub rescale-neg : (z : ℤ) (i j : ℕ) → rescale (negℤ z) i j ≡ negℤ (rescale z i j)
+rescale-neg z i j = ap (λ (c : ℤ). cut c j) (raise-neg z i) ∙ cut-neg (raise z i) j
 
 pub rescale-down : (z : ℤ) (i j k : ℕ) → j ≡ i + k → rescale z i j ≡ cut z k
 unfolding cut
@@ -124,7 +127,7 @@ rescale-down z i j k e = by-sign (λ z. rescale z i j ≡ cut z k) whole (λ z h
 
 pub rescale-up : (z : ℤ) (i j k : ℕ) → i ≡ j + k → rescale z i j ≡ raise z k
 unfolding cut
-rescale-up z i j k e = by-sign (λ z. rescale z i j ≡ raise z k) whole (λ z h. rescale-neg z i j ∙ ap negℤ h ∙ sym (neg-*ℤ z (pos (2 ^ k)))) z
+rescale-up z i j k e = by-sign (λ z. rescale z i j ≡ raise z k) whole (λ z h. rescale-neg z i j ∙ ap negℤ h ∙ sym (raise-neg z k)) z
   where
     whole : (n : ℕ) → pos (n * 2 ^ i / 2 ^ j) ≡ pos (n * 2 ^ k)
     whole n = ap pos (ap (λ (m : ℕ). m / 2 ^ j) (omega (arith, ap (λ (m : ℕ). n * m) (split i j k e))) ∙ mul-div-cancel (n * 2 ^ k) (pow-pos j))
