@@ -15,3 +15,4 @@ pub mod StepLaws
 pub mod SampleSteps
 pub mod NextLaws
 pub mod DecisionSize
+pub mod NegatedLaws

@@ -18,7 +18,7 @@ use Rattle.numbers.proofs.ScaleCountLaws.{scale-enough, scale-least}
 use Rattle.steps.specs.Limits.{tapLimit, scaleLimit, dataExponentLimit}
 use Rattle.steps.specs.Settings.{Settings, scaleForward, scaleBack, isSymbol, isEntry}
 use Rattle.steps.specs.Side.{Side, adapt, largest, magnitudes}
-use Rattle.filter.specs.Sample.{Taps, ν, held, forwardSide, backSide, H, Y, ξ, decision, v, κ, θ, J, newBack}
+use Rattle.filter.specs.Sample.{Taps, ν, held, forwardSide, backSide, H, ξ, decision, v, κ, θ, J, newBack}
 use Rattle.steps.specs.Side.{longest}
 use Rattle.filter.specs.Sound.{Fit}
 use Rattle.steps.proofs.LargestLaws.{largest-magnitude, longest-is, longest-above}
@@ -151,7 +151,7 @@ module _ (k : Settings) (g : ℕ) (t : Taps) (entry : ℤ) (h : Fit k g t) where
   module _ (e : isEntry (k .r) entry ≡ true) where
     pub v-symbol : isSymbol (k .r) (v k g t entry) ≡ true
     unfolding v decision
-    v-symbol = chosen-symbol (k .r) entry (decision k g t entry) e (decide-symbol (k .r) (Y k g t entry) (ξ k g t entry))
+    v-symbol = chosen-symbol (k .r) entry (decision k g t entry) e (decide-symbol (k .r) _ _)
 
     pub v-below : natAbs (v k g t entry) < 2 ^ (k .r + 1)
     v-below = symbol-below (k .r) (v k g t entry) v-symbol

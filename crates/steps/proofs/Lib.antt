@@ -7,3 +7,4 @@ pub mod OutputLaws
 pub mod ErrorLaws
 pub mod SymbolLaws
 pub mod Admission
+pub mod NegatedLaws
