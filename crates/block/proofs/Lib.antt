@@ -14,3 +14,4 @@ pub mod RunLaws
 pub mod BlockHolds
 pub mod BlockOutcomes
 pub mod ValueLists
+pub mod SwappedLaws

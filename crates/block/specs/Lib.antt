@@ -4,3 +4,4 @@ pub mod Stored
 pub mod Holds
 pub mod Line
 pub mod Calls
+pub mod Swapped

@@ -1,0 +1,142 @@
+-- A block with the two conductors swapped: it goes as far, hands out the same and leaves what is swapped.
+use mathlib.Core.Path.{_≡_, refl, sym, ap, ap₂, _∙_, subst, fun-ext}
+use mathlib.Core.Bool.{Bool, _&&_}
+use mathlib.Core.List.{List, [], _∷_, map-append}
+use Prim.Native.Nat.{ℕ, zero, suc, _+_, _*_, _-_, _^_, _<_}
+use lib.Dec.{leb}
+use lib.ListN.{length-map}
+use lib.IntN.{ℤ, negℤ, natAbs}
+use Rattle.laws.specs.Integers.{abs-neg}
+use Rattle.laws.specs.Negated.{negated, negated-negated, map-odd, negated-at, negated-take}
+use Rattle.laws.specs.Sums.{Each, each-map}
+use Rattle.numbers.specs.Cut.{rescale}
+use Rattle.numbers.proofs.CutLaws.{raise-neg, rescale-neg}
+use Rattle.steps.specs.Limits.{exponentLimit, halvingLimit}
+use Rattle.steps.specs.Settings.{Settings, scaleForward}
+use Rattle.steps.proofs.NegatedLaws.{push-neg, magnitudes-neg}
+use Rattle.filter.specs.Sample.{Taps, Y, ξ, decision, Z, θ, next}
+use Rattle.filter.proofs.NegatedLaws.{swappedTaps, Y-same, ξ-same, decision-same, Z-same, θ-same, next-swapped}
+use Rattle.block.specs.Block.{Block, Memory, receivedAll, values, newb, newB, g, stored, old, start, entered, after, at, entryAt, goes, handedY, handedξ, handedDecision, handedZ, handedθ, left}
+use Rattle.block.specs.Sound.{Sound}
+use Rattle.block.specs.Swapped.{swapped, swappedBlock}
+
+pub swapped-back : (o : Memory) → swapped (swapped o) ≡ o
+swapped-back o = rw (negated-negated (o .forward), negated-negated (o .samples))
+
+received-neg : (m : List ℤ) (gains : List ℕ) → receivedAll (negated m) gains ≡ negated (receivedAll m gains)
+unfolding receivedAll
+received-neg [] gs = refl
+received-neg (m ∷ ms) [] = refl
+received-neg (m ∷ ms) (x ∷ gs) = ap₂ _∷_ (raise-neg m (15 - x)) (received-neg ms gs)
+
+module _ (k : Settings) (o : Memory) (i : Block) where
+  abbrev o′ : Memory
+  o′ = swapped o
+
+  abbrev i′ : Block
+  i′ = swappedBlock i
+
+  -- ---- the exponents see magnitudes only
+
+  newb-same : newb k o′ i′ ≡ newb k o i
+  unfolding newb
+  newb-same = rw (received-neg, magnitudes-neg)
+
+  newB-same : newB k o′ i′ ≡ newB k o i
+  unfolding newB
+  newB-same = rw newb-same
+
+  g-same : g k o′ i′ ≡ g k o i
+  unfolding g
+  g-same = rw newB-same
+
+  -- ---- the stored samples
+
+  stored-neg : stored k o′ i′ ≡ negated (stored k o i)
+  unfolding stored
+  stored-neg =
+      rw (newB-same, received-neg)
+      (map-odd (λ (x : ℤ). rescale x 15 (newB k o i + scaleForward k)) (λ x. rescale-neg x 15 (newB k o i + scaleForward k)) (receivedAll (i .samples) (i .gains)))
+
+  old-neg : old k o′ i′ ≡ negated (old k o i)
+  unfolding old
+  old-neg = rw newB-same (map-odd (λ (a : ℤ). rescale a (o .B) (newB k o i)) (λ a. rescale-neg a (o .B) (newB k o i)) (o .samples))
+
+  -- ---- sample by sample
+
+  start-swapped : start k o′ i′ ≡ swappedTaps (start k o i)
+  unfolding start
+  start-swapped = rw (old-neg, map-append)
+
+  entered-swapped : (n : ℕ) (t : Taps) {t′ : Taps} → t′ ≡ swappedTaps t → entered k o′ i′ n t′ ≡ swappedTaps (entered k o i n t)
+  entered-swapped n t e = rw (e, stored-neg, negated-at, push-neg)
+
+  after-swapped : (n : ℕ) → after k o′ i′ n ≡ swappedTaps (after k o i n)
+  unfolding after
+  after-swapped zero = start-swapped
+  after-swapped (suc n) =
+      ap₂ (λ (γ : ℕ) (t : Taps). next k γ t (entryAt k o i n)) g-same (entered-swapped n (after k o i n) (after-swapped n))
+      ∙ next-swapped k (g k o i) (entered k o i n (after k o i n)) (entryAt k o i n)
+
+  at-swapped : (n : ℕ) → at k o′ i′ n ≡ swappedTaps (at k o i n)
+  unfolding at
+  at-swapped n = entered-swapped n (after k o i n) (after-swapped n)
+
+  pub goes-same : (n : ℕ) → goes k o′ i′ n ≡ goes k o i n
+  unfolding goes
+  goes-same zero = refl
+  goes-same (suc n) = ap₂ (λ (b : Bool) (t : Taps). b && leb (t .ψ) exponentLimit) (goes-same n) (after-swapped (suc n))
+
+  -- ---- what it hands out and leaves
+
+  -- of a value of each sample that is the same of swapped taps
+  handed-same : {A : Type 0} (f : Settings → ℕ → Taps → ℤ → A) → ((g₀ : ℕ) (t : Taps) (e : ℤ) → f k g₀ (swappedTaps t) e ≡ f k g₀ t e) →
+      values (λ n. f k (g k o′ i′) (at k o′ i′ n) (entryAt k o′ i′ n)) (k .N) ≡ values (λ n. f k (g k o i) (at k o i n) (entryAt k o i n)) (k .N)
+  handed-same f h = ap (λ h. values h (k .N)) (fun-ext (λ n. rw (g-same, at-swapped) (h (g k o i) (at k o i n) (entryAt k o i n))))
+
+  pub handedY-same : handedY k o′ i′ ≡ handedY k o i
+  unfolding handedY
+  handedY-same = handed-same Y (Y-same k)
+
+  pub handedξ-same : handedξ k o′ i′ ≡ handedξ k o i
+  unfolding handedξ
+  handedξ-same = handed-same ξ (ξ-same k)
+
+  pub handedDecision-same : handedDecision k o′ i′ ≡ handedDecision k o i
+  unfolding handedDecision
+  handedDecision-same = handed-same decision (decision-same k)
+
+  pub handedZ-same : handedZ k o′ i′ ≡ handedZ k o i
+  unfolding handedZ
+  handedZ-same = handed-same Z (Z-same k)
+
+  pub handedθ-same : handedθ k o′ i′ ≡ handedθ k o i
+  unfolding handedθ
+  handedθ-same = handed-same θ (θ-same k)
+
+  pub left-swapped : left k o′ i′ ≡ swapped (left k o i)
+  unfolding left
+  left-swapped = rw (after-swapped, newb-same, newB-same, negated-take)
+
+-- ---- what is sound stays so
+
+-- a bound on magnitudes
+each-neg : (P : ℕ → Type 0) (l : List ℤ) → Each (λ (x : ℤ). P (natAbs x)) l → Each (λ (x : ℤ). P (natAbs x)) (negated l)
+each-neg P l h = each-map (λ (x : ℤ). P (natAbs x)) (λ (x : ℤ). P (natAbs x)) negℤ (λ x p. subst P (sym (abs-neg x)) p) l h
+
+pub swapped-sound : (k : Settings) (o : Memory) → Sound k o → Sound k (swapped o)
+swapped-sound k o s = record {
+  within = s .within;
+  admitted = s .admitted;
+  forward-long = length-map (o .forward) negℤ ∙ s .forward-long;
+  back-long = s .back-long;
+  samples-long = length-map (o .samples) negℤ ∙ s .samples-long;
+  symbols-long = s .symbols-long;
+  forward-small = each-neg (λ n. n < halvingLimit) (o .forward) (s .forward-small);
+  back-small = s .back-small;
+  samples-small = each-neg (λ n. n * 2 ^ (o .B + scaleForward k) < 2 ^ (15 + o .b)) (o .samples) (s .samples-small);
+  symbols-are = s .symbols-are;
+  ψ-most = s .ψ-most;
+  b-most = s .b-most;
+  B-most = s .B-most;
+}
