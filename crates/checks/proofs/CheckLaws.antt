@@ -1,5 +1,5 @@
 -- The checks before a block is run: their number, and what holds where it is 0.
-use mathlib.Core.Path.{_≡_, refl, _∙_}
+use mathlib.Core.Path.{_≡_, refl, ap, _∙_}
 use mathlib.Core.Bool.{Bool, true, false, cond}
 use Prim.Native.Nat.{ℕ}
 use native.Mathlib.Omega.{arith}
@@ -9,8 +9,9 @@ use borrow.Author.Tests.{leb-true, eqb-true, eqb-false, ne-eqb}
 use Rattle.laws.specs.Lists.{and-left, and-right, all}
 use Rattle.laws.specs.Tests.{last-eq, each-tested}
 use Rattle.steps.specs.Limits.{gainLimit, places}
-use Rattle.steps.specs.Settings.{isEntry}
+use Rattle.steps.specs.Settings.{Settings, isEntry}
 use Rattle.checks.specs.Checks.{Lent, block, lengthsFit, gainFits, checkNumber}
+use Rattle.state.specs.State.{settings}
 use Rattle.state.specs.Answers.{examined}
 use Rattle.checks.specs.Calls.{Sampled, Checked}
 use Rattle.state.specs.declared.equaliser.Equaliser.{Equaliser}
@@ -50,6 +51,12 @@ check-number e l P h pass lengths gains entries = rw h (go (lengthsFit (e .n) l)
     go true true false = entries
     go true false c = gains
     go false b c = lengths
+
+-- of another state and other lists that every check finds the same
+pub check-same : (e e′ : Equaliser) (l l′ : Lent) → settings e′ ≡ settings e → examined e′ ≡ examined e → lengthsFit (e .n) l′ ≡ lengthsFit (e .n) l → l′ .gains ≡ l .gains → l′ .entries ≡ l .entries →
+    checkNumber e′ l′ ≡ checkNumber e l
+unfolding checkNumber
+check-same e e′ l l′ k x f g v = rw (x, ap (λ (c : Settings). c .N) k, ap (λ (c : Settings). c .L) k, ap (λ (c : Settings). c .r) k, f, g, v)
 
 -- ---- what holds where it is 0
 

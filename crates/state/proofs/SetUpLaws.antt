@@ -1,12 +1,18 @@
 -- What set-up answers, from the number of the settings.
 use mathlib.Core.Path.{_≡_, refl, sym, ap, _∙_}
-use mathlib.Core.Bool.{Bool, cond}
-use Prim.Native.Nat.{ℕ}
+use mathlib.Core.Bool.{Bool, true, false, cond}
+use Prim.Native.Nat.{ℕ, _-_}
+use lib.Dec.{eqb}
+use lib.ListN.{take, replicate}
+use lib.IntN.{pos}
 use borrow.Author.Tests.{eq-eqb, ne-eqb}
+use Rattle.laws.specs.Negated.{negated, negated-take, negated-zeros}
+use Rattle.steps.specs.Limits.{places}
 use Rattle.steps.specs.Settings.{Settings}
+use Rattle.block.specs.Swapped.{swapped}
 use Rattle.state.specs.Sizes.{settingsNumber, given}
-use Rattle.state.specs.State.{fresh, refused}
-use Rattle.state.specs.Answers.{SetUp}
+use Rattle.state.specs.State.{memory, fresh, refused}
+use Rattle.state.specs.Answers.{setUpState, SetUp}
 use Rattle.state.specs.declared.equaliser.Equaliser.{Equaliser}
 
 pub smallest : fresh (given 1 1 1 0 0 0) ≡ refused
@@ -21,3 +27,20 @@ module _ (k : Settings) (n : ℕ) (s : Equaliser) (e : n ≡ settingsNumber k) w
   pub set-up-refused : (n ≡ 0 → ⊥) → s ≡ fresh (given 1 1 1 0 0 0) → SetUp k (record { number = n; state = s })
   set-up-refused z f =
       record { number = e; state = f ∙ smallest ∙ sym (ap (λ (b : Bool). cond b (fresh k) refused) (ne-eqb (settingsNumber k) 0 (λ q. z (e ∙ q)))) }
+
+-- ---- the two conductors swapped: a fresh memory is the same
+
+front-same : (i n : ℕ) → take i (replicate n (pos 0)) ≡ negated (take i (replicate n (pos 0)))
+front-same i n = ap (take i) (sym (negated-zeros n)) ∙ negated-take i (replicate n (pos 0))
+
+fresh-swapped : (k : Settings) → memory (fresh k) ≡ swapped (memory (fresh k))
+unfolding fresh
+fresh-swapped k = rw (← front-same (k .p) places, ← front-same (k .p - 1) places)
+
+pub set-up-swapped : (k : Settings) → memory (setUpState k) ≡ swapped (memory (setUpState k))
+unfolding refused
+set-up-swapped k = go (eqb (settingsNumber k) 0)
+  where
+    go : (b : Bool) → memory (cond b (fresh k) refused) ≡ swapped (memory (cond b (fresh k) refused))
+    go true = fresh-swapped k
+    go false = fresh-swapped (given 1 1 1 0 0 0)

@@ -1,5 +1,5 @@
 -- A state that passes the tests is sound, and what set-up returns passes them.
-use mathlib.Core.Path.{_≡_, refl, ap, _∙_}
+use mathlib.Core.Path.{_≡_, refl, sym, ap, ap₂, _∙_}
 use mathlib.Core.Bool.{Bool, true, false, cond, _&&_}
 use mathlib.Core.List.{List}
 use Prim.Native.Nat.{ℕ, _+_, _*_, _-_, _^_, _≤_}
@@ -116,6 +116,11 @@ other false b n h = refl
 pub examined-settings : (e : Equaliser) (n : ℕ) → n ≡ settingsNumber (settings e) → (n ≡ 0 → ⊥) → n ≡ examined e
 unfolding examined settingsNumber
 examined-settings e n q h = q ∙ other (sizesFit (settings e)) (admits (settings e)) (cond (isSound e) 0 9) (λ z. h (q ∙ z))
+
+-- of two states with the same settings that are both sound
+pub examined-same : (e e′ : Equaliser) → settings e′ ≡ settings e → isSound e ≡ true → isSound e′ ≡ true → examined e′ ≡ examined e
+unfolding examined
+examined-same e e′ k s s′ = ap₂ (λ (c : Settings) (t : Bool). cond (sizesFit c) (cond (admits c) (cond t 0 9) 2) 1) k (s′ ∙ sym s)
 
 pub examined-state : (e : Equaliser) → sizesFit (settings e) ≡ true → admits (settings e) ≡ true → cond (isSound e) 0 9 ≡ examined e
 unfolding examined
