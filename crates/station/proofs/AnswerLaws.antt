@@ -4,11 +4,10 @@ use mathlib.Core.Bool.{Bool, true, false, cond}
 use Prim.Native.Nat.{ℕ}
 use native.Mathlib.Omega.{arith}
 use lib.Dec.{eqb}
-use borrow.Author.Tests.{ne-eqb, eq-eqb, eqb-true, eqb-false}
+use borrow.Author.Tests.{ne-eqb, eqb-true, eqb-false}
 use Rattle.block.specs.Block.{Outputs, goes}
-use Rattle.block.specs.Calls.{outputsOf}
 use Rattle.state.specs.State.{settings, memory}
-use Rattle.station.specs.Answers.{runNumber, runState, accepted, Run}
+use Rattle.station.specs.Answers.{runNumber, runState, accepted, lentOutputs, Run}
 use Rattle.station.specs.Calls.{goesOn, RunChecked, handedOr}
 use Rattle.state.specs.declared.equaliser.Answer.{Answer}
 use Rattle.checks.specs.Checks.{Lent, block, checkNumber}
@@ -61,7 +60,7 @@ module _ (e : Equaliser) (l : Lent) where
         go true = refl
         go false = refl
 
-    pub answered : {areas areas′ : Outputs} {a : Answer} {l′ : Outputs} → RunChecked e (block l) areas a areas′ → l′ ≡ handedOr e (block l) (outputsOf (l .y) (l .xi) (l .decision) (l .z) (l .theta)) →
+    pub answered : {areas areas′ : Outputs} {a : Answer} {l′ : Outputs} → RunChecked e (block l) areas a areas′ → l′ ≡ handedOr e (block l) (lentOutputs l) →
         Run e l a (l′ .y) (l′ .xi) (l′ .decision) (l′ .z) (l′ .theta)
     unfolding runState
     answered h o = record {

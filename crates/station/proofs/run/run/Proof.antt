@@ -1,5 +1,5 @@
 -- The checks, the run on work areas of zeros, and five copies where the block is accepted.
-use mathlib.Core.Path.{_≡_, sym, ap, _∙_}
+use mathlib.Core.Path.{_≡_, sym, _∙_}
 use mathlib.Core.List.{List}
 use Prim.Native.Nat.{ℕ, _-_, _≤_}
 use lib.ListN.{length, take, replicate}
@@ -14,6 +14,7 @@ use Rattle.state.specs.declared.equaliser.Equaliser.{Equaliser}
 use Rattle.checks.specs.Checks.{Lent, block, checkNumber}
 use Rattle.checks.specs.Calls.{lentOf, Checked}
 use Rattle.checks.proofs.CheckLaws.{Long, long, checked-is}
+use Rattle.station.specs.Answers.{lentOutputs}
 use Rattle.station.proofs.RunLaws.{area-long, area-room, area-back, area-copied, handed-none, handed-new}
 use Rattle.station.proofs.AnswerLaws.{check-fails, refused, answered}
 use Rattle.station.proofs.run.run.Statement.{statement}
@@ -73,7 +74,7 @@ abbrev going : tie.After-run-checked → tie.After-sixteen-bits
 going c = c .before .before .before .before .before .before .before
 
 abbrev given : tie.After-run-checked → Outputs
-given c = let l = lent (passed (going c .before)) in outputsOf (l .y) (l .xi) (l .decision) (l .z) (l .theta)
+given c = lentOutputs (lent (passed (going c .before)))
 
 abbrev y-out : tie.After-run-checked → List ℤ
 y-out c = c .run-checked .last .1 .1 .1 .1 .0
