@@ -40,7 +40,7 @@ use Rattle.station.proofs.AnswerLaws.{run-tests}
 
 -- ---- states within limits
 
-accepted-within : {s : Equaliser} → Accepted s → WithinLimits s
+pub accepted-within : {s : Equaliser} → Accepted s → WithinLimits s
 accepted-within {s} a =
     let t = examined-tests s (a .number) in
     record { sizes = t .0; admitted = t .1; sound = t .2; bounds = accepted-sound a; weights-long = a .weights-long; past-long = a .past-long }
@@ -57,7 +57,7 @@ start-within s (loaded bytes b e) = subst WithinLimits (sym e) (accepted-within 
 sampled : (l : Lent) → Typed l → Sampled (l .m)
 sampled l t = each-weaken (SFits w16) _ (λ z f. abs-fits f) (l .m) (t .m)
 
-refused-same : (s : Equaliser) (l : Lent) → (runNumber s l ≡ 0 → ⊥) → runState s l ≡ s
+pub refused-same : (s : Equaliser) (l : Lent) → (runNumber s l ≡ 0 → ⊥) → runState s l ≡ s
 unfolding runState
 refused-same s l f = ap (λ b. cond b (stateOf (settings s) (Block.left (settings s) (memory s) (block l))) s) (ne-eqb (runNumber s l) 0 f)
 
@@ -75,10 +75,17 @@ module _ (s : Equaliser) (g : WithinLimits s) (l : Lent) (t : Typed l) (ok : run
   next-sound : Sound (settings s) next
   next-sound = left-sound (settings s) (memory s) (block l) (checked .sound) (checked .acceptable) (run-tests s l ok .1)
 
+  -- the settings and the memory of the state that it leaves
+  pub next-settings : settings (runState s l) ≡ settings s
+  next-settings = ap settings (accepted-leaves s l ok) ∙ settings-is (settings s) next
+
+  pub next-memory : memory (runState s l) ≡ next
+  next-memory = ap memory (accepted-leaves s l ok) ∙ memory-is (settings s) next next-sound
+
   next-within : WithinLimits (stateOf (settings s) next)
   next-within = accepted-within (kept-accepted (settings s) next next-sound (g .sizes) (g .admitted))
 
-run-within : (s : Equaliser) → WithinLimits s → (l : Lent) → Typed l → WithinLimits (runState s l)
+pub run-within : (s : Equaliser) → WithinLimits s → (l : Lent) → Typed l → WithinLimits (runState s l)
 run-within s g l t = go (eqb (runNumber s l) 0) refl
   where
     go : (b : Bool) → eqb (runNumber s l) 0 ≡ b → WithinLimits (runState s l)
@@ -180,7 +187,7 @@ frozen s g l t m = go (eqb (runNumber s l) 0) refl
     go true e =
         let ok = eqb-true (runNumber s l) 0 e in
         let c = checked s g l t ok in
-        subst (SameWeights (memory s)) (sym (ap memory (accepted-leaves s l ok) ∙ memory-is (settings s) (next s g l t ok) (next-sound s g l t ok)))
+        subst (SameWeights (memory s)) (sym (next-memory s g l t ok))
         (frozen-left (settings s) (memory s) (block l) (c .sound) (c .acceptable) (run-tests s l ok .1) m)
     go false e = subst (λ (s′ : Equaliser). SameWeights (memory s) (memory s′)) (sym (refused-same s l (eqb-false (runNumber s l) 0 e))) (record { ahead = refl; behind = refl })
 

@@ -4,3 +4,4 @@ pub mod AnswerLaws
 pub mod StarredCases
 pub mod Claim
 pub mod NumberLaws
+pub mod Swapped

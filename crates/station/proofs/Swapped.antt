@@ -1,0 +1,161 @@
+-- The swapped pair: whatever blocks both are lent, they answer and hand out the same, and stay a swapped pair.
+use mathlib.Core.Path.{_≡_, refl, sym, ap, ap₂, _∙_, subst}
+use mathlib.Core.Bool.{Bool, true, false}
+use mathlib.Core.List.{List, [], _∷_}
+use lib.Dec.{eqb}
+use lib.ListN.{length, length-map}
+use native.Mathlib.Omega.{arith}
+use lib.IntN.{ℤ, negℤ}
+use mir.Syntax.{w16}
+use mir.Val.{SFits}
+use borrow.Author.Tests.{eqb-true, eqb-false, ne-eqb}
+use Rattle.laws.specs.Negated.{negated, negated-negated}
+use Rattle.laws.specs.Sums.{Each}
+use Rattle.steps.specs.Settings.{Settings}
+use Rattle.block.specs.Block.{Block, Memory, goes, handedY, handedξ, handedDecision, handedZ, handedθ}
+use Rattle.block.specs.Block as Block
+use Rattle.block.specs.Swapped.{swapped, swappedBlock}
+use Rattle.block.proofs.SwappedLaws.{goes-same, handedY-same, handedξ-same, handedDecision-same, handedZ-same, handedθ-same, left-swapped, swapped-back, swapped-sound}
+use Rattle.state.specs.State.{settings, memory}
+use Rattle.state.specs.Answers.{setUpState}
+use Rattle.state.specs.declared.equaliser.Equaliser.{Equaliser}
+use Rattle.state.proofs.SoundLaws.{examined-same, set-up-accepted}
+use Rattle.state.proofs.SetUpLaws.{set-up-swapped}
+use Rattle.state.proofs.KeptLaws.{settings-is, memory-is, kept-accepted}
+use Rattle.checks.specs.Checks.{Lent, block, lengthsFit, checkNumber}
+use Rattle.checks.proofs.CheckLaws.{check-same, check-tests}
+use Rattle.station.specs.Answers.{runNumber, runState, runOutputs, lentOutputs}
+use Rattle.station.specs.Claim.{Typed, WithinLimits}
+use Rattle.station.specs.Swapped.{SoundState, SwappedPair, SwappedLists, LentToBoth, NotLowest, partner, SameRuns, SwappedAlways}
+use Rattle.station.proofs.AnswerLaws.{run-tests}
+use Rattle.station.proofs.Claim.{accepted-within, refused-same, run-within, next-settings, next-memory}
+
+sound-within : {s : Equaliser} → WithinLimits s → SoundState s
+sound-within g = record { sound = g .sound; weights-long = g .weights-long; past-long = g .past-long }
+
+-- a sound state that a block is accepted on
+within : (s : Equaliser) → SoundState s → (l : Lent) → runNumber s l ≡ 0 → WithinLimits s
+within s g l ok = accepted-within (record { weights-long = g .weights-long; past-long = g .past-long; number = check-tests s l (run-tests s l ok .0) .0 })
+
+module _ (s s′ : Equaliser) (p : SwappedPair s s′) (l l′ : Lent) (b : SwappedLists l l′) where
+  -- ---- what a block goes by
+
+  block-swapped : block l′ ≡ swappedBlock (block l)
+  block-swapped = rw (b .samples-negated, b .gains-same, b .entries-same)
+
+  -- whatever is said of settings, a memory and a block
+  on-both : {A : Type 0} (f : Settings → Memory → Block → A) → f (settings s′) (memory s′) (block l′) ≡ f (settings s) (swapped (memory s)) (swappedBlock (block l))
+  on-both f = ap₂ (λ (k : Settings) (o : Memory). f k o (block l′)) (p .settings-same) (p .memory-swapped) ∙ ap (f (settings s) (swapped (memory s))) block-swapped
+
+  -- ---- the number
+
+  lengths-same : lengthsFit (s .n) l′ ≡ lengthsFit (s .n) l
+  lengths-same =
+      rw (ap length (b .samples-negated) ∙ length-map (l .m) negℤ, b .gains-same, b .entries-same, b .y-long, b .xi-long, b .decision-long, b .z-long, b .theta-long)
+
+  checks-same : checkNumber s′ l′ ≡ checkNumber s l
+  checks-same =
+      check-same s s′ l l′ (p .settings-same) (examined-same s s′ (p .settings-same) (p .state .sound) (p .state′ .sound)) lengths-same (b .gains-same) (b .entries-same)
+
+  going-same : goes (settings s′) (memory s′) (block l′) (s′ .n) ≡ goes (settings s) (memory s) (block l) (s .n)
+  going-same = on-both (λ k o i. goes k o i (k .N)) ∙ goes-same (settings s) (memory s) (block l) (s .n)
+
+  number-same : runNumber s′ l′ ≡ runNumber s l
+  unfolding runNumber
+  number-same = rw (checks-same, going-same)
+
+  -- ---- the lists
+
+  outputs-same : runNumber s l ≡ 0 → runOutputs s′ l′ ≡ runOutputs s l
+  outputs-same ok = rw (
+    number-same,
+    ok,
+    on-both handedY,
+    on-both handedξ,
+    on-both handedDecision,
+    on-both handedZ,
+    on-both handedθ,
+    handedY-same (settings s) (memory s) (block l),
+    handedξ-same (settings s) (memory s) (block l),
+    handedDecision-same (settings s) (memory s) (block l),
+    handedZ-same (settings s) (memory s) (block l),
+    handedθ-same (settings s) (memory s) (block l),
+  )
+
+  pub same-runs : SameRuns s l s′ l′
+  same-runs = record {
+    number-same = number-same;
+    outputs-same = outputs-same;
+    outputs-kept = λ f. (kept s l f, kept s′ l′ (λ e. f (sym number-same ∙ e)));
+  }
+    where
+      kept : (e : Equaliser) (i : Lent) → (runNumber e i ≡ 0 → ⊥) → runOutputs e i ≡ lentOutputs i
+      kept e i f = rw (ne-eqb (runNumber e i) 0 f)
+
+  -- ---- the states
+
+  module _ (t : Typed l) (t′ : Typed l′) where
+    accepted-pair : runNumber s l ≡ 0 → SwappedPair (runState s l) (runState s′ l′)
+    accepted-pair ok = record {
+      state = sound-within (run-within s g l t);
+      state′ = sound-within (run-within s′ g′ l′ t′);
+      settings-same = next-settings s′ g′ l′ t′ ok′ ∙ p .settings-same ∙ sym (next-settings s g l t ok);
+      memory-swapped =
+          next-memory s′ g′ l′ t′ ok′ ∙ on-both Block.left ∙ left-swapped (settings s) (memory s) (block l) ∙ ap swapped (sym (next-memory s g l t ok));
+    }
+      where
+        ok′ : runNumber s′ l′ ≡ 0
+        ok′ = number-same ∙ ok
+
+        g : WithinLimits s
+        g = within s (p .state) l ok
+
+        g′ : WithinLimits s′
+        g′ = within s′ (p .state′) l′ ok′
+
+    pub next-pair : SwappedPair (runState s l) (runState s′ l′)
+    next-pair = go (eqb (runNumber s l) 0) refl
+      where
+        go : (a : Bool) → eqb (runNumber s l) 0 ≡ a → SwappedPair (runState s l) (runState s′ l′)
+        go true e = accepted-pair (eqb-true (runNumber s l) 0 e)
+        go false e =
+            let f = eqb-false (runNumber s l) 0 e in
+            rw (refused-same s l f, refused-same s′ l′ (λ z. f (sym number-same ∙ z))) p
+
+pub swapped-always : (s s′ : Equaliser) → SwappedPair s s′ → (bs : List LentToBoth) → SwappedAlways s s′ bs
+swapped-always s s′ p [] = p
+swapped-always s s′ p (b ∷ bs) =
+    (p, (same-runs s s′ p (b .l) (b .l′) (b .lists), swapped-always (runState s (b .l)) (runState s′ (b .l′)) (next-pair s s′ p (b .l) (b .l′) (b .lists) (b .typed) (b .typed′)) bs))
+
+-- ---- the pairs that there are
+
+-- no sample is −32768, at neither
+none-lowest : (m : List ℤ) → Each (SFits w16) (negated m) → Each NotLowest m
+none-lowest [] h = tt
+none-lowest (x ∷ m) h = ((λ e. absurd (omega (arith, subst (SFits w16) (ap negℤ e) (h .0) .sfits))), none-lowest m (h .1))
+
+pub not-lowest : (b : LentToBoth) → Each NotLowest (b .l .m) × Each NotLowest (b .l′ .m)
+not-lowest b = (none-lowest (b .l .m) (subst (Each (SFits w16)) (b .lists .samples-negated) (b .typed′ .m)), none-lowest (b .l′ .m) (subst (Each (SFits w16)) (sym back) (b .typed .m)))
+  where
+    back : negated (b .l′ .m) ≡ b .l .m
+    back = ap negated (b .lists .samples-negated) ∙ negated-negated (b .l .m)
+
+-- each is the other's partner
+pub pair-back : (s s′ : Equaliser) → SwappedPair s s′ → SwappedPair s′ s
+pair-back s s′ p = record {
+  state = p .state′;
+  state′ = p .state;
+  settings-same = sym (p .settings-same);
+  memory-swapped = sym (ap swapped (p .memory-swapped) ∙ swapped-back (memory s));
+}
+
+-- every state of every list of calls has one
+pub partner-pair : (s : Equaliser) → WithinLimits s → SwappedPair s (partner s)
+partner-pair s g =
+    let o = swapped-sound (settings s) (memory s) (g .bounds) in
+    let a = accepted-within (kept-accepted (settings s) (swapped (memory s)) o (g .sizes) (g .admitted)) in
+    record { state = sound-within g; state′ = sound-within a; settings-same = settings-is (settings s) (swapped (memory s)); memory-swapped = memory-is (settings s) (swapped (memory s)) o }
+
+-- and what set-up returns is its own
+pub set-up-pair : (k : Settings) → SwappedPair (setUpState k) (setUpState k)
+set-up-pair k = let g = sound-within (accepted-within (set-up-accepted k)) in record { state = g; state′ = g; settings-same = refl; memory-swapped = set-up-swapped k }

@@ -1,0 +1,76 @@
+-- Two stations of one cable, its two conductors swapped at one of them. Lent the same blocks, one with the negatives of the other's samples, they answer and decide the same for ever.
+use mathlib.Core.Path.{_≡_}
+use mathlib.Core.Bool.{true}
+use mathlib.Core.List.{List, [], _∷_}
+use Prim.Native.Nat.{ℕ, _^_}
+use lib.ListN.{length}
+use lib.IntN.{ℤ, pos, negℤ}
+use Rattle.laws.specs.Negated.{negated}
+use Rattle.steps.specs.Limits.{places}
+use Rattle.block.specs.Block.{Outputs}
+use Rattle.block.specs.Swapped.{swapped}
+use Rattle.state.specs.State.{settings, memory, isSound, stateOf}
+use Rattle.state.specs.declared.equaliser.Equaliser.{Equaliser}
+use Rattle.checks.specs.Checks.{Lent}
+use Rattle.station.specs.Answers.{runNumber, runState, runOutputs, lentOutputs}
+use Rattle.station.specs.Claim.{Typed}
+
+-- ---- what both are given
+
+-- a sound state in the machine's arrays
+pub record SoundState (s : Equaliser) : Type 0 where
+  pub sound : isSound s ≡ true
+  pub weights-long : length (s .weights) ≡ places
+  pub past-long : length (s .past) ≡ places
+
+-- the same settings, symbols, feedback weights, ψ, b and B; past stored samples and feed forward weights are each other's negatives
+pub record SwappedPair (s s′ : Equaliser) : Type 0 where
+  pub state : SoundState s
+  pub state′ : SoundState s′
+  pub settings-same : settings s′ ≡ settings s
+  pub memory-swapped : memory s′ ≡ swapped (memory s)
+
+-- the same gains and training entries, samples that are each other's negatives, and five lists of equal lengths for the outputs, whatever else is in all of them
+pub record SwappedLists (l l′ : Lent) : Type 0 where
+  pub samples-negated : l′ .m ≡ negated (l .m)
+  pub gains-same : l′ .gains ≡ l .gains
+  pub entries-same : l′ .entries ≡ l .entries
+  pub y-long : length (l′ .y) ≡ length (l .y)
+  pub xi-long : length (l′ .xi) ≡ length (l .xi)
+  pub decision-long : length (l′ .decision) ≡ length (l .decision)
+  pub z-long : length (l′ .z) ≡ length (l .z)
+  pub theta-long : length (l′ .theta) ≡ length (l .theta)
+
+-- a block that both are lent, as numbers of their machine types. So no sample is −32768: its negative has no place in 16 bits
+pub record LentToBoth : Type 0 where
+  pub l : Lent
+  pub l′ : Lent
+  pub typed : Typed l
+  pub typed′ : Typed l′
+  pub lists : SwappedLists l l′
+
+-- a sample other than −32768
+abbrev pub NotLowest : ℤ → Type 0
+NotLowest m = m ≡ negℤ (pos (2 ^ 15)) → ⊥
+
+-- the state with which a state is a swapped pair
+abbrev pub partner : Equaliser → Equaliser
+partner s = stateOf (settings s) (swapped (memory s))
+
+-- ---- what holds of a block that is lent to both
+
+-- the numbers that both answer are the same; every Y, ξ, decision, Z and θ is the same where it is accepted, and each has its lists as they were lent where it isn't
+pub record SameAnswers (l : Lent) (n : ℕ) (h : Outputs) (l′ : Lent) (n′ : ℕ) (h′ : Outputs) : Type 0 where
+  pub number-same : n′ ≡ n
+  pub outputs-same : n ≡ 0 → h′ ≡ h
+  pub outputs-kept : (n ≡ 0 → ⊥) → (h ≡ lentOutputs l) × (h′ ≡ lentOutputs l′)
+
+abbrev pub SameRuns : Equaliser → Lent → Equaliser → Lent → Type 0
+SameRuns s l s′ l′ = SameAnswers l (runNumber s l) (runOutputs s l) l′ (runNumber s′ l′) (runOutputs s′ l′)
+
+-- ---- what holds of a list of blocks
+
+-- the states that each block gets, and the last ones, are a swapped pair
+abbrev pub SwappedAlways : Equaliser → Equaliser → List LentToBoth → Type 0
+SwappedAlways s s′ [] = SwappedPair s s′
+SwappedAlways s s′ (b ∷ bs) = SwappedPair s s′ × (SameRuns s (b .l) s′ (b .l′) × SwappedAlways (runState s (b .l)) (runState s′ (b .l′)) bs)
