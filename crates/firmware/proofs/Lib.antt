@@ -1,3 +1,4 @@
 pub mod Thin
 pub mod ByValue
 pub mod Trials
+pub mod Swapped

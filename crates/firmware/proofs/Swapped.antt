@@ -1,0 +1,29 @@
+-- The swapped pair over the calls for C: what is proved of the definitions holds of whatever their contracts allow.
+use mathlib.Core.Path.{_≡_}
+use mathlib.Core.List.{List}
+use Rattle.block.specs.Block.{Outputs}
+use Rattle.block.proofs.BlockLeft.{same-outputs}
+use Rattle.state.specs.declared.equaliser.Equaliser.{Equaliser}
+use Rattle.state.specs.declared.equaliser.Answer.{Answer}
+use Rattle.checks.specs.Checks.{Lent}
+use Rattle.station.specs.Answers.{runOutputs, Run}
+use Rattle.station.specs.Swapped.{SwappedPair, LentToBoth, SameAnswers}
+use Rattle.station.proofs.Swapped.{same-runs, next-pair}
+use Rattle.firmware.specs.Swapped.{Called, end, ran, tried, CalledSwapped}
+
+-- the lists that a call leaves
+written : {s : Equaliser} {l : Lent} {a : Answer} {h : Outputs} → Run s l a (h .y) (h .xi) (h .decision) (h .z) (h .theta) → h ≡ runOutputs s l
+written r = same-outputs (r .y-is) (r .xi-is) (r .decision-is) (r .z-is) (r .theta-is)
+
+module _ {s s′ : Equaliser} (p : SwappedPair s s′) (b : LentToBoth) {a a′ : Answer} {h h′ : Outputs} (r : Run s (b .l) a (h .y) (h .xi) (h .decision) (h .z) (h .theta)) (r′ : Run s′ (b .l′) a′ (h′ .y) (h′ .xi) (h′ .decision) (h′ .z) (h′ .theta)) where
+  answers : SameAnswers (b .l) (a .number) h (b .l′) (a′ .number) h′
+  answers = rw (r .number, r′ .number, written r, written r′) (same-runs s s′ p (b .l) (b .l′) (b .lists))
+
+  pair : SwappedPair (a .state) (a′ .state)
+  pair = rw (r .state, r′ .state) (next-pair s s′ p (b .l) (b .l′) (b .lists) (b .typed) (b .typed′))
+
+pub called-swapped : {s s′ : Equaliser} {bs : List LentToBoth} (c : Called s s′ bs) → SwappedPair s s′ → CalledSwapped c
+called-swapped (end s s′) p = p
+called-swapped (ran s s′ b bs n n′ t t′ h h′ r r′ c) p = (p, (answers p b r r′, called-swapped c (pair p b r r′)))
+called-swapped (tried s s′ b bs a a′ t t′ h h′ r r′ c) p =
+    (p, (answers p b (r .0) (r′ .0), (pair p b (r .0) (r′ .0), called-swapped c (rw (r .1, r′ .1) p))))
