@@ -114,6 +114,12 @@ fn set_ups() {
 }
 
 fn loudness() {
+    block(
+        b"highest sample: answer ",
+        state(0, 0, 67108864, 0, 0, 0),
+        32767,
+        1,
+    );
     let loud = block(
         b"lowest sample: answer ",
         state(0, 0, 67108864, 0, 0, 0),

@@ -60,6 +60,12 @@ decided = left smallest trained (one (pos 16384) (pos 0))
 weights : Memory → List ℤ
 weights o = o .forward ++ o .back
 
+-- a first block of one sample, trained on 1: b, ξ and the weights that it leaves. Those of −32768 and of 32767 are no swapped pair, so −32768 is left out there
+first : ℤ → List ℤ
+first m =
+    let o = left smallest begun (one m (pos 1)) in
+    pos (o .b) ∷ pos (ξ smallest (g smallest begun (one m (pos 1))) (at smallest begun (one m (pos 1)) 0) (pos 1)) ∷ weights o
+
 -- step 7, and what follows it, on new weights of both filters at ψ: the weights that are left, then ψ
 settles : ℕ → List ℤ → List ℤ → List ℤ
 settles ψ f b = let s = outcomeOf ψ f b in settled s f ++ settled s b ++ (pos (settledExponent s ψ) ∷ [])
@@ -90,6 +96,8 @@ cases =
     ∷ record { gives = pos (newb smallest begun (one (negsuc 32767) (pos 0))) ∷ []; says = pos 31 ∷ [] }
     ∷ record { gives = stored smallest begun (one (negsuc 32767) (pos 0)); says = negsuc 8191 ∷ [] }
     ∷ record { gives = pos (g smallest begun (one (negsuc 32767) (pos 0)) - 30) ∷ []; says = pos 2 ∷ [] }
+    ∷ record { gives = first (negsuc 32767); says = pos 31 ∷ pos 2 ∷ negsuc 2047 ∷ pos 0 ∷ [] }
+    ∷ record { gives = first (pos 32767); says = pos 30 ∷ pos 1 ∷ pos 2047 ∷ pos 0 ∷ [] }
     ∷ record { gives = cut (negsuc 2) 1 ∷ []; says = negsuc 0 ∷ [] }
     ∷ record { gives = decide 1 (pos 268435456) 3 ∷ decide 1 (negsuc 268435455) 3 ∷ []; says = pos 3 ∷ negsuc 0 ∷ [] }
     ∷ record { gives = scales 1 16; says = map pos (1 ∷ 2 ∷ 3 ∷ 3 ∷ 4 ∷ 4 ∷ 4 ∷ 4 ∷ 5 ∷ 5 ∷ 5 ∷ 5 ∷ 5 ∷ 5 ∷ 5 ∷ 5 ∷ []) }
@@ -110,5 +118,5 @@ cases =
     ∷ record { gives = weights decided; says = pos 2032 ∷ pos 2016 ∷ [] } ∷ []
 
 pub starred : map (λ (c : Case). c .gives) cases ≡ map (λ (c : Case). c .says) cases
-unfolding cases steps trained decided weights settles falling answers scales
+unfolding cases steps trained decided weights first settles falling answers scales
 starred = refl
