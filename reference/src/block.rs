@@ -39,6 +39,21 @@ impl Outputs {
     }
 }
 
+/// The lengths of the eight lists: samples, gains, training entries, Y, ξ,
+/// decision, Z, θ.
+pub fn lengths(inputs: Inputs<'_>, outputs: &Outputs) -> [usize; 8] {
+    [
+        inputs.samples.len(),
+        inputs.gains.len(),
+        inputs.training.len(),
+        outputs.y.len(),
+        outputs.xi.len(),
+        outputs.decision.len(),
+        outputs.z.len(),
+        outputs.theta.len(),
+    ]
+}
+
 /// Every number of one sample, for the checker.
 #[derive(Clone, Debug)]
 pub struct SampleDetail {
@@ -365,18 +380,7 @@ pub fn examine(state: &State, inputs: Inputs<'_>, outputs: &Outputs) -> u8 {
         return number;
     }
     let settings = &state.settings;
-    let n = usize::from(settings.n);
-    let lengths = [
-        inputs.samples.len(),
-        inputs.gains.len(),
-        inputs.training.len(),
-        outputs.y.len(),
-        outputs.xi.len(),
-        outputs.decision.len(),
-        outputs.z.len(),
-        outputs.theta.len(),
-    ];
-    if lengths.iter().any(|&length| length != n) {
+    if lengths(inputs, outputs) != [usize::from(settings.n); 8] {
         return LISTS;
     }
     if inputs

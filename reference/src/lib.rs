@@ -14,6 +14,7 @@
 //! * [`settings`]: the limits and the step admission.
 //! * [`state`]: the equaliser record, soundness, set-up.
 //! * [`block`]: running a block, and a trial of one.
+//! * [`lists`]: the eight lists that are lent to a block, and arbitrary ones.
 //! * [`image`]: saving and loading.
 //! * [`trace`]: the bytes of a trace to its text.
 //! * [`cable`]: symbols over a described cable to the bytes of a trace.
@@ -32,6 +33,7 @@ pub mod demand3;
 pub mod description;
 pub mod exact;
 pub mod image;
+pub mod lists;
 pub mod numbers;
 pub mod random;
 pub mod readings;

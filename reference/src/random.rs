@@ -1,5 +1,5 @@
 //! A small generator of numbers from a fixed start, and arbitrary settings,
-//! sound states and lists for a block.
+//! sound states, samples and training entries.
 
 use crate::numbers::scale_count;
 use crate::settings::Settings;
@@ -201,6 +201,14 @@ impl Random {
             state.weights[place] = (self.sign() * self.between(4094, 4097)) as i16;
         }
         state
+    }
+
+    /// A sound state, one in four with weights about to be doubled.
+    pub fn state(&mut self, settings: Settings) -> State {
+        match self.chance(1, 4) {
+            true => self.falling_state(settings),
+            false => self.sound_state(settings),
+        }
     }
 
     /// The samples and gains of one block: the style says how loud.

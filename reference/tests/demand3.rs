@@ -4,15 +4,7 @@ use reference::block::{work, BlockDetail, SampleDetail};
 use reference::demand3::Checker;
 use reference::exact::Exact;
 use reference::random::Random;
-use reference::{image_length, load, save, Inputs, Settings, State};
-
-/// A sound state, one in four with weights about to be doubled.
-fn any_state(random: &mut Random, settings: Settings) -> State {
-    match random.chance(1, 4) {
-        true => random.falling_state(settings),
-        false => random.sound_state(settings),
-    }
-}
+use reference::{image_length, load, save, Inputs, Settings};
 
 /// Lists of calls: blocks, saves and loads. Gives the checker and the count
 /// of each answer of a block.
@@ -22,7 +14,7 @@ fn lists_of_calls(start: u64, lists: u32) -> (Checker, [u64; 10]) {
     let mut answers = [0u64; 10];
     for _ in 0..lists {
         let settings = random.settings();
-        let mut state = any_state(&mut random, settings);
+        let mut state = random.state(settings);
         checker.forget();
         for _ in 0..random.between(1, 4) {
             let loudness = random.loudness();
@@ -92,7 +84,7 @@ fn block_with(
         if random.chance(1, 2) {
             settings.m = 0;
         }
-        let state = any_state(random, settings);
+        let state = random.state(settings);
         let (loudness, aim) = (random.loudness(), random.aim());
         let (samples, gains) = random.samples(&settings, loudness);
         let training = random.training(&settings, aim);

@@ -1,6 +1,7 @@
 //! What each operation turns down, in its order, with nothing touched.
 
 use reference::block::work;
+use reference::lists::Lists;
 use reference::state::PLACES;
 use reference::vectors::gathering::{gathering, Gathering};
 use reference::{load, run, run_by, save, set_up, trace, Inputs, Outputs, Rule, Settings, State};
@@ -29,15 +30,8 @@ fn record() -> State {
     state
 }
 
-struct Lent {
-    samples: Vec<i16>,
-    gains: Vec<u8>,
-    training: Vec<i8>,
-    outputs: Outputs,
-}
-
-fn lists() -> Lent {
-    Lent {
+fn lists() -> Lists {
+    Lists {
         samples: vec![100, -200, 300, -32768],
         gains: vec![2, 15, 7, 3],
         training: vec![1, 0, -3, 3],
@@ -52,15 +46,10 @@ fn lists() -> Lent {
 }
 
 /// Runs a block and sees that a refusal touches nothing.
-fn answer(state: &State, lent: &Lent) -> u8 {
+fn answer(state: &State, lent: &Lists) -> u8 {
     let mut after = state.clone();
     let mut outputs = lent.outputs.clone();
-    let inputs = Inputs {
-        samples: &lent.samples,
-        gains: &lent.gains,
-        training: &lent.training,
-    };
-    let number = run(&mut after, inputs, &mut outputs);
+    let number = run(&mut after, lent.inputs(), &mut outputs);
     if number == 0 {
         assert_ne!(after, *state);
         assert_ne!(outputs, lent.outputs);
@@ -263,7 +252,7 @@ fn the_sound_neighbours_pass() {
 
 #[test]
 fn a_block_turns_down_each_list_of_another_length() {
-    type Change = fn(&mut Lent, usize);
+    type Change = fn(&mut Lists, usize);
     let changes: [Change; 8] = [
         |t, n| t.samples.resize(n, 0),
         |t, n| t.gains.resize(n, 0),
@@ -335,8 +324,8 @@ fn full_record() -> State {
     state.lent()
 }
 
-fn full_lists(entry: i8, second_gain: u8) -> Lent {
-    Lent {
+fn full_lists(entry: i8, second_gain: u8) -> Lists {
+    Lists {
         samples: vec![0x2000, 0],
         gains: vec![0, second_gain],
         training: vec![1, entry],
@@ -356,12 +345,7 @@ fn a_block_turns_down_the_last_exponent() {
     lower.psi = 14;
     let lent = full_lists(1, 0);
     let mut outputs = lent.outputs.clone();
-    let inputs = Inputs {
-        samples: &lent.samples,
-        gains: &lent.gains,
-        training: &lent.training,
-    };
-    assert_eq!(run(&mut lower, inputs, &mut outputs), 0);
+    assert_eq!(run(&mut lower, lent.inputs(), &mut outputs), 0);
     assert_eq!(lower.psi, 15);
     // With a frozen step nothing rises.
     let mut frozen = full_record();

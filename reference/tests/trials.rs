@@ -3,6 +3,7 @@
 
 mod wrong_trial;
 
+use reference::lists::Lists;
 use reference::numbers::scale_count;
 use reference::random::{Aim, Random};
 use reference::state::PLACES;
@@ -26,62 +27,6 @@ fn right(state: &mut State, inputs: Inputs<'_>, outputs: &mut Outputs) -> (u8, S
     reference::trial(state, inputs, outputs)
 }
 
-fn list<T>(random: &mut Random, length: usize, number: fn(u64) -> T) -> Vec<T> {
-    (0..length).map(|_| number(random.next())).collect()
-}
-
-/// Output lists of these lengths with anything in them.
-fn marks(random: &mut Random, [y, xi, decision, z, theta]: [usize; 5]) -> Outputs {
-    Outputs {
-        y: list(random, y, |bits| bits as i32),
-        xi: list(random, xi, |bits| bits as u8),
-        decision: list(random, decision, |bits| bits as i8),
-        z: list(random, z, |bits| bits as i32),
-        theta: list(random, theta, |bits| bits as u8),
-    }
-}
-
-#[derive(Clone, Debug)]
-struct Lists {
-    samples: Vec<i16>,
-    gains: Vec<u8>,
-    training: Vec<i8>,
-    outputs: Outputs,
-}
-
-impl Lists {
-    fn inputs(&self) -> Inputs<'_> {
-        Inputs {
-            samples: &self.samples,
-            gains: &self.gains,
-            training: &self.training,
-        }
-    }
-
-    /// Lists that pass 3, 4 and 5 with these settings.
-    fn good(random: &mut Random, settings: &Settings) -> Lists {
-        let (loudness, aim) = (random.loudness(), random.aim());
-        let (samples, gains) = random.samples(settings, loudness);
-        Lists {
-            samples,
-            gains,
-            training: random.training(settings, aim),
-            outputs: marks(random, [settings.n.into(); 5]),
-        }
-    }
-
-    /// Lists of any lengths with anything in them.
-    fn any(random: &mut Random) -> Lists {
-        let lengths: Vec<usize> = list(random, 8, |bits| bits as usize % 131);
-        Lists {
-            samples: list(random, lengths[0], |bits| bits as i16),
-            gains: list(random, lengths[1], |bits| bits as u8),
-            training: list(random, lengths[2], |bits| bits as i8),
-            outputs: marks(random, [3, 4, 5, 6, 7].map(|at| lengths[at])),
-        }
-    }
-}
-
 /// A state and the lists that are lent with it.
 #[derive(Clone, Debug)]
 struct Call {
@@ -94,16 +39,13 @@ impl Call {
     /// record or without spare places, and good lists.
     fn good(random: &mut Random) -> Call {
         let settings = random.settings();
-        let state = match random.chance(1, 4) {
-            true => random.falling_state(settings),
-            false => random.sound_state(settings),
-        };
+        let state = random.state(settings);
         let state = if random.chance(1, 2) {
             state.lent()
         } else {
             state
         };
-        let lists = Lists::good(random, &settings);
+        let lists = random.lists(&settings);
         Call { state, lists }
     }
 
@@ -153,7 +95,7 @@ fn over_blocks(trial: Trial<'_>) -> Result<Answers, String> {
     for _ in 0..1500 {
         let mut call = Call::good(&mut random);
         for _ in 0..random.between(1, 3) {
-            call.lists = Lists::good(&mut random, &call.state.settings);
+            call.lists = random.lists(&call.state.settings);
             let number = compared(trial, &call)?;
             answers[usize::from(number)] += 1;
             call.state = call.on_a_copy().1;
@@ -181,7 +123,7 @@ fn trials_of_the_block_vectors_are_right() {
                 samples: vector.samples,
                 gains: vector.gains,
                 training: vector.training,
-                outputs: marks(&mut random, vector.output_lengths),
+                outputs: random.outputs(vector.output_lengths),
             },
         };
         let number = compared(&right, &call).unwrap();
@@ -228,36 +170,14 @@ fn spoil_soundness(random: &mut Random, state: &mut State) {
     }
 }
 
-/// One list of another length.
-fn spoil_length(random: &mut Random, lists: &mut Lists) {
-    let n = lists.samples.len();
-    let length = random.pick(&[0, n - 1, n + 1, 129]);
-    let out = &mut lists.outputs;
-    match random.below(8) {
-        0 => lists.samples.resize(length, 1),
-        1 => lists.gains.resize(length, 15),
-        2 => lists.training.resize(length, 1),
-        3 => out.y.resize(length, 1),
-        4 => out.xi.resize(length, 1),
-        5 => out.decision.resize(length, 1),
-        6 => out.z.resize(length, 1),
-        _ => out.theta.resize(length, 1),
-    }
-}
-
 /// Puts the cause of one number other than 6 into a call.
 fn spoil(random: &mut Random, call: &mut Call, number: u8) {
     let settings = &mut call.state.settings;
-    let place = random.below(settings.n.into()) as usize;
-    let beyond = (2 << settings.r) + 1;
     match number {
         1 => spoil_size(random, settings),
         2 => settings.m = random.pick(&[settings.largest_m() + 1, 1 << 30, u32::MAX]),
         9 => spoil_soundness(random, &mut call.state),
-        3 => spoil_length(random, &mut call.lists),
-        4 if settings.l > 0 && random.chance(1, 2) => call.lists.gains[place] = settings.l - 1,
-        4 => call.lists.gains[place] = random.byte(16, 255),
-        _ => call.lists.training[place] = random.pick(&[2, -2, beyond, -beyond, 127, -128]),
+        _ => random.spoil(&mut call.lists, settings, number),
     }
 }
 
@@ -291,7 +211,7 @@ fn with_causes(random: &mut Random, rising: &Call, causes: &[u8]) -> Call {
 /// lists.
 fn any_call(random: &mut Random) -> Call {
     let mut settings = random.settings();
-    let lists = Lists::any(random);
+    let lists = random.any_lists();
     if random.chance(1, 3) {
         let state = random.sound_state(settings).lent();
         return Call { state, lists };
@@ -307,8 +227,8 @@ fn any_call(random: &mut Random) -> Call {
         psi: random.byte(0, 255),
         b: random.byte(0, 255),
         big_b: random.byte(0, 255),
-        weights: list(random, PLACES, |bits| bits as i16),
-        data: list(random, PLACES, |bits| bits as i16),
+        weights: random.list(PLACES, |bits| bits as i16),
+        data: random.list(PLACES, |bits| bits as i16),
     };
     Call { state, lists }
 }
@@ -411,10 +331,10 @@ fn lists_for(random: &mut Random, state: &State) -> Lists {
     let mut call = Call::good(random);
     if state.settings.examine() == 0 {
         call.state = state.clone();
-        call.lists = Lists::good(random, &state.settings);
+        call.lists = random.lists(&state.settings);
     }
     match random.below(8) {
-        0 => call.lists = Lists::any(random),
+        0 => call.lists = random.any_lists(),
         cause @ 3..=5 => spoil(random, &mut call, cause as u8),
         _ => {}
     }
