@@ -15,6 +15,7 @@
 //! * [`state`]: the equaliser record, soundness, set-up.
 //! * [`block`]: running a block, and a trial of one.
 //! * [`lists`]: the eight lists that are lent to a block, and arbitrary ones.
+//! * [`swapped`]: two stations of which one has its conductors swapped.
 //! * [`image`]: saving and loading.
 //! * [`trace`]: the bytes of a trace to its text.
 //! * [`cable`]: symbols over a described cable to the bytes of a trace.
@@ -39,6 +40,7 @@ pub mod random;
 pub mod readings;
 pub mod settings;
 pub mod state;
+pub mod swapped;
 pub mod trace;
 pub mod vectors;
 

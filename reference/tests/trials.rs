@@ -432,19 +432,21 @@ fn lists_of_calls_go_on_as_if_no_trial_were_among_them() {
 
 #[test]
 fn every_fault_of_a_trial_is_found_where_it_shows() {
-    let found = |fault: &'static str| {
+    let found = |fault: &'static str| -> String {
         let trial = move |state: &mut State, inputs: Inputs<'_>, outputs: &mut Outputs| {
             wrong_trial(state, inputs, outputs, fault)
         };
-        [
-            over_blocks(&trial).is_err(),
-            over_refusals(&trial).is_err(),
-            over_lists(&trial).is_err(),
-        ]
+        let finders = [
+            ('b', over_blocks(&trial).is_err()),
+            ('r', over_refusals(&trial).is_err()),
+            ('l', over_lists(&trial).is_err()),
+        ];
+        let finders = finders.into_iter().filter(|(_, found)| *found);
+        finders.map(|(letter, _)| letter).collect()
     };
-    assert_eq!(found(""), [false; 3]);
+    assert_eq!(found(""), "");
     for (fault, finders) in FAULTS {
-        assert_eq!(found(fault), finders, "{fault}");
+        assert_eq!(found(fault), finders.replace('p', ""), "{fault}");
     }
 }
 

@@ -3,52 +3,64 @@
 
 use reference::{Inputs, Outputs, Settings, State};
 
-/// What can be wrong, and who finds it: the tests over any blocks, over
-/// refusals, over lists of calls.
-pub const FAULTS: [(&str, [bool; 3]); 43] = [
-    ("accepted, the given state comes back", [true, false, false]),
-    ("accepted, the given state advances", [true, false, true]),
-    ("accepted, the outputs stay", [true, false, false]),
-    ("accepted, the last sample is missing", [true, false, false]),
-    ("accepted, ψ comes back as given", [true, false, false]),
-    ("accepted, b comes back as given", [true, false, false]),
-    ("accepted, B comes back as given", [true, false, false]),
-    ("accepted, weights come back as given", [true, false, false]),
-    ("accepted, data come back as given", [true, false, false]),
-    ("accepted, a spare place is written", [true, false, false]),
-    ("refused, a fresh state comes back", [true, true, false]),
-    ("refused, spare places come back as 0", [false, true, false]),
-    ("refused, the given state is fresh", [true, true, true]),
-    ("refused, spare places are put to 0", [false, true, true]),
-    ("refused, an output is written", [true, true, false]),
-    ("refused, the outputs are zeros", [true, true, false]),
-    ("3 brings the outputs to N", [false, true, false]),
-    ("6 hands back what was reached", [true, true, false]),
-    ("6 advances the given state", [true, true, true]),
-    ("6 hands out what was reached", [true, true, false]),
-    ("the given b is put to B", [true, true, true]),
-    ("3 looks at no output", [false, true, false]),
-    ("9 looks at no spare place", [false, true, false]),
-    ("6 goes unseen", [true, true, false]),
-    ("6 while ψ can still rise", [true, false, false]),
-    ("2 before 1", [false, true, false]),
-    ("9 before 2", [false, true, false]),
-    ("3 before 9", [false, true, false]),
-    ("4 before 3", [false, true, false]),
-    ("5 before 4", [false, true, false]),
-    ("4 and 5 sample by sample", [false, true, false]),
-    ("5 and 6 sample by sample", [false, true, false]),
-    ("never doubled", [true, false, false]),
-    ("doubled at 4096 too", [true, false, false]),
-    ("doubled below 4095 only", [true, false, false]),
-    ("doubled at ψ = 0 too", [true, false, false]),
-    ("doubled until some reach 4096", [true, false, false]),
-    ("doubled right after a halving", [true, true, false]),
-    ("doubled feed forward only", [true, false, false]),
-    ("doubled feedback only", [true, false, false]),
-    ("doubled by the weights before step 6", [true, false, false]),
-    ("doubled by the feed forward weights", [true, false, false]),
-    ("doubled by the feedback weights", [true, false, false]),
+/// What can be wrong, and who finds it: the tests over any blocks (b), over
+/// refusals (r), over lists of calls (l), over swapped pairs (p).
+pub const FAULTS: [(&str, &str); 55] = [
+    ("accepted, the given state comes back", "b"),
+    ("accepted, the given state advances", "bl"),
+    ("accepted, the outputs stay", "bp"),
+    ("accepted, the last sample is missing", "bp"),
+    ("accepted, ψ comes back as given", "b"),
+    ("accepted, b comes back as given", "bp"),
+    ("accepted, B comes back as given", "bp"),
+    ("accepted, weights come back as given", "b"),
+    ("accepted, data come back as given", "bp"),
+    ("accepted, a spare place is written", "bp"),
+    ("refused, a fresh state comes back", "br"),
+    ("refused, spare places come back as 0", "r"),
+    ("refused, the given state is fresh", "brl"),
+    ("refused, spare places are put to 0", "rl"),
+    ("refused, an output is written", "brp"),
+    ("refused, the outputs are zeros", "brp"),
+    ("3 brings the outputs to N", "rp"),
+    ("6 hands back what was reached", "brp"),
+    ("6 advances the given state", "brl"),
+    ("6 hands out what was reached", "brp"),
+    ("the given b is put to B", "brl"),
+    ("3 looks at no output", "rp"),
+    ("9 looks at no spare place", "r"),
+    ("6 goes unseen", "brp"),
+    ("6 while ψ can still rise", "b"),
+    ("2 before 1", "r"),
+    ("9 before 2", "r"),
+    ("3 before 9", "r"),
+    ("4 before 3", "r"),
+    ("5 before 4", "r"),
+    ("4 and 5 sample by sample", "r"),
+    ("5 and 6 sample by sample", "r"),
+    ("never doubled", "b"),
+    ("doubled at 4096 too", "b"),
+    ("doubled below 4095 only", "b"),
+    ("doubled at ψ = 0 too", "bp"),
+    ("doubled until some reach 4096", "b"),
+    ("doubled right after a halving", "brp"),
+    ("doubled feed forward only", "b"),
+    ("doubled feedback only", "b"),
+    ("doubled by the weights before step 6", "b"),
+    ("doubled by the feed forward weights", "bp"),
+    ("doubled by the feedback weights", "bp"),
+    ("samples are rounded down", "bp"),
+    ("past samples are rounded down", "bp"),
+    ("F is rounded down", "b"),
+    ("Y is rounded down in Z", "b"),
+    ("J is rounded down", "b"),
+    ("feed forward gains are rounded down", "bp"),
+    ("feedback gains are rounded down", "b"),
+    ("halved by rounding down", "bp"),
+    ("halved for positive weights only", "brp"),
+    ("doubled for negative weights too", "bp"),
+    ("a tie goes with the newest sample", "bp"),
+    ("feed forward gains by magnitudes", "bp"),
 ];
 
 /// T(a·2^places).
@@ -57,6 +69,15 @@ fn scaled(a: i64, places: i64) -> i64 {
         a * (1 << places)
     } else {
         a / (1 << -places)
+    }
+}
+
+/// The same, or where it is rounded down the floor.
+fn cut(a: i64, places: i64, down: bool) -> i64 {
+    if down && places < 0 {
+        a >> -places
+    } else {
+        scaled(a, places)
     }
 }
 
@@ -174,34 +195,62 @@ impl Walk {
         let nu = count(s.q) + longest.unwrap_or(0);
         let held: Vec<i64> = self.symbols.iter().map(|v| v << (15 - nu)).collect();
         let common = gamma.max(nu);
-        let f = scaled(sum(&self.weights[..p], &self.samples), gamma - common);
+        let f = sum(&self.weights[..p], &self.samples);
+        let f = cut(f, gamma - common, fault == "F is rounded down");
         let h = scaled(sum(&self.weights[p..], &held), nu - common);
         let (y, xi) = (f + h, self.psi + common);
-        let end = (2 << s.r) - 1;
-        let decision = (2 * (y >> (31 - xi)) + 1).clamp(-end, end);
+        let decision = self.decide(y, xi, s.r, fault);
         let v = if entry == 0 { decision } else { entry };
         let theta = xi.max(count(s.q) + bits(v));
-        let z = (v << (30 - theta)) - scaled(y, xi - theta);
-        let pull = |exponent| scaled(i64::from(s.m) * z, exponent + theta - self.psi - 30);
-        let forward = pull(gamma - count(s.p));
-        let back = pull(nu - count(s.q));
-        for (w, a) in self.weights[..p].iter_mut().zip(&self.samples) {
-            *w += scaled(forward * a, count(s.p) - 30);
-        }
-        for (w, a) in self.weights[p..].iter_mut().zip(&held) {
-            *w += scaled(back * a, count(s.q) - 30);
-        }
+        let z = (v << (30 - theta)) - cut(y, xi - theta, fault == "Y is rounded down in Z");
+        let pull = |exponent| {
+            let places = exponent + theta - self.psi - 30;
+            cut(i64::from(s.m) * z, places, fault == "J is rounded down")
+        };
+        let j = [pull(gamma - count(s.p)), pull(nu - count(s.q))];
+        self.adapt(s, j, &held, fault);
         self.step7(p, &before, fault);
         self.symbols.insert(0, v);
         self.symbols.truncate(q);
         [y, xi, decision, z, theta]
     }
 
+    /// Step 4, with the newest sample for the fault.
+    fn decide(&self, y: i64, xi: i64, r: u8, fault: &str) -> i64 {
+        let end = (2 << r) - 1;
+        let tie = y & ((1 << (31 - xi)) - 1) == 0;
+        let lower = tie && self.samples[0] < 0 && fault == "a tie goes with the newest sample";
+        let decision = 2 * (y >> (31 - xi)) + 1;
+        (decision - 2 * i64::from(lower)).clamp(-end, end)
+    }
+
+    /// Step 6 with J of both filters.
+    fn adapt(&mut self, s: &Settings, [forward, back]: [i64; 2], held: &[i64], fault: &str) {
+        let (weights, feedback) = self.weights.split_at_mut(s.p.into());
+        let down = fault == "feed forward gains are rounded down";
+        for (w, &a) in weights.iter_mut().zip(&self.samples) {
+            let a = match fault {
+                "feed forward gains by magnitudes" => a.abs(),
+                _ => a,
+            };
+            *w += cut(forward * a, count(s.p) - 30, down);
+        }
+        let down = fault == "feedback gains are rounded down";
+        for (w, a) in feedback.iter_mut().zip(held) {
+            *w += cut(back * a, count(s.q) - 30, down);
+        }
+    }
+
     /// One halving, one doubling or neither. `before` are the weights before
     /// step 6.
     fn step7(&mut self, p: usize, before: &[i64], fault: &str) {
-        if self.weights.iter().any(|w| w.abs() > 16383) {
-            self.weights.iter_mut().for_each(|w| *w /= 2);
+        let large = |w: &i64| match fault {
+            "halved for positive weights only" => *w > 16383,
+            _ => w.abs() > 16383,
+        };
+        if self.weights.iter().any(large) {
+            let down = fault == "halved by rounding down";
+            self.weights.iter_mut().for_each(|w| *w = cut(*w, -1, down));
             self.psi += 1;
             if fault == "doubled right after a halving" {
                 self.double(p, fault);
@@ -232,7 +281,11 @@ impl Walk {
         };
         // ψ falls to -1, a byte of 255, and no further.
         let least = i64::from(fault == "doubled at ψ = 0 too");
-        self.psi > -least && looked_at.iter().all(|w| w.abs() < end)
+        let small = |w: &i64| match fault {
+            "doubled for negative weights too" => *w < end,
+            _ => w.abs() < end,
+        };
+        self.psi > -least && looked_at.iter().all(small)
     }
 
     fn double(&mut self, p: usize, fault: &str) {
@@ -254,7 +307,7 @@ fn block(given: &State, inputs: Inputs<'_>, fault: &str) -> (u8, State, Vec<[i64
     let b = x.iter().map(|&x| bits(x)).max().unwrap_or(0);
     let big_b = b.max(given.b.into());
     let gamma = i64::from(s.r) - 30 + big_b + scale;
-    let mut walk = Walk::start(given, i64::from(given.big_b) - big_b);
+    let mut walk = Walk::start(given, i64::from(given.big_b) - big_b, fault);
     let mut handed = Vec::new();
     let most = match fault {
         "6 goes unseen" => 255,
@@ -266,7 +319,8 @@ fn block(given: &State, inputs: Inputs<'_>, fault: &str) -> (u8, State, Vec<[i64
         if !entry(t.into(), s.r) {
             return (5, before, handed);
         }
-        walk.samples.insert(0, scaled(x, 15 - big_b - scale));
+        let down = fault == "samples are rounded down";
+        walk.samples.insert(0, cut(x, 15 - big_b - scale, down));
         walk.samples.truncate(s.p.into());
         let sample = walk.sample(s, gamma, t.into(), fault);
         if walk.psi > most {
@@ -279,14 +333,15 @@ fn block(given: &State, inputs: Inputs<'_>, fault: &str) -> (u8, State, Vec<[i64
 
 impl Walk {
     /// Before the first sample; `fall` is by how much B falls.
-    fn start(given: &State, fall: i64) -> Walk {
+    fn start(given: &State, fall: i64, fault: &str) -> Walk {
         let (p, taps) = (usize::from(given.settings.p), given.settings.taps());
         let wide = |list: &[i16]| list.iter().map(|&a| i64::from(a)).collect();
         let past = given.data[..p - 1].iter();
+        let down = fault == "past samples are rounded down";
         Walk {
             psi: given.psi.into(),
             weights: wide(&given.weights[..taps]),
-            samples: past.map(|&a| scaled(a.into(), fall)).collect(),
+            samples: past.map(|&a| cut(a.into(), fall, down)).collect(),
             symbols: wide(&given.data[p..taps]),
         }
     }
