@@ -4,6 +4,7 @@ use crate::cables::bench::Side;
 use crate::figures::{as_the_steps_give, detail};
 use crate::pieces::Accepted;
 use crate::readings::ReadingsBench;
+use crate::swapped::SwappedBench;
 use reference::block::BlockDetail;
 use reference::demand3::{Checker, Received};
 use reference::State;
@@ -160,6 +161,7 @@ pub struct Bench<'a> {
     /// Accepted blocks and trials on other records.
     pub others: u64,
     pub readings: ReadingsBench<'a>,
+    pub swapped: SwappedBench<'a>,
 }
 
 impl<'a> Bench<'a> {
@@ -177,6 +179,7 @@ impl<'a> Bench<'a> {
             moves: Moves::default(),
             others: 0,
             readings: ReadingsBench::new(library, second),
+            swapped: SwappedBench::new(library, second),
         }
     }
 
@@ -188,6 +191,7 @@ impl<'a> Bench<'a> {
         self.images.clear();
         self.checker.forget();
         self.way = Way::default();
+        self.swapped.start_list();
     }
 
     /// The record that the list has led to.
@@ -260,6 +264,7 @@ impl<'a> Bench<'a> {
         if call.lists().is_some() && outcome.number == 0 {
             self.readings.outcome(&outcome)?;
         }
+        self.swapped.call(call, &before)?;
         let after = self.records[0];
         self.tally.count(call, &outcome, &before, &after);
         Ok(outcome)

@@ -98,11 +98,16 @@ pub enum Fault {
     ReadingsPowerInBoth,
     /// 11 for a xi of 24, on both sides.
     ReadingsExponentInBoth,
+    /// 4 for 5 in a block or trial whose first sample is negative, on both sides.
+    SwappedNumberInBoth,
+    /// A bit of the first Z of a block, where that place held an even number, on
+    /// both sides.
+    SwappedLentInBoth,
 }
 
 impl Fault {
     /// Every fault with its name.
-    pub const ALL: [(&'static str, Fault); 44] = [
+    pub const ALL: [(&'static str, Fault); 46] = [
         ("output", Fault::Output),
         ("exponent", Fault::Exponent),
         ("decision", Fault::Decision),
@@ -147,6 +152,8 @@ impl Fault {
         ("readings-length", Fault::ReadingsLength),
         ("readings-power-in-both", Fault::ReadingsPowerInBoth),
         ("readings-exponent-in-both", Fault::ReadingsExponentInBoth),
+        ("swapped-number-in-both", Fault::SwappedNumberInBoth),
+        ("swapped-lent-in-both", Fault::SwappedLentInBoth),
     ];
 
     pub fn named(name: &str) -> Option<Fault> {
@@ -220,6 +227,15 @@ impl<'a> Faulty<'a> {
         }
     }
 
+    /// The number that a block or a trial of it answers.
+    fn number(&self, number: u8, block: Block) -> u8 {
+        let negative = block.samples.first().is_some_and(|&m| m < 0);
+        match (self.fault, number) {
+            (Fault::SwappedNumberInBoth, 5) if negative => 4,
+            _ => number,
+        }
+    }
+
     fn accepted(&self, before: &Equaliser, s: &mut Equaliser, block: Block, out: Outputs) {
         let loud = block.samples.iter().any(|m| m.unsigned_abs() >= 16384);
         let trained = block.entries.iter().any(|&entry| entry != 0);
@@ -255,9 +271,13 @@ impl Operations for Faulty<'_> {
 
     fn run(&self, s: &mut Equaliser, block: Block, mut out: Outputs) -> u8 {
         let before = *s;
+        let held_even = out.z.first().is_some_and(|z| z % 2 == 0);
         let number = self.side.run(s, block, lent(&mut out));
+        if self.fault == Fault::SwappedLentInBoth && number == 0 && held_even {
+            flip(out.z.first_mut());
+        }
         self.after_block(number, &before, s, block, out);
-        number
+        self.number(number, block)
     }
 
     fn trial(&self, s: &mut Equaliser, block: Block, mut out: Outputs) -> Answer {
@@ -272,6 +292,7 @@ impl Operations for Faulty<'_> {
             (Fault::TrialNumber, 6) => answer.number = 0,
             _ => (),
         }
+        answer.number = self.number(answer.number, block);
         answer
     }
 

@@ -6,6 +6,7 @@
 //! * [`cables`]: cables, with what is checked of them, their text, and shrinking.
 //! * [`bench`]: one call on both sides, and everything that is checked.
 //! * [`readings`]: the readings of what a block hands out, with what is checked of them.
+//! * [`swapped`]: swapped pairs along a list, with what is checked of them.
 //! * [`pieces`]: the library's record after each sample of a block.
 //! * [`figures`]: the numbers of a block from the library's records and outputs.
 //! * [`faults`]: built-in faults.
@@ -29,3 +30,4 @@ pub mod report;
 pub mod shrink;
 pub mod soak;
 pub mod stop;
+pub mod swapped;

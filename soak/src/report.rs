@@ -4,6 +4,13 @@ use crate::bench::Bench;
 use reference::demand3::Worst;
 use reference::exact::Exact;
 
+/// The counts that are not 0, each behind its number.
+pub fn by_number(counts: &[u64]) -> String {
+    let given = counts.iter().enumerate().filter(|(_, &count)| count > 0);
+    let texts = given.map(|(n, count)| format!(" {n}: {count}"));
+    texts.collect::<Vec<String>>().join(",")
+}
+
 /// A figure, its bound, and the one as a part of the other, cut to nine places.
 fn part(name: &str, seen: impl std::fmt::Display, of: &str, part: f64) -> String {
     format!("  {name:<38} {seen:>11} of {of:<13}{:.9}\n", cut(part))
@@ -78,6 +85,9 @@ pub fn covered(bench: &Bench) -> String {
     let others = bench.others;
     let others =
         format!("accepted blocks and trials on a record other than the list's own: {others}\n");
-    let readings = bench.readings.tally;
-    format!("{}{followed}{others}{moves}{readings}{worst}", bench.tally)
+    let (readings, swapped) = (bench.readings.tally, bench.swapped.tally);
+    format!(
+        "{}{followed}{others}{moves}{readings}{swapped}{worst}",
+        bench.tally
+    )
 }

@@ -2,6 +2,7 @@
 
 use reference::numbers::bit_length;
 use reference::vectors::gathering::gathering;
+use reference::State;
 use soak::bench::{Bench, Failure};
 use soak::faults::Fault;
 use soak::format::{parse, text, Saved};
@@ -9,8 +10,10 @@ use soak::lists::{corner, Lister, CORNERS};
 use soak::readings::changes::CHANGES;
 use soak::shrink::shrink;
 use soak::soak::{failure_of, shrunk, with_sides};
+use soak::swapped::SwappedBench;
 use std::collections::HashSet;
 use tigbulode::calls::{raw_image, Call, Lists};
+use tigbulode::perform::perform;
 use tigbulode::sides::{record_of, Library, Second};
 
 /// The calls of a list, made on a bench, up to a failure.
@@ -46,6 +49,7 @@ fn the_lists_cover_every_answer() {
     every_kind_of_block(&bench);
     every_way_of_following(&bench);
     every_sort_of_readings(&bench);
+    every_answer_of_swapped_pairs(&bench);
 }
 
 /// Each call gives the answers that it can, and no other.
@@ -107,6 +111,67 @@ fn every_sort_of_readings(bench: &Bench) {
     assert_eq!(readings.refused, refused * accepted);
     let changed = readings.changed_means + readings.changed_floors + readings.refused;
     assert_eq!(changed, CHANGES.len() as u64 * accepted);
+}
+
+/// Every block on a sound record is run by a swapped pair too.
+fn every_answer_of_swapped_pairs(bench: &Bench) {
+    let (blocks, tally) = (bench.tally.answers[1], bench.swapped.tally);
+    for (number, &count) in tally.answers.iter().enumerate() {
+        assert_eq!(count >= 100, [0, 3, 4, 5, 6].contains(&number), "{tally}");
+    }
+    let on_sound: u64 = [0, 3, 4, 5, 6]
+        .map(|number: usize| blocks[number])
+        .iter()
+        .sum();
+    assert_eq!(tally.answers.iter().sum::<u64>(), on_sound);
+    assert!(tally.pairs >= 2000 && tally.lowest >= 1000, "{tally}");
+    assert!(tally.raised >= 300 && tally.lowered >= 300, "{tally}");
+}
+
+/// The checks that fail in swapped pairs along some lists, with a fault.
+fn failing_in_pairs(fault: Fault) -> HashSet<String> {
+    let mut made = Bench::new(&Second, &Second);
+    let failing = (0..60).filter_map(|place| {
+        let (calls, _) = list(&mut made, 5, place);
+        let mut record = record_of(&State::fresh());
+        with_sides(Some(fault), |library, second| {
+            let mut bench = SwappedBench::new(library, second);
+            calls.iter().find_map(|call| {
+                let failing = bench.call(call, &record).err();
+                perform(&Second, call, &mut record);
+                failing
+            })
+        })
+    });
+    failing.map(|failing| failing.check).collect()
+}
+
+/// A fault, and what of a swapped pair it fails in.
+const IN_PAIRS: [(Fault, &str); 10] = [
+    (Fault::Weight, "feed forward weights"),
+    (Fault::WeightInBoth, "feed forward weights"),
+    (Fault::Sample, "past samples"),
+    (Fault::SpareInBoth, "soundness"),
+    (Fault::RefusedOutput, "output lists"),
+    (Fault::SwappedNumberInBoth, "answer"),
+    (Fault::SwappedLentInBoth, "Z"),
+    // the same in both stations: only the second implementation shows it
+    (Fault::Output, "difference"),
+    (Fault::Decision, "difference"),
+    (Fault::Halving, "difference"),
+];
+
+#[test]
+fn swapped_pairs_alone_find_what_sets_their_stations_apart() {
+    for (fault, part) in IN_PAIRS {
+        let failing = failing_in_pairs(fault);
+        let wanted = format!("swapped pair, {part}");
+        assert!(failing.contains(&wanted), "{fault:?}: {failing:?}");
+    }
+    // the same in both stations and on both sides
+    for fault in [Fault::DoublingInBoth, Fault::OutputInBoth] {
+        assert_eq!(failing_in_pairs(fault), HashSet::new(), "{fault:?}");
+    }
 }
 
 /// A block in which ψ falls from 15, comes up again and is turned down with 6.

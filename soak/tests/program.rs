@@ -105,6 +105,14 @@ const OWN_CHECKS: &[(&str, &str)] = &[
         "readings-exponent-in-both",
         "readings with exponents of 24: answer 11",
     ),
+    (
+        "swapped-number-in-both",
+        ", block: swapped pair: library: answer: ",
+    ),
+    (
+        "swapped-lent-in-both",
+        ", block: swapped pair: library: Z: ",
+    ),
 ];
 
 #[test]

@@ -4,6 +4,7 @@
 use super::Lent;
 use crate::bench::{stopping, Failing};
 use crate::readings::Plots;
+use crate::report::by_number;
 use reference::cable::Cause;
 use std::fmt;
 use tigbulode::sides::{Library, Operations, Second};
@@ -109,12 +110,7 @@ impl CableTally {
 
 impl fmt::Display for CableTally {
     fn fmt(&self, f: &mut fmt::Formatter) -> fmt::Result {
-        let texts = |counts: &[u64]| {
-            let given = counts.iter().enumerate().filter(|(_, &count)| count > 0);
-            let texts = given.map(|(n, count)| format!(" {n}: {count}"));
-            texts.collect::<Vec<String>>().join(",")
-        };
-        let answers = texts(&self.answers);
+        let answers = by_number(&self.answers);
         writeln!(f, "cable: {} calls; answer{answers}", self.cables())?;
         let causes = Cause::ALL
             .iter()
@@ -129,7 +125,7 @@ impl fmt::Display for CableTally {
             causes.join(", ")
         )?;
         write!(f, "samples of accepted cables: {}; ", self.samples)?;
-        writeln!(f, "by gain{}", texts(&self.gains))?;
+        writeln!(f, "by gain{}", by_number(&self.gains))?;
         writeln!(f, "accepted cables with a gain of L: {}", self.at_least)?;
         let (blocks, exponents) = (self.blocks, self.exponents);
         writeln!(
