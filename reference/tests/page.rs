@@ -5,6 +5,7 @@ use reference::cable::{gain, mantissa, sum_at};
 use reference::description::description;
 use reference::numbers::{scale_count, Dyadic};
 use reference::readings::{magnitude, readings, Power, Reading};
+use reference::swapped::{partner, swapped_trace, unpaired};
 use reference::trace::trace_with_state;
 use reference::vectors::spoiled::worked_example;
 use reference::vectors::{worked_lists, Lists};
@@ -592,6 +593,95 @@ fn the_changed_lists_are_answered_as_the_page_says() {
             "{row}"
         );
     }
+}
+
+/// The heading of the part about swapped pairs.
+const SWAPPED: &str = "The two conductors swapped";
+
+#[test]
+fn the_swapped_examples_are_on_the_page() {
+    let part = part(&page(), SWAPPED);
+    for name in ["worked", "blocks"] {
+        let bytes = file(&format!("examples/{name}.trace"));
+        let (text, state) = trace_with_state(&bytes);
+        let swapped = swapped_trace(&bytes).expect("no sample is −32768");
+        let (same, other) = trace_with_state(&swapped);
+        assert_eq!((unpaired(&state, &other), text), (None, same), "{name}");
+        assert!(has_bytes(&part, &image(&other)), "{name}: image");
+        assert!(!has_bytes(&part, &image(&state)), "{name}: image");
+        let (forward, feedback) = other.weights.split_at(other.settings.p.into());
+        let weights = format!("     weights {}, {}\n", words(forward), words(feedback));
+        let samples = words(other.past_samples());
+        let symbols = words(other.past_symbols());
+        let data = format!("     samples {samples}, the 0, symbols {symbols}\n");
+        assert!(part.contains(&weights), "{weights}");
+        assert_eq!(part.contains(&data), !samples.is_empty(), "{data}");
+        let on_page = has_bytes(&part, &swapped) && !has_bytes(&part, &bytes);
+        assert_eq!(on_page, name == "worked");
+    }
+}
+
+/// A block of one sample with gain 0, with one tap each.
+fn block_of(state: &State, sample: i16, entry: i8) -> (BlockDetail, State) {
+    let inputs = Inputs {
+        samples: &[sample],
+        gains: &[0],
+        training: &[entry],
+    };
+    work(state, inputs).expect("an accepted block")
+}
+
+/// The row of a first block of one sample with the settings of the worked
+/// example, and the state after it.
+fn lowest_row(sample: i16) -> (String, State) {
+    let (_, worked) = trace_with_state(&file("examples/worked.trace"));
+    let (block, after) = block_of(&State::zeros(worked.settings), sample, 1);
+    let d = &block.samples[0];
+    let cells = [
+        words([sample]),
+        words([block.x[0]]),
+        format!("{}, {}, {}", block.b, block.big_b, block.gamma),
+        words([d.a[0]]),
+        pair(d.y, d.xi),
+        words([d.decision]),
+        pair(d.z, d.theta),
+        pair(d.j_forward, d.j_feedback),
+        pair(after.weights[0], after.weights[1]),
+    ];
+    (format!("| {} |\n", cells.join(" | ")), after)
+}
+
+#[test]
+fn the_lowest_sample_is_on_the_page() {
+    let part = part(&page(), SWAPPED);
+    let [lowest, highest, negative] = [-32768, 32767, -32767].map(|sample| {
+        let (row, after) = lowest_row(sample);
+        assert!(part.contains(&row), "{row}");
+        after
+    });
+    assert!(unpaired(&lowest, &highest).is_some());
+    assert_eq!(unpaired(&negative, &highest), None);
+    assert!(!part.contains(&lowest_row(-32766).0));
+}
+
+#[test]
+fn the_kept_weights_are_on_the_page() {
+    let (_, kept) = trace_with_state(&file("examples/worked.trace"));
+    let swapped = partner(&kept);
+    let y = |state: &State, sample: i16| block_of(state, sample, 0).0.samples[0].y;
+    let said = format!(
+        "weights {} and {}, a block of m = 16384 with gain 0 and no entry gives Y = {}, \
+         and one of m = −16384 gives Y = {}; on its partner, weights {} and {}, \
+         m = −16384 gives {} again.\n",
+        kept.weights[0],
+        kept.weights[1],
+        y(&kept, 16384),
+        y(&kept, -16384),
+        words([swapped.weights[0]]),
+        swapped.weights[1],
+        y(&swapped, -16384),
+    );
+    assert!(part(&page(), SWAPPED).contains(&said), "{said}");
 }
 
 /// The text of a file below `crates/`, or of every file of a folder there.
