@@ -11,7 +11,7 @@ use Rattle.steps.specs.Limits.{exponentLimit}
 use Rattle.steps.specs.Settings.{Settings}
 use Rattle.filter.specs.Sample.{Taps}
 use Rattle.filter.specs.Calls.{tapsOf}
-use Rattle.block.specs.Block.{Block, Memory, Outputs, newb, newB, after, goes, count, handedY, handedξ, handedDecision, handedZ, handedθ, handed, left}
+use Rattle.block.specs.Block.{Block, Memory, Outputs, newb, newB, after, goes, count, handedY, handedξ, handedDecision, handedZ, handedθ, handedAll, handed, left}
 use Rattle.block.specs.Sound.{Sound}
 use Rattle.block.specs.Calls.{outputsOf, OutputsLong, BlockResult-is}
 use Rattle.block.specs.declared.run.BlockResult.{BlockResult}
@@ -25,7 +25,7 @@ same-outputs ey ex ed ez et = rw (ey, ex, ed, ez, et)
 
 module _ (k : Settings) (o : Memory) (i : Block) where
   -- each list has an element for each sample
-  pub handed-long : OutputsLong k (outputsOf (handedY k o i) (handedξ k o i) (handedDecision k o i) (handedZ k o i) (handedθ k o i))
+  pub handed-long : OutputsLong k (handedAll k o i)
   unfolding handedY handedξ handedDecision handedZ handedθ
   handed-long = record {
     y-long = values-length _ (k .N);
@@ -37,7 +37,7 @@ module _ (k : Settings) (o : Memory) (i : Block) where
 
   -- where ψ keeps its limit nothing of the lent lists is left
   pub handed-all : goes k o i (k .N) ≡ true → (l : Outputs) → OutputsLong k l →
-      handed k o i (count k o i (k .N)) l ≡ outputsOf (handedY k o i) (handedξ k o i) (handedDecision k o i) (handedZ k o i) (handedθ k o i)
+      handed k o i (count k o i (k .N)) l ≡ handedAll k o i
   handed-all e l h = rw (
     count-all k o i (k .N) e,
     overlay-all (k .N) (handedY k o i) (l .y) (handed-long .y-long) (h .y-long),

@@ -16,9 +16,10 @@ use Rattle.steps.specs.Settings.{Settings, scaleForward}
 use Rattle.steps.proofs.NegatedLaws.{push-neg, magnitudes-neg}
 use Rattle.filter.specs.Sample.{Taps, Y, ξ, decision, Z, θ, next}
 use Rattle.filter.proofs.NegatedLaws.{swappedTaps, Y-same, ξ-same, decision-same, Z-same, θ-same, next-swapped}
-use Rattle.block.specs.Block.{Block, Memory, receivedAll, values, newb, newB, g, stored, old, start, entered, after, at, entryAt, goes, handedY, handedξ, handedDecision, handedZ, handedθ, left}
+use Rattle.block.specs.Block.{Block, Memory, receivedAll, values, newb, newB, g, stored, old, start, entered, after, at, entryAt, goes, handedY, handedξ, handedDecision, handedZ, handedθ, handedAll, left}
 use Rattle.block.specs.Sound.{Sound}
 use Rattle.block.specs.Swapped.{swapped, swappedBlock}
+use Rattle.block.proofs.BlockLeft.{same-outputs}
 
 pub swapped-back : (o : Memory) → swapped (swapped o) ≡ o
 swapped-back o = rw (negated-negated (o .forward), negated-negated (o .samples))
@@ -89,30 +90,14 @@ module _ (k : Settings) (o : Memory) (i : Block) where
 
   -- ---- what it hands out and leaves
 
-  -- of a value of each sample that is the same of swapped taps
-  handed-same : {A : Type 0} (f : Settings → ℕ → Taps → ℤ → A) → ((g₀ : ℕ) (t : Taps) (e : ℤ) → f k g₀ (swappedTaps t) e ≡ f k g₀ t e) →
+  -- a value of each sample that is the same of swapped taps
+  each-same : {A : Type 0} (f : Settings → ℕ → Taps → ℤ → A) → ((g₀ : ℕ) (t : Taps) (e : ℤ) → f k g₀ (swappedTaps t) e ≡ f k g₀ t e) →
       values (λ n. f k (g k o′ i′) (at k o′ i′ n) (entryAt k o′ i′ n)) (k .N) ≡ values (λ n. f k (g k o i) (at k o i n) (entryAt k o i n)) (k .N)
-  handed-same f h = ap (λ h. values h (k .N)) (fun-ext (λ n. rw (g-same, at-swapped) (h (g k o i) (at k o i n) (entryAt k o i n))))
+  each-same f h = ap (λ h. values h (k .N)) (fun-ext (λ n. rw (g-same, at-swapped) (h (g k o i) (at k o i n) (entryAt k o i n))))
 
-  pub handedY-same : handedY k o′ i′ ≡ handedY k o i
-  unfolding handedY
-  handedY-same = handed-same Y (Y-same k)
-
-  pub handedξ-same : handedξ k o′ i′ ≡ handedξ k o i
-  unfolding handedξ
-  handedξ-same = handed-same ξ (ξ-same k)
-
-  pub handedDecision-same : handedDecision k o′ i′ ≡ handedDecision k o i
-  unfolding handedDecision
-  handedDecision-same = handed-same decision (decision-same k)
-
-  pub handedZ-same : handedZ k o′ i′ ≡ handedZ k o i
-  unfolding handedZ
-  handedZ-same = handed-same Z (Z-same k)
-
-  pub handedθ-same : handedθ k o′ i′ ≡ handedθ k o i
-  unfolding handedθ
-  handedθ-same = handed-same θ (θ-same k)
+  pub handed-same : handedAll k o′ i′ ≡ handedAll k o i
+  unfolding handedY handedξ handedDecision handedZ handedθ
+  handed-same = same-outputs (each-same Y (Y-same k)) (each-same ξ (ξ-same k)) (each-same decision (decision-same k)) (each-same Z (Z-same k)) (each-same θ (θ-same k))
 
   pub left-swapped : left k o′ i′ ≡ swapped (left k o i)
   unfolding left

@@ -119,6 +119,9 @@ module _ (k : Settings) (o : Memory) (i : Block) where
   unfoldable pub handedθ : List ℕ
   handedθ = values (λ n. θ k g (at n) (entryAt n)) (k .N)
 
+  abbrev pub handedAll : Outputs
+  handedAll = record { y = handedY; xi = handedξ; decision = handedDecision; z = handedZ; theta = handedθ }
+
   -- the first n of each, over lists that were there
   abbrev pub handed : ℕ → Outputs → Outputs
   handed n l = record {

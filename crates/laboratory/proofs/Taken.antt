@@ -1,12 +1,11 @@
 -- Every accepted block of every list of calls hands out lists that can be read.
 use mathlib.Core.Path.{_≡_, sym, ap, _∙_, subst}
-use mathlib.Core.Bool.{Bool, true, cond}
+use mathlib.Core.Bool.{true}
 use mathlib.Core.List.{List, [], _∷_}
 use Prim.Native.Nat.{ℕ, _^_, _≤_, _<_}
 use native.Mathlib.Omega.{arith}
 use lib.IntN.{ℤ, pos, natAbs}
 use lib.ListN.{length, getD}
-use borrow.Author.Tests.{eq-eqb}
 use Rattle.laws.specs.Lists.{all}
 use Rattle.laws.specs.Sums.{each-of}
 use Rattle.steps.specs.Limits.{outputExponentLimit}
@@ -21,6 +20,7 @@ use Rattle.state.proofs.SizesLaws.{fit-within}
 use Rattle.checks.specs.Checks.{Lent, block}
 use Rattle.station.specs.Answers.{runNumber, accepted}
 use Rattle.station.specs.Claim.{Call, run, trial, save, load, left, Start, WithinLimits, AcceptedBlock, RunHolds, CallHolds, Holds}
+use Rattle.station.proofs.AnswerLaws.{accepted-new}
 use Rattle.station.proofs.Claim.{claim}
 use Rattle.readings.specs.Limits.{outputLimit, errorLimit}
 use Rattle.readings.specs.Readings.{Lists, exponentFits, readable}
@@ -77,7 +77,7 @@ block-taken s g l h a y xi decision z theta r e =
     ok = sym (r .number) ∙ e
 
     chosen : {A : Type 0} {x : A} (new old : A) → x ≡ accepted s l new old → x ≡ new
-    chosen new old f = f ∙ ap (λ (b : Bool). cond b new old) (eq-eqb (runNumber s l) 0 ok)
+    chosen new old f = f ∙ accepted-new s l new old ok
 
 call-taken : (s : Equaliser) → WithinLimits s → (c : Call) → CallHolds s c → CallTaken s c
 call-taken s g (run l t) h = block-taken s g l h

@@ -4,7 +4,7 @@ use mathlib.Core.Bool.{Bool, true, false, cond}
 use Prim.Native.Nat.{ℕ}
 use native.Mathlib.Omega.{arith}
 use lib.Dec.{eqb}
-use borrow.Author.Tests.{ne-eqb, eqb-true, eqb-false}
+use borrow.Author.Tests.{ne-eqb, eq-eqb, eqb-true, eqb-false}
 use Rattle.block.specs.Block.{Outputs, goes}
 use Rattle.state.specs.State.{settings, memory}
 use Rattle.station.specs.Answers.{runNumber, runState, accepted, lentOutputs, Run}
@@ -12,6 +12,14 @@ use Rattle.station.specs.Calls.{goesOn, RunChecked, handedOr}
 use Rattle.state.specs.declared.equaliser.Answer.{Answer}
 use Rattle.checks.specs.Checks.{Lent, block, checkNumber}
 use Rattle.state.specs.declared.equaliser.Equaliser.{Equaliser}
+
+-- what is chosen where a block is accepted, and where it isn't
+module _ {A : Type 0} (e : Equaliser) (l : Lent) (new old : A) where
+  pub accepted-new : runNumber e l ≡ 0 → accepted e l new old ≡ new
+  accepted-new ok = ap (λ (b : Bool). cond b new old) (eq-eqb (runNumber e l) 0 ok)
+
+  pub accepted-old : (runNumber e l ≡ 0 → ⊥) → accepted e l new old ≡ old
+  accepted-old f = ap (λ (b : Bool). cond b new old) (ne-eqb (runNumber e l) 0 f)
 
 pub run-tests : (e : Equaliser) (l : Lent) → runNumber e l ≡ 0 → (checkNumber e l ≡ 0) × (goes (settings e) (memory e) (block l) (e .n) ≡ true)
 unfolding runNumber
@@ -44,7 +52,7 @@ module _ (e : Equaliser) (l : Lent) where
   }
     where
       was : {A : Type 0} (new old : A) → old ≡ accepted e l new old
-      was new old = ap (λ b. cond b new old) (sym (ne-eqb (runNumber e l) 0 (λ z. f (h ∙ z))))
+      was new old = sym (accepted-old e l new old (λ z. f (h ∙ z)))
 
   -- ---- a block that passed the checks
 

@@ -9,7 +9,7 @@ use lib.ListN.{getD}
 use lib.IntN.{pos}
 use mir.Syntax.{w16}
 use mir.Val.{SFits}
-use borrow.Author.Tests.{eqb-true, eqb-false, eq-eqb, ne-eqb}
+use borrow.Author.Tests.{eqb-true, eqb-false}
 use Rattle.laws.specs.Machine.{abs-fits}
 use Rattle.laws.specs.Sums.{each-weaken}
 use Rattle.steps.specs.Settings.{Settings, scaleForward}
@@ -36,7 +36,7 @@ use Rattle.checks.specs.Checks.{Lent, block, checkNumber}
 use Rattle.checks.specs.Calls.{Sampled, Checked}
 use Rattle.station.specs.Claim.{Typed, Call, run, trial, save, load, left, leftBy, Start, set-up, loaded, WithinLimits, StateAccepted, Keeps, KeepsAll, LaterNear, AcceptedBlock, RunHolds, CallHolds, Holds}
 use Rattle.checks.proofs.CheckLaws.{check-number, checked-is}
-use Rattle.station.proofs.AnswerLaws.{run-tests}
+use Rattle.station.proofs.AnswerLaws.{accepted-new, accepted-old, run-tests}
 
 -- ---- states within limits
 
@@ -59,11 +59,11 @@ sampled l t = each-weaken (SFits w16) _ (λ z f. abs-fits f) (l .m) (t .m)
 
 pub refused-same : (s : Equaliser) (l : Lent) → (runNumber s l ≡ 0 → ⊥) → runState s l ≡ s
 unfolding runState
-refused-same s l f = ap (λ b. cond b (stateOf (settings s) (Block.left (settings s) (memory s) (block l))) s) (ne-eqb (runNumber s l) 0 f)
+refused-same s l f = accepted-old s l _ s f
 
 accepted-leaves : (s : Equaliser) (l : Lent) → runNumber s l ≡ 0 → runState s l ≡ stateOf (settings s) (Block.left (settings s) (memory s) (block l))
 unfolding runState
-accepted-leaves s l h = ap (λ b. cond b (stateOf (settings s) (Block.left (settings s) (memory s) (block l))) s) (eq-eqb (runNumber s l) 0 h)
+accepted-leaves s l h = accepted-new s l _ s h
 
 module _ (s : Equaliser) (g : WithinLimits s) (l : Lent) (t : Typed l) (ok : runNumber s l ≡ 0) where
   checked : Checked s (block l)

@@ -8,14 +8,14 @@ use native.Mathlib.Omega.{arith}
 use lib.IntN.{ℤ, negℤ}
 use mir.Syntax.{w16}
 use mir.Val.{SFits}
-use borrow.Author.Tests.{eqb-true, eqb-false, ne-eqb}
+use borrow.Author.Tests.{eqb-true, eqb-false, eq-eqb, ne-eqb}
 use Rattle.laws.specs.Negated.{negated, negated-negated}
 use Rattle.laws.specs.Sums.{Each}
 use Rattle.steps.specs.Settings.{Settings}
-use Rattle.block.specs.Block.{Block, Memory, goes, handedY, handedξ, handedDecision, handedZ, handedθ}
+use Rattle.block.specs.Block.{Block, Memory, goes, handedAll}
 use Rattle.block.specs.Block as Block
 use Rattle.block.specs.Swapped.{swapped, swappedBlock}
-use Rattle.block.proofs.SwappedLaws.{goes-same, handedY-same, handedξ-same, handedDecision-same, handedZ-same, handedθ-same, left-swapped, swapped-back, swapped-sound}
+use Rattle.block.proofs.SwappedLaws.{goes-same, handed-same, left-swapped, swapped-back, swapped-sound}
 use Rattle.state.specs.State.{settings, memory}
 use Rattle.state.specs.Answers.{setUpState}
 use Rattle.state.specs.declared.equaliser.Equaliser.{Equaliser}
@@ -36,6 +36,13 @@ sound-within g = record { sound = g .sound; weights-long = g .weights-long; past
 -- a sound state that a block is accepted on
 within : (s : Equaliser) → SoundState s → (l : Lent) → runNumber s l ≡ 0 → WithinLimits s
 within s g l ok = accepted-within (record { weights-long = g .weights-long; past-long = g .past-long; number = check-tests s l (run-tests s l ok .0) .0 })
+
+-- the lists of a block that is accepted, and of one that isn't
+given : (e : Equaliser) (l : Lent) → runNumber e l ≡ 0 → runOutputs e l ≡ handedAll (settings e) (memory e) (block l)
+given e l ok = rw (eq-eqb (runNumber e l) 0 ok)
+
+kept : (e : Equaliser) (l : Lent) → (runNumber e l ≡ 0 → ⊥) → runOutputs e l ≡ lentOutputs l
+kept e l f = rw (ne-eqb (runNumber e l) 0 f)
 
 module _ (s s′ : Equaliser) (p : SwappedPair s s′) (l l′ : Lent) (b : SwappedLists l l′) where
   -- ---- what a block goes by
@@ -67,20 +74,7 @@ module _ (s s′ : Equaliser) (p : SwappedPair s s′) (l l′ : Lent) (b : Swap
   -- ---- the lists
 
   outputs-same : runNumber s l ≡ 0 → runOutputs s′ l′ ≡ runOutputs s l
-  outputs-same ok = rw (
-    number-same,
-    ok,
-    on-both handedY,
-    on-both handedξ,
-    on-both handedDecision,
-    on-both handedZ,
-    on-both handedθ,
-    handedY-same (settings s) (memory s) (block l),
-    handedξ-same (settings s) (memory s) (block l),
-    handedDecision-same (settings s) (memory s) (block l),
-    handedZ-same (settings s) (memory s) (block l),
-    handedθ-same (settings s) (memory s) (block l),
-  )
+  outputs-same ok = given s′ l′ (number-same ∙ ok) ∙ on-both handedAll ∙ handed-same (settings s) (memory s) (block l) ∙ sym (given s l ok)
 
   pub same-runs : SameRuns s l s′ l′
   same-runs = record {
@@ -88,9 +82,6 @@ module _ (s s′ : Equaliser) (p : SwappedPair s s′) (l l′ : Lent) (b : Swap
     outputs-same = outputs-same;
     outputs-kept = λ f. (kept s l f, kept s′ l′ (λ e. f (sym number-same ∙ e)));
   }
-    where
-      kept : (e : Equaliser) (i : Lent) → (runNumber e i ≡ 0 → ⊥) → runOutputs e i ≡ lentOutputs i
-      kept e i f = rw (ne-eqb (runNumber e i) 0 f)
 
   -- ---- the states
 

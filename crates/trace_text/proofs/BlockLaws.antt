@@ -1,6 +1,5 @@
 -- A block of a trace: work areas, the lists that it is run on, what it answers, the text that it adds.
 use mathlib.Core.Path.{_≡_, refl, sym, ap, _∙_, subst}
-use mathlib.Core.Bool.{Bool, cond}
 use mathlib.Core.List.{List, _∷_, _++_}
 use Prim.Native.Nat.{ℕ, zero, suc, _+_, _*_, _^_, _≤_, _<_}
 use native.Mathlib.Omega.{arith}
@@ -26,8 +25,8 @@ use Rattle.state.specs.declared.equaliser.Answer.{Answer}
 use Rattle.checks.specs.Checks.{Lent, block}
 use Rattle.checks.specs.Calls.{lentOf, Sampled, Checked}
 use Rattle.checks.proofs.CheckLaws.{checked-is}
-use Rattle.station.specs.Answers.{runNumber, accepted, Run}
-use Rattle.station.proofs.AnswerLaws.{run-tests}
+use Rattle.station.specs.Answers.{runNumber, Run}
+use Rattle.station.proofs.AnswerLaws.{accepted-new, run-tests}
 use Rattle.trace_text.specs.Trace.{traceLimit, byteAt, number16, settingsIn, countIn, samplesIn, sampleStart, samplesFrom, sampleAt, lentWith, lentAt}
 use Rattle.trace_text.specs.Text.{lines, blockLines, stopLine, blockText, lineLimit}
 use Rattle.trace_text.specs.Calls.{Printable, AllPrintable, Read-is, Ran-is, OfTrace}
@@ -131,17 +130,14 @@ module _ {e : Equaliser} {l : Lent} {a : Answer} {y : List ℤ} {xi : List ℕ} 
   pub accepts : runNumber e l ≡ 0
   accepts = sym (r .number) ∙ z
 
-  taken : {A : Type 0} (new old : A) → accepted e l new old ≡ new
-  taken new old = ap (λ (b : Bool). cond b new old) (eq-eqb (runNumber e l) 0 accepts)
-
   Y-is : y ≡ handedY (settings e) (memory e) (block l)
-  Y-is = r .y-is ∙ taken _ _
+  Y-is = r .y-is ∙ accepted-new e l _ _ accepts
 
   ξ-is : xi ≡ handedξ (settings e) (memory e) (block l)
-  ξ-is = r .xi-is ∙ taken _ _
+  ξ-is = r .xi-is ∙ accepted-new e l _ _ accepts
 
   decision-is : decision ≡ handedDecision (settings e) (memory e) (block l)
-  decision-is = r .decision-is ∙ taken _ _
+  decision-is = r .decision-is ∙ accepted-new e l _ _ accepts
 
   pub handed-long : (length y ≡ e .n) × (length xi ≡ e .n) × (length decision ≡ e .n)
   handed-long =

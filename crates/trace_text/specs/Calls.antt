@@ -6,12 +6,10 @@ use Prim.Native.Nat.{ℕ, _+_, _*_, _^_, _≤_, _<_}
 use lib.ListN.{length, getD}
 use lib.IntN.{ℤ, pos, natAbs}
 use Rattle.steps.specs.Limits.{blockLimit, symbolLimit, outputExponentLimit}
-use Rattle.block.specs.Block.{handedY, handedξ, handedDecision}
-use Rattle.state.specs.State.{settings, memory}
 use Rattle.state.specs.declared.equaliser.Equaliser.{Equaliser}
 use Rattle.state.specs.declared.equaliser.Answer.{Answer}
 use Rattle.checks.specs.Checks.{Lent, block}
-use Rattle.station.specs.Answers.{runNumber, runState, accepted}
+use Rattle.station.specs.Answers.{runNumber, runState, runOutputs}
 use Rattle.trace_text.specs.Trace.{traceLimit, settingsIn, countIn, samplesIn, wellFormed, samplesFrom, gainsFrom, entriesFrom, lentAt}
 use Rattle.trace_text.specs.Text.{blockText, traceText, lineLimit, textLimit}
 use Rattle.trace_text.specs.TextAt.{TextAt, TextFront}
@@ -64,9 +62,9 @@ pub record Runnable (t : List ℕ) (e : Equaliser) (first : ℕ) : Type 0 where
 pub record Ran-is (e : Equaliser) (l : Lent) (a : Answer) (y : List ℤ) (xi : List ℕ) (decision : List ℤ) : Type 0 where
   pub number : a .number ≡ runNumber e l
   pub state : a .state ≡ runState e l
-  pub y-is : y ≡ accepted e l (handedY (settings e) (memory e) (block l)) (l .y)
-  pub xi-is : xi ≡ accepted e l (handedξ (settings e) (memory e) (block l)) (l .xi)
-  pub decision-is : decision ≡ accepted e l (handedDecision (settings e) (memory e) (block l)) (l .decision)
+  pub y-is : y ≡ runOutputs e l .y
+  pub xi-is : xi ≡ runOutputs e l .xi
+  pub decision-is : decision ≡ runOutputs e l .decision
 
 -- the block i, and room for its lines and a line of a refusal
 pub record Blockable (t : List ℕ) (e : Equaliser) (i at : ℕ) (out : List ℕ) : Type 0 where

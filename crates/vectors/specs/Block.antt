@@ -5,15 +5,14 @@ use mathlib.Core.List.{List, _++_}
 use mathlib.Core.Path.{_≡_}
 use Prim.Native.Nat.{ℕ, _+_, _-_, _*_, _≤_}
 use lib.Dec.{leb, eqb}
-use lib.ListN.{length, take, drop, replicate}
+use lib.ListN.{length, replicate}
 use lib.IntN.{ℤ, negsuc}
 use mir.Syntax.{w8, w16}
 use mir.Val.{toZ}
 use Rattle.steps.specs.Limits.{blockLimit}
-use Rattle.block.specs.Block.{values, handedY, handedξ, handedDecision, handedZ, handedθ}
-use Rattle.state.specs.State.{settings, memory}
+use Rattle.block.specs.Block.{values}
 use Rattle.checks.specs.Checks.{Lent, block}
-use Rattle.station.specs.Answers.{runNumber, runState, accepted}
+use Rattle.station.specs.Answers.{runNumber, runState, runOutputs}
 use Rattle.trace_text.specs.Trace.{byteAt, number16}
 use Rattle.laws.specs.Comparisons.{below}
 use Rattle.vectors.specs.Compare.{between, sampleBytes, sameOutputs}
@@ -93,11 +92,11 @@ resultOn v l =
     record {
       number = runNumber e l;
       state = runState e l;
-      y = accepted e l (handedY (settings e) (memory e) (block l)) (l .y) ++ replicate (listLimit - lengthAt v 3) fillLong;
-      xi = accepted e l (handedξ (settings e) (memory e) (block l)) (l .xi) ++ replicate (listLimit - lengthAt v 4) fill;
-      decision = accepted e l (handedDecision (settings e) (memory e) (block l)) (l .decision) ++ replicate (listLimit - lengthAt v 5) fillSigned;
-      z = accepted e l (handedZ (settings e) (memory e) (block l)) (l .z) ++ replicate (listLimit - lengthAt v 6) fillLong;
-      theta = accepted e l (handedθ (settings e) (memory e) (block l)) (l .theta) ++ replicate (listLimit - lengthAt v 7) fill;
+      y = runOutputs e l .y ++ replicate (listLimit - lengthAt v 3) fillLong;
+      xi = runOutputs e l .xi ++ replicate (listLimit - lengthAt v 4) fill;
+      decision = runOutputs e l .decision ++ replicate (listLimit - lengthAt v 5) fillSigned;
+      z = runOutputs e l .z ++ replicate (listLimit - lengthAt v 6) fillLong;
+      theta = runOutputs e l .theta ++ replicate (listLimit - lengthAt v 7) fill;
     }
 
 -- with the three lists in v
