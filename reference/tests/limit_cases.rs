@@ -101,7 +101,12 @@ fn halvings() -> String {
 #[test]
 fn the_program_has_these_lines() {
     let mut text = scale_counts_line() + &set_ups();
-    text += &block("highest sample", &mut state(0, 0, 67108864, 0, 0, 0), 32767, 1);
+    text += &block(
+        "highest sample",
+        &mut state(0, 0, 67108864, 0, 0, 0),
+        32767,
+        1,
+    );
     let mut s = state(0, 0, 67108864, 0, 0, 0);
     text += &block("lowest sample", &mut s, -32768, 1);
     text += &block("zeros after it", &mut s, 0, 0);
