@@ -1,12 +1,13 @@
 //! The station beside the same one by the old rule, in words.
 
 use crate::assumptions::{Assumptions, DAYS_A_YEAR};
-use crate::history::{OldRule, Reading};
+use crate::history::Reading;
+use crate::outcome::Outcome;
 use crate::power::ErrorPower;
 use crate::words;
 
 /// A reading with its own by the old rule.
-type Pair<'a> = (&'a Reading, &'a OldRule);
+type Pair<'a> = (&'a Reading, &'a Outcome);
 
 /// Lines for the summary; none where the old rule is not run.
 pub fn lines(given: &Assumptions, readings: &[Reading]) -> String {
@@ -69,7 +70,7 @@ fn stretch(given: &Assumptions, readings: &[Reading], when: &str, spell: &str) -
         "{} {when} the {spell}: ψ {} at the end, error power {own}; by the old rule ψ {}, {by_old}\n",
         words::count(days as u64, "day"),
         last.record.psi,
-        old.psi
+        old.record.psi
     )
 }
 
@@ -86,7 +87,7 @@ fn in_words(powers: impl Iterator<Item = ErrorPower>) -> String {
 }
 
 fn where_greater(all: &[Pair]) -> String {
-    let greater = |(x, old): &&Pair| old.psi > x.record.psi;
+    let greater = |(x, old): &&Pair| old.record.psi > x.record.psi;
     let there: Vec<Pair> = all.iter().filter(greater).copied().collect();
     let (own, old) = powers(&there);
     let share = words::share(there.len() as u64, all.len() as u64, "reading", "");
@@ -98,7 +99,7 @@ fn where_greater(all: &[Pair]) -> String {
 }
 
 fn totals(all: &[Pair]) -> String {
-    let lost = all.iter().filter(|(_, old)| !old.received).count() as u64;
+    let lost = all.iter().filter(|(_, old)| old.received.is_none()).count() as u64;
     let symbols = all.iter().map(|(x, _)| u64::from(x.symbols)).sum();
     let wrong = all.iter().map(|(_, old)| u64::from(old.wrong)).sum();
     format!(

@@ -4,7 +4,7 @@ use crate::assumptions::Assumptions;
 use crate::burst::{Burst, Sender};
 use crate::cable::{CableModel, Weather};
 use crate::old_rule::RisesOnly;
-use crate::payload;
+use crate::outcome::Outcome;
 use crate::power::ErrorPower;
 use crate::random::{Purpose, Random};
 use crate::station::{Decided, Return, Station};
@@ -34,16 +34,7 @@ pub struct Reading {
     pub power_lost: Option<Return>,
     pub refused: [u32; 10],
     /// The same reading by the old rule, where that is run.
-    pub old: Option<OldRule>,
-}
-
-/// What the station came to by the old rule.
-#[derive(Clone, Copy, Debug)]
-pub struct OldRule {
-    pub psi: u8,
-    pub error_power: Option<ErrorPower>,
-    pub wrong: u32,
-    pub received: bool,
+    pub old: Option<Outcome>,
 }
 
 impl Reading {
@@ -98,20 +89,25 @@ pub fn run_beside(
 }
 
 impl World<'_> {
-    /// Passes a burst through the cable, and what is received to the stations.
-    fn pass(&mut self, burst: &Burst, weather: &Weather) -> Result<Both, String> {
+    /// Passes a burst through the cable.
+    fn receive(&mut self, burst: &Burst, weather: &Weather) -> Vec<f64> {
         let unheard = self.sender.lead() + 1 - weather.taps.len();
-        let levels = self.cable.receive(weather, &burst.sent[unheard..]);
-        let own = self.station.burst(&levels, &burst.entries)?;
+        self.cable.receive(weather, &burst.sent[unheard..])
+    }
+
+    /// Passes what is received of a burst to the stations.
+    fn hear(&mut self, levels: &[f64], burst: &Burst) -> Result<Both, String> {
+        let own = self.station.burst(levels, &burst.entries)?;
         let old = self.old.as_mut();
-        let old = old.map(|station| station.burst(&levels, &burst.entries));
+        let old = old.map(|station| station.burst(levels, &burst.entries));
         Ok((own, old.transpose()?))
     }
 
     fn commission(&mut self) -> Result<(), String> {
         let weather = self.cable.weather(0.0);
         let burst = self.sender.commissioning();
-        self.pass(&burst, &weather).map(|_| ())
+        let levels = self.receive(&burst, &weather);
+        self.hear(&levels, &burst).map(|_| ())
     }
 
     /// Whether power is lost before a reading, and how the station came back.
@@ -145,75 +141,31 @@ impl World<'_> {
         let weather = self.cable.weather(day);
         let pressure_sent = self.given.pressure.number_at(day);
         let burst = self.sender.reading(pressure_sent);
-        let (blocks, old_blocks) = self.pass(&burst, &weather)?;
-        let payload = self.payload(&blocks);
+        let levels = self.receive(&burst, &weather);
+        let (blocks, old_blocks) = self.hear(&levels, &burst)?;
+        let by = |blocks: &[Decided]| Outcome::of(self.given, &burst, blocks);
+        let (own, old) = (by(&blocks), old_blocks.map(|blocks| by(&blocks)));
         let saved = self.save(number);
         Ok(Reading {
             number,
             day,
             pressure_true: self.given.pressure.at(day),
             pressure_sent,
-            pressure_received: self.pressure_received(payload, burst.scrambler),
+            pressure_received: own.received,
             symbols: burst.payload.len() as u32,
-            wrong: wrong(payload, &burst.payload),
-            error_power: error_power(payload),
+            wrong: own.wrong,
+            error_power: own.error_power,
             gain_least: blocks.iter().map(|b| b.gain).min().unwrap_or(0),
             gain_most: blocks.iter().map(|b| b.gain).max().unwrap_or(0),
             clipped: blocks.iter().map(|b| b.clipped).sum(),
-            record: *self.station.record(),
+            record: own.record,
             loud: weather.loud,
             faint: weather.faint,
             joint: weather.joint,
             saved,
             power_lost,
             refused: self.station.refused,
-            old: old_blocks.and_then(|blocks| self.by_old_rule(&blocks, &burst)),
+            old,
         })
     }
-
-    /// The blocks after the preamble.
-    fn payload<'b>(&self, blocks: &'b [Decided]) -> &'b [Decided] {
-        &blocks[self.given.burst.preamble_blocks as usize..]
-    }
-
-    fn by_old_rule(&self, blocks: &[Decided], burst: &Burst) -> Option<OldRule> {
-        let payload = self.payload(blocks);
-        let received = self.pressure_received(payload, burst.scrambler);
-        Some(OldRule {
-            psi: self.old.as_ref()?.record().psi,
-            error_power: error_power(payload),
-            wrong: wrong(payload, &burst.payload),
-            received: received.is_some(),
-        })
-    }
-
-    fn pressure_received(&self, payload: &[Decided], scrambler: u32) -> Option<u16> {
-        let r = self.given.sizes.r;
-        let decisions: Vec<i8> = payload
-            .iter()
-            .flat_map(|b| b.decisions.iter().copied())
-            .collect();
-        if decisions.len() < self.given.payload_symbols() {
-            return None;
-        }
-        payload::receive(&decisions, scrambler, r)
-    }
-}
-
-/// Payload symbols that were not decided as sent; in a block that was turned
-/// down that is all of them.
-fn wrong(blocks: &[Decided], sent: &[i8]) -> u32 {
-    let parts = sent.chunks(sent.len() / blocks.len());
-    let right = |(block, part): (&Decided, &[i8])| {
-        let pairs = block.decisions.iter().zip(part);
-        pairs
-            .filter(|(decision, symbol)| decision == symbol)
-            .count()
-    };
-    (sent.len() - blocks.iter().zip(parts).map(right).sum::<usize>()) as u32
-}
-
-/// The error power over the accepted blocks.
-fn error_power(blocks: &[Decided]) -> Option<ErrorPower> {
-    ErrorPower::joined(blocks.iter().filter_map(|block| block.error_power))
 }

@@ -18,6 +18,7 @@ pub mod curve;
 pub mod files;
 pub mod history;
 pub mod old_rule;
+pub mod outcome;
 pub mod page;
 pub mod payload;
 pub mod power;

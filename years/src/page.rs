@@ -2,7 +2,8 @@
 
 use crate::axis::Axis;
 use crate::curve::{floors, line, steps, Curve, Look, Point, Rows, BLACK, BLUE, GREY, ORANGE, RED};
-use crate::history::{OldRule, Reading};
+use crate::history::Reading;
+use crate::outcome::Outcome;
 use crate::power::{ErrorPower, CUT_NOTE, ZERO_NOTE};
 use crate::station::Return;
 use crate::table::{largest_back, largest_forward};
@@ -284,7 +285,7 @@ fn share_panel(
 }
 
 /// A note on how many there are by the old rule.
-fn count_old(view: &View, of: impl Fn(&OldRule) -> u64) -> Option<String> {
+fn count_old(view: &View, of: impl Fn(&Outcome) -> u64) -> Option<String> {
     let all = view.total(|x| x.old.as_ref().map_or(0, &of));
     view.has_old().then(|| format!("by the old rule: {all}"))
 }
@@ -294,7 +295,7 @@ fn lost(view: &View) -> Panel {
     let mut panel = share_panel(view, words, (70.0, RED), is_lost, |_| 1);
     panel
         .notes
-        .extend(count_old(view, |b| (!b.received).into()));
+        .extend(count_old(view, |b| b.received.is_none().into()));
     panel
 }
 
@@ -410,7 +411,7 @@ fn weight(view: &View, name: &str, of: fn(&Reading) -> f64, height: f64) -> Pane
 
 fn exponent_and_gain(view: &View) -> Panel {
     let psi = view.held(|x| x.record.psi.into());
-    let old = view.held_old(|b| b.psi.into());
+    let old = view.held_old(|b| b.record.psi.into());
     let gain = view.means(|x| Some((f64::from(x.gain_least) + f64::from(x.gain_most)) / 2.0));
     let (_, high) = ends(&psi, 0.0, 1.0);
     let (_, high) = ends(&old, 0.0, high);

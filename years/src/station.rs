@@ -28,6 +28,8 @@ pub struct Decided {
     pub decisions: Vec<i8>,
     /// None where it was.
     pub error_power: Option<ErrorPower>,
+    /// After the block.
+    pub record: Equaliser,
     pub gain: u8,
     /// Samples beyond the converter's range.
     pub clipped: u32,
@@ -96,6 +98,7 @@ impl<'a> Station<'a> {
         Ok(Decided {
             decisions,
             error_power,
+            record: self.record,
             gain,
             clipped: beyond.iter().filter(|b| **b).count() as u32,
         })

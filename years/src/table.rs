@@ -3,7 +3,8 @@
 use crate::assumptions::{Assumptions, DAYS_A_YEAR};
 use crate::comparison;
 use crate::converter::power_of_two;
-use crate::history::{OldRule, Reading};
+use crate::history::Reading;
+use crate::outcome::Outcome;
 use crate::power::ErrorPower;
 use crate::station::Return;
 use crate::words;
@@ -64,14 +65,14 @@ fn power(power: Option<ErrorPower>) -> [String; 2] {
     })
 }
 
-fn by_old_rule(old: &OldRule) -> [String; 5] {
+fn by_old_rule(old: &Outcome) -> [String; 5] {
     let [power, kind] = power(old.error_power);
     [
-        old.psi.to_string(),
+        old.record.psi.to_string(),
         power,
         kind,
         old.wrong.to_string(),
-        u8::from(!old.received).to_string(),
+        u8::from(old.received.is_none()).to_string(),
     ]
 }
 

@@ -2,7 +2,8 @@
 
 use crate::assumptions::{Assumptions, DAYS_A_YEAR};
 use crate::curve::Point;
-use crate::history::{OldRule, Reading};
+use crate::history::Reading;
+use crate::outcome::Outcome;
 use crate::power::ErrorPower;
 
 /// A page draws reading by reading up to so many, days up to so many, weeks
@@ -88,7 +89,8 @@ pub fn received(part: &[Reading]) -> bool {
 }
 
 fn received_old(part: &[Reading]) -> bool {
-    part.iter().any(|x| x.old.is_some_and(|b| b.received))
+    part.iter()
+        .any(|x| x.old.is_some_and(|b| b.received.is_some()))
 }
 
 /// The mean of what the readings have, where one has any.
@@ -219,7 +221,7 @@ impl<'a> View<'a> {
     }
 
     /// The same by the old rule.
-    pub fn held_old(&self, of: impl Fn(&OldRule) -> f64) -> Vec<Point> {
+    pub fn held_old(&self, of: impl Fn(&Outcome) -> f64) -> Vec<Point> {
         self.held_by(received_old, |x| x.old.as_ref().map(&of))
     }
 

@@ -8,8 +8,9 @@ use std::sync::OnceLock;
 use tigbulode::sides::{Library, Operations};
 use tigbulode::{Answer, Block, Equaliser, Outputs, Saved};
 use years::assumptions::Assumptions;
-use years::history::{run_beside, OldRule, Reading};
+use years::history::{run_beside, Reading};
 use years::old_rule::RisesOnly;
+use years::outcome::Outcome;
 use years::page::{page, Page};
 use years::power::ErrorPower;
 use years::script::script;
@@ -45,7 +46,7 @@ fn beside(other: &dyn Operations) -> Vec<Reading> {
     run_beside(&given(&SPELLS), other, |_| {}).expect("every block is read")
 }
 
-fn old(reading: &Reading) -> OldRule {
+fn old(reading: &Reading) -> Outcome {
     reading.old.expect("the old rule is run")
 }
 
@@ -68,7 +69,7 @@ fn powers(readings: &[Reading], days: std::ops::Range<f64>) -> (f64, f64) {
 fn exponents(readings: &[Reading], day: f64) -> (u8, u8) {
     let last = readings.iter().rfind(|x| x.day < day + 1.0);
     let last = last.expect("a reading");
-    (last.record.psi, old(last).psi)
+    (last.record.psi, old(last).record.psi)
 }
 
 /// What is found wrong in the history of [`SPELLS`].
@@ -106,10 +107,10 @@ fn errors_are_smaller(readings: &[Reading]) -> Wrong {
 
 fn alike(reading: &Reading) -> bool {
     let old = old(reading);
-    reading.record.psi == old.psi
+    reading.record.psi == old.record.psi
         && reading.error_power == old.error_power
         && reading.wrong == old.wrong
-        && reading.pressure_received.is_some() == old.received
+        && reading.pressure_received == old.received
 }
 
 /// Both are the same until the exponent first falls.
@@ -258,7 +259,7 @@ fn without_a_check_sum_a_bent_exponent_cost_years_by_the_old_rule() {
         ("faint_days", "0"),
     ]));
     let lost = readings.iter().filter(|x| x.pressure_received.is_none());
-    let lost_old = readings.iter().filter(|x| !old(x).received);
+    let lost_old = readings.iter().filter(|x| old(x).received.is_none());
     assert_eq!((lost.count(), lost_old.count()), (61, 2178));
 }
 
