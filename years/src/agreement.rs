@@ -18,6 +18,7 @@ pub fn problems(given: &Assumptions) -> Vec<Sentence> {
 /// What is possible and leaves no trace in the history.
 pub fn notes(given: &Assumptions) -> Vec<Sentence> {
     let (loud, faint, joint) = (&given.loud, &given.faint, &given.joint);
+    let (swap, swap_readings) = (&given.swap, given.swap.readings.into());
     let spells = [
         ("loud_first_day", "loud spell", loud.first_day, loud.days),
         (
@@ -32,6 +33,7 @@ pub fn notes(given: &Assumptions) -> Vec<Sentence> {
             joint.first_day,
             joint.days,
         ),
+        ("swap_day", "swapped joint", swap.day, swap_readings),
     ];
     let days = given.days();
     let absent = spells

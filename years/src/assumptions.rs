@@ -19,6 +19,7 @@ pub struct Assumptions {
     pub loud: Spell,
     pub faint: Spell,
     pub joint: Joint,
+    pub swap: Swap,
     pub power: Power,
     pub pressure: Pressure,
     /// Whether the same station by the old rule runs beside it.
@@ -82,6 +83,14 @@ pub struct Joint {
     pub active: f64,
     pub impulses: f64,
     pub peak: f64,
+}
+
+/// A joint that is swapped, for copies of the station alone.
+#[derive(Clone, Copy, Debug, PartialEq)]
+pub struct Swap {
+    pub day: f64,
+    /// For so many readings; 0 for no swap.
+    pub readings: u32,
 }
 
 #[derive(Clone, Copy, Debug, PartialEq)]
@@ -150,6 +159,7 @@ impl Assumptions {
             loud: Spell::take(t, "loud"),
             faint: Spell::take(t, "faint"),
             joint: Joint::take(t),
+            swap: Swap::take(t),
             power: Power::take(t),
             pressure: Pressure::take(t),
             old_rule: t.whole("old_rule", 0..=1) == 1,
@@ -260,6 +270,15 @@ impl Joint {
             active: t.number("joint_active", 0.0..=1.0),
             impulses: t.number("joint_impulses", 0.0..=1.0),
             peak: t.number("joint_peak", 0.0..=8.0),
+        }
+    }
+}
+
+impl Swap {
+    fn take(t: &mut Reader) -> Swap {
+        Swap {
+            day: t.number("swap_day", 0.0..=36525.0),
+            readings: t.whole("swap_readings", 0..=200) as u32,
         }
     }
 }

@@ -8,6 +8,7 @@ use crate::outcome::Outcome;
 use crate::power::ErrorPower;
 use crate::random::{Purpose, Random};
 use crate::station::{Decided, Return, Station};
+use crate::swap::{Swap, SwapReading};
 use tigbulode::sides::{Library, Operations};
 use tigbulode::Equaliser;
 
@@ -37,6 +38,14 @@ pub struct Reading {
     pub old: Option<Outcome>,
 }
 
+/// What came of the years.
+#[derive(Debug)]
+pub struct History {
+    pub readings: Vec<Reading>,
+    /// Those around a swapped joint, by copies of the station.
+    pub swapped: Vec<SwapReading>,
+}
+
 impl Reading {
     /// A wrong pressure that the check bits let pass.
     pub fn is_wrong(&self) -> bool {
@@ -53,6 +62,7 @@ struct World<'a> {
     /// The same station by the old rule.
     old: Option<Station<'a>>,
     losses: Random,
+    swap: Swap<'a>,
 }
 
 /// The blocks of a burst, by the station and by the old rule.
@@ -60,7 +70,7 @@ type Both = (Vec<Decided>, Option<Vec<Decided>>);
 
 /// Every reading in turn; `done` is told how many there are so far. A message
 /// where what a block handed out can't be read.
-pub fn run(given: &Assumptions, done: impl FnMut(u32)) -> Result<Vec<Reading>, String> {
+pub fn run(given: &Assumptions, done: impl FnMut(u32)) -> Result<History, String> {
     run_beside(given, &RisesOnly, done)
 }
 
@@ -69,7 +79,7 @@ pub fn run_beside(
     given: &Assumptions,
     old: &dyn Operations,
     mut done: impl FnMut(u32),
-) -> Result<Vec<Reading>, String> {
+) -> Result<History, String> {
     let old = given.old_rule.then(|| Station::new(given, old));
     let mut world = World {
         given,
@@ -78,6 +88,7 @@ pub fn run_beside(
         station: Station::new(given, &Library),
         old,
         losses: Random::new(given.seed, Purpose::Power),
+        swap: Swap::new(given),
     };
     world.commission()?;
     let mut readings = Vec::new();
@@ -85,7 +96,10 @@ pub fn run_beside(
         readings.push(world.reading(number)?);
         done(number + 1);
     }
-    Ok(readings)
+    Ok(History {
+        readings,
+        swapped: world.swap.readings,
+    })
 }
 
 impl World<'_> {
@@ -142,6 +156,8 @@ impl World<'_> {
         let pressure_sent = self.given.pressure.number_at(day);
         let burst = self.sender.reading(pressure_sent);
         let levels = self.receive(&burst, &weather);
+        let (station, now) = (&self.station, (number, pressure_sent));
+        self.swap.hear(now, station, &levels, &burst)?;
         let (blocks, old_blocks) = self.hear(&levels, &burst)?;
         let by = |blocks: &[Decided]| Outcome::of(self.given, &burst, blocks);
         let (own, old) = (by(&blocks), old_blocks.map(|blocks| by(&blocks)));

@@ -5,10 +5,10 @@ use std::path::Path;
 use std::process::ExitCode;
 use years::assumptions::{notes, parse, Assumptions};
 use years::files::{is_same, remove, remove_unlike, Part};
-use years::history::{self, Reading};
+use years::history::{self, History, Reading};
 use years::page::page;
 use years::view::View;
-use years::{progress::Progress, script, table, words};
+use years::{progress::Progress, script, swap_page, swap_words, table, words};
 
 const USAGE: &str = "\
 usage: years ASSUMPTIONS OUTDIR
@@ -16,13 +16,23 @@ Runs one station through the years that the file ASSUMPTIONS describes and write
   years.csv             a row for each reading
   summary.txt           what came of them
   years-assumptions.txt a copy of ASSUMPTIONS, where that isn't this file itself
-  years.gnuplot, loud-spell.gnuplot, faint-spell.gnuplot, noisy-joint.gnuplot
+  swapped-joint.csv     the readings around a swapped joint, where there is one
+  years.gnuplot, loud-spell.gnuplot, faint-spell.gnuplot, noisy-joint.gnuplot, swapped-joint.gnuplot
                         a page each; gnuplot writes its picture to standard output
 Those of an earlier run are replaced, and its pictures removed. The script years/run draws the pictures too.
 ";
 
 /// The pages' names.
-const PAGES: [&str; 4] = ["years", "loud-spell", "faint-spell", "noisy-joint"];
+const PAGES: [&str; 5] = [
+    "years",
+    "loud-spell",
+    "faint-spell",
+    "noisy-joint",
+    "swapped-joint",
+];
+
+/// The table of a swapped joint.
+const SWAPPED: &str = "swapped-joint.csv";
 
 fn main() -> ExitCode {
     let arguments: Vec<_> = std::env::args_os().skip(1).collect();
@@ -56,15 +66,16 @@ fn run(path: &Path, outdir: &Path) -> Result<String, (u8, String)> {
     std::fs::create_dir_all(outdir)
         .map_err(|e| (1, format!("{}: can't be made: {e}", outdir.display())))?;
     let mut progress = Progress::new(given.readings());
-    let readings =
-        history::run(&given, |done| progress.at(done)).map_err(|message| (1, message))?;
-    let summary = table::summary(&given, &readings);
+    let history = history::run(&given, |done| progress.at(done)).map_err(|message| (1, message))?;
+    let summary = table::summary(&given, &history);
     let mut texts = vec![("summary.txt".to_string(), summary.clone())];
     if !is_same(path, &outdir.join("years-assumptions.txt")) {
         texts.push(("years-assumptions.txt".to_string(), text));
     }
-    texts.extend(scripts(&given, &readings));
-    write(&given, &readings, &texts, outdir).map_err(|message| (1, message))?;
+    let swapped = swap_words::csv(&given, &history.swapped);
+    texts.extend(swapped.map(|text| (SWAPPED.to_string(), text)));
+    texts.extend(scripts(&given, &history));
+    write(&given, &history.readings, &texts, outdir).map_err(|message| (1, message))?;
     Ok(summary)
 }
 
@@ -116,12 +127,14 @@ fn clear(texts: &[(String, String)], outdir: &Path) -> Result<(), String> {
         remove_unlike(&outdir.join(name), text)?;
     }
     drawn
+        .chain([SWAPPED.to_string()])
         .map(|name| outdir.join(name))
         .try_for_each(|path| remove(&path))
 }
 
 /// The script of each page that there is.
-fn scripts(given: &Assumptions, readings: &[Reading]) -> Vec<(String, String)> {
+fn scripts(given: &Assumptions, history: &History) -> Vec<(String, String)> {
+    let readings = &history.readings;
     let years = words::count(given.years.into(), "year");
     let around = |mark: &str| format!("One station, the days around its {mark}");
     let views = [
@@ -142,8 +155,12 @@ fn scripts(given: &Assumptions, readings: &[Reading]) -> Vec<(String, String)> {
             around("noisy joint"),
         ),
     ];
-    let named = PAGES.into_iter().zip(views);
-    let there = named.filter_map(|(name, (view, title))| Some((name, page(&view?, title))));
+    let of_views = views
+        .into_iter()
+        .map(|(view, title)| Some(page(&view?, title)));
+    let pages = of_views.chain([swap_page::page(given, &history.swapped)]);
+    let named = PAGES.into_iter().zip(pages);
+    let there = named.filter_map(|(name, page)| Some((name, page?)));
     there
         .map(|(name, page)| (format!("{name}.gnuplot"), script::script(&page)))
         .collect()

@@ -14,7 +14,7 @@ pub struct Page {
     pub title: String,
     pub lines: Vec<String>,
     pub time: Axis,
-    pub time_name: &'static str,
+    pub time_label: String,
     pub shades: Vec<Shade>,
     /// The first panel that has dots in place of a line, and what they are.
     pub dots: Option<(usize, &'static str)>,
@@ -55,7 +55,7 @@ fn values(points: &[Point]) -> impl Iterator<Item = f64> + '_ {
 }
 
 /// The least and the greatest value, and the given ones among them.
-fn ends(points: &[Point], low: f64, high: f64) -> (f64, f64) {
+pub fn ends(points: &[Point], low: f64, high: f64) -> (f64, f64) {
     values(points).fold((low, high), |(low, high), v| (low.min(v), high.max(v)))
 }
 
@@ -67,7 +67,10 @@ pub fn page(view: &View, title: String) -> Page {
         title,
         lines: head(view),
         time: Axis::between(view.from, view.to, most, 0.1),
-        time_name: if years { "years" } else { "days" },
+        time_label: format!(
+            "time since installation, {}",
+            if years { "years" } else { "days" }
+        ),
         shades: shades(view),
         dots: dots(view, &panels),
         panels,
@@ -80,10 +83,9 @@ fn head(view: &View) -> Vec<String> {
     let lost = words::share(view.total(is_lost), readings, "reading", "lost");
     let past = words::count(past, "wrong pressure");
     let [taps, step] = words::settings(&view.given.sizes);
-    let proved = "By proved libraries: every block, save and load, each block's error power.";
     let mut lines = vec![
         format!("{lost}, {past} past the check"),
-        format!("Assumed: cable, noise, gain control, converter. {proved}"),
+        PROVED.to_string(),
         taps,
         format!("{step}; {}", words::extent(view.given)),
     ];
@@ -91,6 +93,10 @@ fn head(view: &View) -> Vec<String> {
     lines.extend(words::other_than_default(&view.given.changes));
     lines
 }
+
+/// What is assumed, and what is not.
+pub const PROVED: &str = "Assumed: cable, noise, gain control, converter. \
+     By proved libraries: every block, save and load, each block's error power.";
 
 const OLD_RULE: &str =
     "Broken orange line, seen where it differs: the same station by the old rule \
@@ -360,7 +366,7 @@ fn floor_marks(powers: &[Drawn]) -> Curve {
     floors(powers.iter().filter(is_floor).filter_map(place))
 }
 
-fn power_notes(powers: &[Drawn]) -> Vec<String> {
+pub fn power_notes(zero: bool) -> Vec<String> {
     let mut notes = vec![
         "0 dB: one symbol unit (r.m.s.), half the",
         "distance between neighbours; the error",
@@ -368,7 +374,7 @@ fn power_notes(powers: &[Drawn]) -> Vec<String> {
         "that only guesses shows about −5 dB;",
         CUT_NOTE,
     ];
-    notes.extend(any(powers, ErrorPower::is_zero).then_some(ZERO_NOTE));
+    notes.extend(zero.then_some(ZERO_NOTE));
     notes.into_iter().map(str::to_string).collect()
 }
 
@@ -384,7 +390,7 @@ fn error_power(view: &View) -> Panel {
     curves.extend(line(&points(&old), OLD, Some(&old_title)));
     curves.extend(line(&points(&own), THICK, Some(&title)));
     curves.push(floor_marks(&all));
-    let notes = power_notes(&all);
+    let notes = power_notes(any(&all, ErrorPower::is_zero));
     let marked = any(&all, ErrorPower::is_floor);
     Panel {
         height: 150.0 + 20.0 * notes.len() as f64 + if marked { 24.0 } else { 0.0 },

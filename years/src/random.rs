@@ -14,6 +14,7 @@ pub enum Purpose {
     Damage = 7,
 }
 
+#[derive(Clone)]
 pub struct Random(u64);
 
 impl Random {

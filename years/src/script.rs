@@ -153,9 +153,8 @@ fn drawn(page: &Page, place: usize, panel: &Panel, sheet: &Sheet, top: f64) -> S
     text.push_str(&y_ticks(axis));
     let _ = writeln!(text, "set xtics ({})", ticks(&page.time, last));
     if last {
-        let name = format!("time since installation, {}", page.time_name);
         let middle = (LEFT + RIGHT) / 2.0;
-        text.push_str(&sheet.label(&name, middle, end + 56.0, "center"));
+        text.push_str(&sheet.label(&page.time_label, middle, end + 56.0, "center"));
     }
     text.push_str(&words(panel, sheet, top));
     let key_top = top + LINE + 20.0 * panel.notes.len() as f64 - 2.0;

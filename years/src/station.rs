@@ -7,7 +7,9 @@ use crate::power::{ErrorPower, Handed};
 use crate::random::{Purpose, Random};
 use tigbulode::sides::Operations;
 use tigbulode::{Block, Equaliser, Outputs, IMAGE_BYTES};
+use tigbulode_laboratory::Reading;
 
+#[derive(Clone)]
 pub struct Station<'a> {
     given: &'a Assumptions,
     /// The library, or what stands in for it.
@@ -23,9 +25,12 @@ pub struct Station<'a> {
 }
 
 /// What came of one block.
+#[derive(Clone, Debug)]
 pub struct Decided {
     /// Empty where the block was turned down.
     pub decisions: Vec<i8>,
+    /// y and the error of each sample; empty where it was.
+    pub readings: Vec<Reading>,
     /// None where it was.
     pub error_power: Option<ErrorPower>,
     /// After the block.
@@ -33,7 +38,13 @@ pub struct Decided {
     pub gain: u8,
     /// Samples beyond the converter's range.
     pub clipped: u32,
+    /// Whether a sample is −32768.
+    pub lowest: bool,
 }
+
+/// Decisions, y and error of each sample, and the error power; none of them
+/// where the block was turned down.
+type Answered = (Vec<i8>, Vec<Reading>, Option<ErrorPower>);
 
 /// How the station came back after a loss of power.
 #[derive(Clone, Copy, PartialEq, Eq, Debug)]
@@ -67,6 +78,23 @@ impl<'a> Station<'a> {
         &self.record
     }
 
+    /// A copy with another record.
+    pub fn with_record(&self, record: Equaliser) -> Station<'a> {
+        Station {
+            record,
+            ..self.clone()
+        }
+    }
+
+    /// A copy that is set up anew.
+    pub fn set_up_anew(&self) -> Station<'a> {
+        self.with_record(self.fresh())
+    }
+
+    fn fresh(&self) -> Equaliser {
+        self.by.set_up(self.given.sizes.settings()).state
+    }
+
     fn count(&mut self, number: u8) {
         if number != 0 {
             self.refused[usize::from(number)] += 1;
@@ -90,22 +118,24 @@ impl<'a> Station<'a> {
         self.level = peak(levels).max(self.given.gain.hold * self.level);
         let converted = levels.iter().map(|x| convert(*x, sizes.r, gain));
         let (samples, beyond): (Vec<i16>, Vec<bool>) = converted.unzip();
-        let (decisions, error_power) = self.run(Block {
+        let (decisions, readings, error_power) = self.run(Block {
             samples: &samples,
             gains: &vec![gain; samples.len()],
             entries,
         })?;
         Ok(Decided {
             decisions,
+            readings,
             error_power,
             record: self.record,
             gain,
             clipped: beyond.iter().filter(|b| **b).count() as u32,
+            lowest: samples.contains(&i16::MIN),
         })
     }
 
-    /// The decisions and the error power of one call.
-    fn run(&mut self, block: Block) -> Result<(Vec<i8>, Option<ErrorPower>), String> {
+    /// The decisions, the readings and the error power of one call.
+    fn run(&mut self, block: Block) -> Result<Answered, String> {
         let n = block.samples.len();
         let (mut y, mut z) = (vec![0; n], vec![0; n]);
         let (mut xi, mut theta) = (vec![0; n], vec![0; n]);
@@ -120,7 +150,7 @@ impl<'a> Station<'a> {
         let number = self.by.run(&mut self.record, block, out);
         if number != 0 {
             self.count(number);
-            return Ok((Vec::new(), None));
+            return Ok((Vec::new(), Vec::new(), None));
         }
         let handed = Handed {
             y: &y,
@@ -128,8 +158,8 @@ impl<'a> Station<'a> {
             z: &z,
             theta: &theta,
         };
-        let (_, power) = handed.read()?;
-        Ok((decision, Some(ErrorPower::of_block(power))))
+        let (readings, power) = handed.read()?;
+        Ok((decision, readings, Some(ErrorPower::of_block(power))))
     }
 
     /// Keeps the image of the record, and its check sum beside it.
@@ -149,7 +179,7 @@ impl<'a> Station<'a> {
     /// or M are not the station's own, the station is set up anew.
     pub fn lose_power(&mut self) -> Return {
         self.level = full_scale(self.given.sizes.r, self.given.sizes.l);
-        self.record = self.by.set_up(self.given.sizes.settings()).state;
+        self.record = self.fresh();
         let Some((kept, sum)) = self.image.clone() else {
             return Return::SetUpAnew;
         };

@@ -3,16 +3,17 @@
 use crate::assumptions::{Assumptions, DAYS_A_YEAR};
 use crate::comparison;
 use crate::converter::power_of_two;
-use crate::history::Reading;
+use crate::history::{History, Reading};
 use crate::outcome::Outcome;
 use crate::power::ErrorPower;
 use crate::station::Return;
+use crate::swap_words;
 use crate::words;
 use std::io::{Result, Write};
+use tigbulode::Equaliser;
 
 /// Weights times their unit, feed forward first.
-fn weights(reading: &Reading) -> Vec<f64> {
-    let record = &reading.record;
+pub fn weights(record: &Equaliser) -> Vec<f64> {
     let taps = usize::from(record.p + record.q);
     let unit = power_of_two(i32::from(record.psi) - 15);
     record.weights[..taps]
@@ -30,11 +31,18 @@ fn largest(weights: &[f64]) -> f64 {
 }
 
 pub fn largest_forward(reading: &Reading) -> f64 {
-    largest(&weights(reading)[..usize::from(reading.record.p)])
+    largest(&weights(&reading.record)[..usize::from(reading.record.p)])
 }
 
 pub fn largest_back(reading: &Reading) -> f64 {
-    largest(&weights(reading)[usize::from(reading.record.p)..])
+    largest(&weights(&reading.record)[usize::from(reading.record.p)..])
+}
+
+/// The columns of all weights.
+pub fn weight_names(given: &Assumptions) -> Vec<String> {
+    let forward = (0..given.sizes.p).map(|i| format!("feed forward {i}"));
+    let back = (1..=given.sizes.q).map(|i| format!("feedback {i}"));
+    forward.chain(back).collect()
 }
 
 fn header(given: &Assumptions) -> String {
@@ -44,9 +52,10 @@ fn header(given: &Assumptions) -> String {
          clipped samples,loud spell,faint spell,noisy joint,saved,power lost,refused"
         .to_string();
     let numbers = (1..=9).map(|n| format!(",refused {n}"));
-    let forward = (0..given.sizes.p).map(|i| format!(",feed forward {i}"));
-    let back = (1..=given.sizes.q).map(|i| format!(",feedback {i}"));
-    line.extend(numbers.chain(forward).chain(back));
+    let weights = weight_names(given)
+        .into_iter()
+        .map(|name| format!(",{name}"));
+    line.extend(numbers.chain(weights));
     if given.old_rule {
         line.push_str(OLD_RULE);
     }
@@ -59,14 +68,14 @@ const OLD_RULE: &str = ",psi by the old rule,error power by the old rule (square
      mean or floor by the old rule,wrong decisions by the old rule,lost by the old rule";
 
 /// The power with all its digits, and whether it is a mean or only a floor.
-fn power(power: Option<ErrorPower>) -> [String; 2] {
+pub fn power_fields(power: Option<ErrorPower>) -> [String; 2] {
     power.map_or([String::new(), String::new()], |power| {
         [format!("{:e}", power.value()), power.kind().to_string()]
     })
 }
 
 fn by_old_rule(old: &Outcome) -> [String; 5] {
-    let [power, kind] = power(old.error_power);
+    let [power, kind] = power_fields(old.error_power);
     [
         old.record.psi.to_string(),
         power,
@@ -81,7 +90,7 @@ fn bar(given: &Assumptions, number: Option<u16>) -> String {
 }
 
 fn row(given: &Assumptions, reading: &Reading) -> String {
-    let weights = weights(reading);
+    let weights = weights(&reading.record);
     let lost = reading.power_lost.map_or(0, |how| how as u8);
     let mut fields = vec![
         reading.number.to_string(),
@@ -93,7 +102,7 @@ fn row(given: &Assumptions, reading: &Reading) -> String {
         reading.symbols.to_string(),
         reading.wrong.to_string(),
     ];
-    fields.extend(power(reading.error_power));
+    fields.extend(power_fields(reading.error_power));
     fields.extend([largest_forward, largest_back].map(|of| format!("{:.6}", of(reading))));
     let record = &reading.record;
     let gains = [reading.gain_least, reading.gain_most];
@@ -122,7 +131,8 @@ pub fn csv(given: &Assumptions, readings: &[Reading], out: &mut impl Write) -> R
 type Kind = (&'static str, fn(&Reading) -> bool);
 
 /// The settings, then what came of them.
-pub fn summary(given: &Assumptions, readings: &[Reading]) -> String {
+pub fn summary(given: &Assumptions, history: &History) -> String {
+    let readings = &history.readings;
     let kinds: [Kind; 5] = [
         ("all", |_| true),
         ("quiet", |x| !x.loud && !x.faint && !x.joint),
@@ -141,6 +151,7 @@ pub fn summary(given: &Assumptions, readings: &[Reading]) -> String {
     text.push_str(&wrong_pressures(given, readings));
     text.push_str(&returns(readings));
     text.push_str(&comparison::lines(given, readings));
+    text.push_str(&swap_words::lines(given, &history.swapped));
     let refused = readings.last().map_or([0; 10], |x| x.refused);
     let by_number = (1..10).map(|n| format!(" {n}: {}", refused[n]));
     let by_number = by_number.collect::<Vec<_>>().join(",");

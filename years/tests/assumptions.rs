@@ -181,18 +181,22 @@ fn a_spell_beyond_the_years_is_noted() {
         let text = text_with(changes);
         notes(&text, &parse(&text).expect("taken"))
     };
-    for (name, key) in [("loud", "loud_first_day"), ("faint", "faint_first_day")] {
-        let others = [("joint_days", "0"), ("loud_days", "0"), ("faint_days", "0")];
-        let length = format!("{name}_days");
+    let cases = [
+        ("loud spell", "loud_first_day", "loud_days"),
+        ("faint spell", "faint_first_day", "faint_days"),
+        ("noisy joint", "joint_first_day", "joint_days"),
+        ("swapped joint", "swap_day", "swap_readings"),
+    ];
+    for (name, key, length) in cases {
         let with = |first: &str| {
-            let mut changes = vec![("years", "1"), (length.as_str(), "20"), (key, first)];
-            changes.extend(others);
+            let mut changes = vec![("years", "1"), (length, "20"), (key, first)];
+            changes.extend(cases.map(|(_, _, length)| (length, "0")));
             noted(&changes)
         };
         assert_eq!(with("364"), Vec::<String>::new());
         let line = line_of(DEFAULT, key);
         let wanted = format!(
-            "line {line}: the {name} spell from day 365 on is not in these years, which have 365 days"
+            "line {line}: the {name} from day 365 on is not in these years, which have 365 days"
         );
         assert_eq!(with("365"), [wanted]);
     }

@@ -2,9 +2,9 @@
 
 mod common;
 
-use common::{alone as given, history};
+use common::{alone as given, history, whole};
 use years::assumptions::Assumptions;
-use years::history::Reading;
+use years::history::{History, Reading};
 use years::station::Return;
 use years::table;
 
@@ -72,7 +72,7 @@ fn without_training_the_first_readings_are_wrong() {
 fn a_summary_has_no_line_for_what_was_not_there() {
     let starts = |changes: &[(&str, &str)], wanted: &str| {
         let given = given(changes);
-        let text = table::summary(&given, &history(&given));
+        let text = table::summary(&given, &whole(&given));
         text.lines().any(|line| line.starts_with(wanted))
     };
     let within = [
@@ -80,8 +80,14 @@ fn a_summary_has_no_line_for_what_was_not_there() {
         ("loud_first_day", "100"),
         ("joint_first_day", "200"),
         ("faint_first_day", "20"),
+        ("swap_day", "300"),
     ];
-    let spells = ["loud spell: ", "faint spell: ", "noisy joint: "];
+    let spells = [
+        "loud spell: ",
+        "faint spell: ",
+        "noisy joint: ",
+        "joint swapped on day ",
+    ];
     for name in [&["all: ", "quiet: "], &spells[..]].concat() {
         assert!(starts(&within, name), "{name}");
     }
@@ -99,24 +105,24 @@ fn a_summary_has_no_line_for_what_was_not_there() {
 #[test]
 fn a_summary_lists_the_first_wrong_pressures() {
     let given = given(&[("years", "1")]);
-    let mut readings = history(&given);
-    let summary = |readings: &[Reading]| table::summary(&given, readings);
-    assert!(!summary(&readings).contains("wrong pressure past"));
-    for reading in &mut readings[..20] {
+    let mut history = whole(&given);
+    let summary = |history: &History| table::summary(&given, history);
+    assert!(!summary(&history).contains("wrong pressure past"));
+    for reading in &mut history.readings[..20] {
         reading.pressure_received = Some(200);
     }
-    let text = summary(&readings);
-    let true_one = readings[1].pressure_true;
+    let text = summary(&history);
+    let true_one = history.readings[1].pressure_true;
     let line = format!(
         "wrong pressure past the check: day 0.7500, true {true_one:.4} bar, received 1.0000 bar\n"
     );
     assert!(text.contains(&line), "{text}");
     assert_eq!(text.matches("wrong pressure past the check: ").count(), 20);
     assert!(!text.contains(" more"));
-    for reading in &mut readings[20..23] {
+    for reading in &mut history.readings[20..23] {
         reading.pressure_received = Some(200);
     }
-    let text = summary(&readings);
+    let text = summary(&history);
     assert_eq!(text.matches("wrong pressure past the check: ").count(), 20);
     assert!(text.contains("\nand 3 wrong pressures more past the check\n"));
 }

@@ -43,7 +43,9 @@ fn spells() -> &'static [Reading] {
 
 /// The same with another in the place of the old rule.
 fn beside(other: &dyn Operations) -> Vec<Reading> {
-    run_beside(&given(&SPELLS), other, |_| {}).expect("every block is read")
+    run_beside(&given(&SPELLS), other, |_| {})
+        .expect("every block is read")
+        .readings
 }
 
 fn old(reading: &Reading) -> Outcome {

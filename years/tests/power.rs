@@ -180,7 +180,8 @@ impl Operations for Recorded<'_> {
 fn recorded(given: &Assumptions, by: &dyn Operations) -> (Vec<Reading>, Vec<ErrorPower>) {
     let powers = RefCell::new(Vec::new());
     let other = Recorded { by, powers };
-    let readings = run_beside(given, &other, |_| {}).expect("every block is read");
+    let history = run_beside(given, &other, |_| {}).expect("every block is read");
+    let readings = history.readings;
     let powers = other.powers.into_inner();
     let (preamble, payload) = (given.burst.preamble_blocks, given.burst.payload_blocks);
     let bursts =

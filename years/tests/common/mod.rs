@@ -1,7 +1,7 @@
 use std::path::{Path, PathBuf};
 use years::assumptions::{parse, Assumptions};
 pub use years::changes::DEFAULT;
-use years::history::{run, Reading};
+use years::history::{run, History, Reading};
 
 /// The default text with other values for some keys; the first of two counts.
 pub fn text_with(changes: &[(&str, &str)]) -> String {
@@ -26,8 +26,14 @@ pub fn alone(changes: &[(&str, &str)]) -> Assumptions {
 
 /// A whole history.
 #[allow(dead_code)]
-pub fn history(given: &Assumptions) -> Vec<Reading> {
+pub fn whole(given: &Assumptions) -> History {
     run(given, |_| {}).expect("every block is read")
+}
+
+/// Its readings.
+#[allow(dead_code)]
+pub fn history(given: &Assumptions) -> Vec<Reading> {
+    whole(given).readings
 }
 
 /// An empty folder for one test.
