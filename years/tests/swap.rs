@@ -295,3 +295,29 @@ fn the_table_has_a_row_for_each_reading_and_course() {
         "{table}"
     );
 }
+
+/// What the page for crews says of the default history.
+#[test]
+fn the_page_for_crews_has_the_numbers_of_the_default_history() {
+    let given = given(&[]);
+    let readings = whole(&given).swapped;
+    let crews = include_str!("../../docs/SWAPPED.md").replace('\n', " ");
+    let told = lines(&given, &readings);
+    let mut words = Vec::new();
+    for course in [Course::Kept, Course::SetUpAnew] {
+        let (received, near) = (
+            received_from(&readings, course),
+            near_from(&readings, course),
+        );
+        for place in [received, near] {
+            words.push(years::swap_words::after_known(&given, place));
+        }
+        words.push(format!("{} of 60", lost(&readings, course)));
+    }
+    words.push("3840 of 3840".to_string());
+    words.push("−20.3 dB".to_string());
+    for word in words {
+        assert!(told.contains(&word), "{word}: {told}");
+        assert!(crews.contains(&word), "{word}");
+    }
+}
