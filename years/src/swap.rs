@@ -161,8 +161,8 @@ impl<'a> Swap<'a> {
 
 /// Ahead of the swap every course is the station's own.
 fn ahead(station: &Station, levels: &[f64], burst: &Burst) -> Result<Vec<Vec<Decided>>, String> {
-    let own = || station.clone().burst(levels, &burst.entries);
-    Course::ALL.iter().map(|_| own()).collect()
+    let own = station.clone().burst(levels, &burst.entries)?;
+    Ok(vec![own; Course::ALL.len()])
 }
 
 /// Whether two stations decide the same, with the same outputs and errors, and

@@ -92,12 +92,12 @@ pub fn same(readings: &[SwapReading]) -> usize {
     since(readings).iter().filter(|x| x.same).count()
 }
 
-/// A sample of −32768 was among them, of which nothing is said.
+/// Whether a sample of −32768 was among them, of which nothing is proved.
 pub fn has_lowest(readings: &[SwapReading]) -> bool {
     readings.iter().any(|x| x.lowest)
 }
 
-/// "0 of 3840 payload symbols wrong (0 %); error power −17.0 dB".
+/// "0 of 3840 payload symbols wrong (0 %), error power −17.0 dB".
 pub fn decided(given: &Assumptions, readings: &[SwapReading], course: Course) -> String {
     let all = since(readings);
     let symbols = (all.len() * given.payload_symbols()) as u64;
