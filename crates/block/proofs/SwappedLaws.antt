@@ -1,14 +1,12 @@
 -- A block with the two conductors swapped: it goes as far, hands out the same and leaves what is swapped.
-use mathlib.Core.Path.{_≡_, refl, sym, ap, ap₂, _∙_, subst, fun-ext}
+use mathlib.Core.Path.{_≡_, refl, ap, ap₂, _∙_, fun-ext}
 use mathlib.Core.Bool.{Bool, _&&_}
 use mathlib.Core.List.{List, [], _∷_, map-append}
 use Prim.Native.Nat.{ℕ, zero, suc, _+_, _*_, _-_, _^_, _<_}
 use lib.Dec.{leb}
 use lib.ListN.{length-map}
-use lib.IntN.{ℤ, negℤ, natAbs}
-use Rattle.laws.specs.Integers.{abs-neg}
-use Rattle.laws.specs.Negated.{negated, negated-negated, map-odd, negated-at, negated-take}
-use Rattle.laws.specs.Sums.{Each, each-map}
+use lib.IntN.{ℤ, negℤ}
+use Rattle.laws.specs.Negated.{negated, negated-negated, map-odd, each-negated, negated-at, negated-take}
 use Rattle.numbers.specs.Cut.{rescale}
 use Rattle.numbers.proofs.CutLaws.{raise-neg, rescale-neg}
 use Rattle.steps.specs.Limits.{exponentLimit, halvingLimit}
@@ -105,10 +103,6 @@ module _ (k : Settings) (o : Memory) (i : Block) where
 
 -- ---- what is sound stays so
 
--- a bound on magnitudes
-each-neg : (P : ℕ → Type 0) (l : List ℤ) → Each (λ (x : ℤ). P (natAbs x)) l → Each (λ (x : ℤ). P (natAbs x)) (negated l)
-each-neg P l h = each-map (λ (x : ℤ). P (natAbs x)) (λ (x : ℤ). P (natAbs x)) negℤ (λ x p. subst P (sym (abs-neg x)) p) l h
-
 pub swapped-sound : (k : Settings) (o : Memory) → Sound k o → Sound k (swapped o)
 swapped-sound k o s = record {
   within = s .within;
@@ -117,9 +111,9 @@ swapped-sound k o s = record {
   back-long = s .back-long;
   samples-long = length-map (o .samples) negℤ ∙ s .samples-long;
   symbols-long = s .symbols-long;
-  forward-small = each-neg (λ n. n < halvingLimit) (o .forward) (s .forward-small);
+  forward-small = each-negated (λ n. n < halvingLimit) (o .forward) (s .forward-small);
   back-small = s .back-small;
-  samples-small = each-neg (λ n. n * 2 ^ (o .B + scaleForward k) < 2 ^ (15 + o .b)) (o .samples) (s .samples-small);
+  samples-small = each-negated (λ n. n * 2 ^ (o .B + scaleForward k) < 2 ^ (15 + o .b)) (o .samples) (s .samples-small);
   symbols-are = s .symbols-are;
   ψ-most = s .ψ-most;
   b-most = s .b-most;

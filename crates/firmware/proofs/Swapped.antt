@@ -2,22 +2,17 @@
 use mathlib.Core.Path.{_≡_}
 use mathlib.Core.List.{List}
 use Rattle.block.specs.Block.{Outputs}
-use Rattle.block.proofs.BlockLeft.{same-outputs}
 use Rattle.state.specs.declared.equaliser.Equaliser.{Equaliser}
 use Rattle.state.specs.declared.equaliser.Answer.{Answer}
-use Rattle.checks.specs.Checks.{Lent}
-use Rattle.station.specs.Answers.{runOutputs, Run}
+use Rattle.station.specs.Answers.{Run}
+use Rattle.station.proofs.AnswerLaws.{outputs-are}
 use Rattle.station.specs.Swapped.{SwappedPair, LentToBoth, SameAnswers}
 use Rattle.station.proofs.Swapped.{same-runs, next-pair}
 use Rattle.firmware.specs.Swapped.{Called, end, ran, tried, CalledSwapped}
 
--- the lists that a call leaves
-written : {s : Equaliser} {l : Lent} {a : Answer} {h : Outputs} → Run s l a (h .y) (h .xi) (h .decision) (h .z) (h .theta) → h ≡ runOutputs s l
-written r = same-outputs (r .y-is) (r .xi-is) (r .decision-is) (r .z-is) (r .theta-is)
-
 module _ {s s′ : Equaliser} (p : SwappedPair s s′) (b : LentToBoth) {a a′ : Answer} {h h′ : Outputs} (r : Run s (b .l) a (h .y) (h .xi) (h .decision) (h .z) (h .theta)) (r′ : Run s′ (b .l′) a′ (h′ .y) (h′ .xi) (h′ .decision) (h′ .z) (h′ .theta)) where
   answers : SameAnswers (b .l) (a .number) h (b .l′) (a′ .number) h′
-  answers = rw (r .number, r′ .number, written r, written r′) (same-runs s s′ p (b .l) (b .l′) (b .lists))
+  answers = rw (r .number, r′ .number, outputs-are r, outputs-are r′) (same-runs s s′ p (b .l) (b .l′) (b .lists))
 
   pair : SwappedPair (a .state) (a′ .state)
   pair = rw (r .state, r′ .state) (next-pair s s′ p (b .l) (b .l′) (b .lists) (b .typed) (b .typed′))

@@ -1,13 +1,13 @@
 -- The negatives of a list of numbers: odd functions take them to negatives, even ones and sums of products don't see them.
-use mathlib.Core.Path.{_≡_, refl, ap, ap₂, _∙_}
+use mathlib.Core.Path.{_≡_, refl, sym, ap, ap₂, _∙_, subst}
 use mathlib.Core.Bool.{Bool, _&&_}
 use mathlib.Core.List.{List, [], _∷_, map}
 use Prim.Native.Nat.{ℕ, zero, suc}
 use lib.ListN.{getD, take, replicate, List·getD-map}
-use lib.IntN.{ℤ, pos, negℤ, _+ℤ_, _*ℤ_, *ℤ-comm, negℤ-negℤ}
-use Rattle.laws.specs.Integers.{neg-*ℤ}
+use lib.IntN.{ℤ, pos, negℤ, natAbs, _+ℤ_, _*ℤ_, *ℤ-comm, negℤ-negℤ}
+use Rattle.laws.specs.Integers.{neg-*ℤ, abs-neg}
 use Rattle.laws.specs.Lists.{all}
-use Rattle.laws.specs.Sums.{dot}
+use Rattle.laws.specs.Sums.{Each, each-map, dot}
 
 abbrev pub negated : List ℤ → List ℤ
 negated l = map negℤ l
@@ -38,6 +38,10 @@ pub all-even : (p : ℤ → Bool) → ((x : ℤ) → p (negℤ x) ≡ p x) → (
 all-even p h [] = refl
 all-even p h (x ∷ l) = ap₂ _&&_ (h x) (all-even p h l)
 
+-- a fact of each magnitude
+pub each-negated : (P : ℕ → Type 0) (l : List ℤ) → Each (λ (x : ℤ). P (natAbs x)) l → Each (λ (x : ℤ). P (natAbs x)) (negated l)
+each-negated P l h = each-map (λ (x : ℤ). P (natAbs x)) (λ (x : ℤ). P (natAbs x)) negℤ (λ x p. subst P (sym (abs-neg x)) p) l h
+
 -- ---- parts
 
 pub negated-at : (l : List ℤ) (i : ℕ) → getD (negated l) i (pos 0) ≡ negℤ (getD l i (pos 0))
@@ -51,6 +55,9 @@ negated-take (suc i) (x ∷ l) = ap (λ (r : List ℤ). negℤ x ∷ r) (negated
 pub negated-zeros : (n : ℕ) → negated (replicate n (pos 0)) ≡ replicate n (pos 0)
 negated-zeros zero = refl
 negated-zeros (suc n) = ap (λ (r : List ℤ). pos 0 ∷ r) (negated-zeros n)
+
+pub take-zeros : (i n : ℕ) → take i (replicate n (pos 0)) ≡ negated (take i (replicate n (pos 0)))
+take-zeros i n = ap (take i) (sym (negated-zeros n)) ∙ negated-take i (replicate n (pos 0))
 
 -- ---- the sum of products
 

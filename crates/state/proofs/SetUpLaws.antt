@@ -3,10 +3,8 @@ use mathlib.Core.Path.{_≡_, refl, sym, ap, _∙_}
 use mathlib.Core.Bool.{Bool, true, false, cond}
 use Prim.Native.Nat.{ℕ, _-_}
 use lib.Dec.{eqb}
-use lib.ListN.{take, replicate}
-use lib.IntN.{pos}
 use borrow.Author.Tests.{eq-eqb, ne-eqb}
-use Rattle.laws.specs.Negated.{negated, negated-take, negated-zeros}
+use Rattle.laws.specs.Negated.{take-zeros}
 use Rattle.steps.specs.Limits.{places}
 use Rattle.steps.specs.Settings.{Settings}
 use Rattle.block.specs.Swapped.{swapped}
@@ -30,12 +28,9 @@ module _ (k : Settings) (n : ℕ) (s : Equaliser) (e : n ≡ settingsNumber k) w
 
 -- ---- the two conductors swapped: a fresh memory is the same
 
-front-same : (i n : ℕ) → take i (replicate n (pos 0)) ≡ negated (take i (replicate n (pos 0)))
-front-same i n = ap (take i) (sym (negated-zeros n)) ∙ negated-take i (replicate n (pos 0))
-
 fresh-swapped : (k : Settings) → memory (fresh k) ≡ swapped (memory (fresh k))
 unfolding fresh
-fresh-swapped k = rw (← front-same (k .p) places, ← front-same (k .p - 1) places)
+fresh-swapped k = rw (← take-zeros (k .p) places, ← take-zeros (k .p - 1) places)
 
 pub set-up-swapped : (k : Settings) → memory (setUpState k) ≡ swapped (memory (setUpState k))
 unfolding refused

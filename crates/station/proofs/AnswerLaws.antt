@@ -5,9 +5,10 @@ use Prim.Native.Nat.{ℕ}
 use native.Mathlib.Omega.{arith}
 use lib.Dec.{eqb}
 use borrow.Author.Tests.{ne-eqb, eq-eqb, eqb-true, eqb-false}
-use Rattle.block.specs.Block.{Outputs, goes}
+use Rattle.block.specs.Block.{Outputs, goes, handedAll}
+use Rattle.block.proofs.BlockLeft.{same-outputs}
 use Rattle.state.specs.State.{settings, memory}
-use Rattle.station.specs.Answers.{runNumber, runState, accepted, lentOutputs, Run}
+use Rattle.station.specs.Answers.{runNumber, runState, accepted, lentOutputs, runOutputs, Run}
 use Rattle.station.specs.Calls.{goesOn, RunChecked, handedOr}
 use Rattle.state.specs.declared.equaliser.Answer.{Answer}
 use Rattle.checks.specs.Checks.{Lent, block, checkNumber}
@@ -20,6 +21,17 @@ module _ {A : Type 0} (e : Equaliser) (l : Lent) (new old : A) where
 
   pub accepted-old : (runNumber e l ≡ 0 → ⊥) → accepted e l new old ≡ old
   accepted-old f = ap (λ (b : Bool). cond b new old) (ne-eqb (runNumber e l) 0 f)
+
+-- the five lists of an accepted block, of one that isn't, and of whatever the contract allows
+module _ (e : Equaliser) (l : Lent) where
+  pub outputs-new : runNumber e l ≡ 0 → runOutputs e l ≡ handedAll (settings e) (memory e) (block l)
+  outputs-new ok = same-outputs (accepted-new e l _ _ ok) (accepted-new e l _ _ ok) (accepted-new e l _ _ ok) (accepted-new e l _ _ ok) (accepted-new e l _ _ ok)
+
+  pub outputs-old : (runNumber e l ≡ 0 → ⊥) → runOutputs e l ≡ lentOutputs l
+  outputs-old f = same-outputs (accepted-old e l _ _ f) (accepted-old e l _ _ f) (accepted-old e l _ _ f) (accepted-old e l _ _ f) (accepted-old e l _ _ f)
+
+pub outputs-are : {e : Equaliser} {l : Lent} {a : Answer} {h : Outputs} → Run e l a (h .y) (h .xi) (h .decision) (h .z) (h .theta) → h ≡ runOutputs e l
+outputs-are r = same-outputs (r .y-is) (r .xi-is) (r .decision-is) (r .z-is) (r .theta-is)
 
 pub run-tests : (e : Equaliser) (l : Lent) → runNumber e l ≡ 0 → (checkNumber e l ≡ 0) × (goes (settings e) (memory e) (block l) (e .n) ≡ true)
 unfolding runNumber

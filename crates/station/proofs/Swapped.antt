@@ -2,13 +2,14 @@
 use mathlib.Core.Path.{_≡_, refl, sym, ap, ap₂, _∙_, subst}
 use mathlib.Core.Bool.{Bool, true, false}
 use mathlib.Core.List.{List, [], _∷_}
-use lib.Dec.{eqb}
+use Prim.Native.Nat.{zero, suc, _^_}
+use lib.Dec.{eqb, leb}
 use lib.ListN.{length, length-map}
 use native.Mathlib.Omega.{arith}
-use lib.IntN.{ℤ, negℤ}
+use lib.IntN.{ℤ, pos, negsuc, negℤ}
 use mir.Syntax.{w16}
 use mir.Val.{SFits}
-use borrow.Author.Tests.{eqb-true, eqb-false, eq-eqb, ne-eqb}
+use borrow.Author.Tests.{eqb-true, eqb-false, leb-true, leb-false}
 use Rattle.laws.specs.Negated.{negated, negated-negated}
 use Rattle.laws.specs.Sums.{Each}
 use Rattle.steps.specs.Settings.{Settings}
@@ -24,10 +25,10 @@ use Rattle.state.proofs.SetUpLaws.{set-up-swapped}
 use Rattle.state.proofs.KeptLaws.{settings-is, memory-is, kept-accepted}
 use Rattle.checks.specs.Checks.{Lent, block, lengthsFit, checkNumber}
 use Rattle.checks.proofs.CheckLaws.{check-same, check-tests}
-use Rattle.station.specs.Answers.{runNumber, runState, runOutputs, lentOutputs}
+use Rattle.station.specs.Answers.{runNumber, runState, runOutputs}
 use Rattle.station.specs.Claim.{Typed, WithinLimits}
-use Rattle.station.specs.Swapped.{SoundState, SwappedPair, SwappedLists, LentToBoth, NotLowest, partner, SameRuns, SwappedAlways}
-use Rattle.station.proofs.AnswerLaws.{run-tests}
+use Rattle.station.specs.Swapped.{SoundState, SwappedPair, SwappedLists, LentToBoth, NotLowest, partner, partnerLists, SameRuns, SwappedAlways}
+use Rattle.station.proofs.AnswerLaws.{outputs-new, outputs-old, run-tests}
 use Rattle.station.proofs.Claim.{accepted-within, refused-same, run-within, next-settings, next-memory}
 
 sound-within : {s : Equaliser} → WithinLimits s → SoundState s
@@ -36,13 +37,6 @@ sound-within g = record { sound = g .sound; weights-long = g .weights-long; past
 -- a sound state that a block is accepted on
 within : (s : Equaliser) → SoundState s → (l : Lent) → runNumber s l ≡ 0 → WithinLimits s
 within s g l ok = accepted-within (record { weights-long = g .weights-long; past-long = g .past-long; number = check-tests s l (run-tests s l ok .0) .0 })
-
--- the lists of a block that is accepted, and of one that isn't
-given : (e : Equaliser) (l : Lent) → runNumber e l ≡ 0 → runOutputs e l ≡ handedAll (settings e) (memory e) (block l)
-given e l ok = rw (eq-eqb (runNumber e l) 0 ok)
-
-kept : (e : Equaliser) (l : Lent) → (runNumber e l ≡ 0 → ⊥) → runOutputs e l ≡ lentOutputs l
-kept e l f = rw (ne-eqb (runNumber e l) 0 f)
 
 module _ (s s′ : Equaliser) (p : SwappedPair s s′) (l l′ : Lent) (b : SwappedLists l l′) where
   -- ---- what a block goes by
@@ -74,13 +68,13 @@ module _ (s s′ : Equaliser) (p : SwappedPair s s′) (l l′ : Lent) (b : Swap
   -- ---- the lists
 
   outputs-same : runNumber s l ≡ 0 → runOutputs s′ l′ ≡ runOutputs s l
-  outputs-same ok = given s′ l′ (number-same ∙ ok) ∙ on-both handedAll ∙ handed-same (settings s) (memory s) (block l) ∙ sym (given s l ok)
+  outputs-same ok = outputs-new s′ l′ (number-same ∙ ok) ∙ on-both handedAll ∙ handed-same (settings s) (memory s) (block l) ∙ sym (outputs-new s l ok)
 
   pub same-runs : SameRuns s l s′ l′
   same-runs = record {
     number-same = number-same;
     outputs-same = outputs-same;
-    outputs-kept = λ f. (kept s l f, kept s′ l′ (λ e. f (sym number-same ∙ e)));
+    outputs-kept = λ f. (outputs-old s l f, outputs-old s′ l′ (λ e. f (sym number-same ∙ e)));
   }
 
   -- ---- the states
@@ -130,6 +124,24 @@ not-lowest b = (none-lowest (b .l .m) (subst (Each (SFits w16)) (b .lists .sampl
   where
     back : negated (b .l′ .m) ≡ b .l .m
     back = ap negated (b .lists .samples-negated) ∙ negated-negated (b .l .m)
+
+-- and every block without one has a partner
+fits-neg : (x : ℤ) → SFits w16 x → NotLowest x → SFits w16 (negℤ x)
+fits-neg (pos zero) h f = h
+fits-neg (pos (suc n)) h f = record { sfits = omega (arith, h .sfits) }
+fits-neg (negsuc n) h f = go (leb (suc (suc n)) (2 ^ 15)) refl
+  where
+    go : (b : Bool) → leb (suc (suc n)) (2 ^ 15) ≡ b → SFits w16 (negℤ (negsuc n))
+    go true e = record { sfits = leb-true (suc (suc n)) (2 ^ 15) e }
+    go false e = absurd (f (ap negsuc (omega (arith, leb-false (suc (suc n)) (2 ^ 15) e, h .sfits))))
+
+negated-fits : (m : List ℤ) → Each (SFits w16) m → Each NotLowest m → Each (SFits w16) (negated m)
+negated-fits [] h f = tt
+negated-fits (x ∷ m) h f = (fits-neg x (h .0) (f .0), negated-fits m (h .1) (f .1))
+
+pub lists-partner : (l : Lent) → Typed l → Each NotLowest (l .m) → Typed (partnerLists l) × SwappedLists l (partnerLists l)
+lists-partner l t f =
+    (record { m = negated-fits (l .m) (t .m) f; gains = t .gains; entries = t .entries; y = t .y; xi = t .xi; decision = t .decision; z = t .z; theta = t .theta }, record { samples-negated = refl; gains-same = refl; entries-same = refl; y-long = refl; xi-long = refl; decision-long = refl; z-long = refl; theta-long = refl })
 
 -- each is the other's partner
 pub pair-back : (s s′ : Equaliser) → SwappedPair s s′ → SwappedPair s′ s

@@ -53,6 +53,10 @@ pub record LentToBoth : Type 0 where
 abbrev pub NotLowest : ℤ → Type 0
 NotLowest m = m ≡ negℤ (pos (2 ^ 15)) → ⊥
 
+-- the lists with which lists are swapped
+abbrev pub partnerLists : Lent → Lent
+partnerLists l = record { m = negated (l .m); gains = l .gains; entries = l .entries; y = l .y; xi = l .xi; decision = l .decision; z = l .z; theta = l .theta }
+
 -- the state with which a state is a swapped pair
 abbrev pub partner : Equaliser → Equaliser
 partner s = stateOf (settings s) (swapped (memory s))
