@@ -3,6 +3,7 @@
 
 use crate::assumptions::Assumptions;
 use crate::payload;
+use crate::words;
 
 /// A key, and what is to be said at its line.
 pub type Sentence = (&'static str, String);
@@ -35,14 +36,15 @@ pub fn notes(given: &Assumptions) -> Vec<Sentence> {
         ),
         ("swap_day", "swapped joint", swap.day, swap_readings),
     ];
-    let days = given.days();
+    let last = given.day_of(given.readings() - 1);
     let absent = spells
         .into_iter()
-        .filter(|(_, _, first, length)| *length > 0.0 && *first >= f64::from(days));
+        .filter(|(_, _, first, length)| *length > 0.0 && *first > last);
     absent
         .map(|(key, name, first, _)| {
             let sentence = format!(
-                "the {name} from day {first} on is not in these years, which have {days} days"
+                "the {name} from day {first} on is not in these years: the last reading is on day {}",
+                words::plain(last)
             );
             (key, sentence)
         })

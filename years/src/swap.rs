@@ -169,8 +169,9 @@ fn ahead(station: &Station, levels: &[f64], burst: &Burst) -> Result<Vec<Vec<Dec
 /// have a swapped pair of records after each block.
 pub fn same(one: &[Decided], two: &[Decided]) -> bool {
     let mut pairs = one.iter().zip(two);
-    pairs.all(|(a, b)| {
+    let all = pairs.all(|(a, b)| {
         let paired = unpaired(&state_of(&a.record), &state_of(&b.record)).is_none();
         paired && a.decisions == b.decisions && a.readings == b.readings
-    })
+    });
+    one.len() == two.len() && all
 }

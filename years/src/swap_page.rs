@@ -8,7 +8,7 @@ use crate::page::{ends, power_notes, Page, Panel, Shade, PROVED};
 use crate::power::ErrorPower;
 use crate::swap::{Course, SwapReading};
 use crate::swap_words::{
-    after, after_known, block_of, decided, has_lowest, lost, near_from, received_from, same, since,
+    after, after_known, block_of, decided, lost, near_from, pair, received_from, same, since, Pair,
 };
 use crate::table::weights;
 use crate::words;
@@ -63,7 +63,10 @@ pub fn page(given: &Assumptions, readings: &[SwapReading]) -> Option<Page> {
 
 impl Drawn<'_> {
     fn head(&self) -> Vec<String> {
-        let received = |course| after_known(self.given, received_from(self.readings, course));
+        let received = |course| {
+            let place = received_from(self.readings, course);
+            after_known(self.given, course, place)
+        };
         let near = |course| after(self.given, near_from(self.readings, course));
         let [taps, step] = words::settings(&self.given.sizes);
         let mut lines = vec![
@@ -71,7 +74,10 @@ impl Drawn<'_> {
                 "weights kept, all readings received again: {}",
                 received(Course::Kept)
             ),
-            format!("Set up anew: {}.", received(Course::SetUpAnew)),
+            format!(
+                "Set up anew, all received again: {}.",
+                received(Course::SetUpAnew)
+            ),
             format!(
                 "Error power within 3 dB of the blue line: kept {}, set up anew {}.",
                 near(Course::Kept),
@@ -93,16 +99,16 @@ impl Drawn<'_> {
     fn negated(&self) -> String {
         let (same, all) = (same(self.readings), since(self.readings).len());
         let readings = words::count(same as u64, "reading");
-        let (told, more) = match (same == all, has_lowest(self.readings)) {
-            (true, false) => (
+        let (told, more) = match pair(self.readings) {
+            Pair::Proved => (
                 "the same outputs, decisions and errors in",
                 "which is proved",
             ),
-            (_, true) => (
+            Pair::UpToLowest => (
                 "the same in",
                 "a sample was −32768, not covered by the proof",
             ),
-            (false, false) => ("the same in", "against the proof"),
+            Pair::AgainstTheProof => ("the same in", "AGAINST THE PROOF"),
         };
         format!("Weights and past samples negated: {told} {readings} of {all}, {more}.")
     }
@@ -196,7 +202,8 @@ impl Drawn<'_> {
         };
         let marks = |(row, course): (usize, Course)| {
             let height = (rows - row) as f64;
-            let points = self.points(|x| (!x.right(course)).then_some(height));
+            let lost = |x: &SwapReading| x.place >= 0 && !x.right(course);
+            let points = self.points(|x| lost(x).then_some(height));
             let places = points.iter().filter_map(|p| Some((p.at, p.value?)));
             let style = format!("points pt 7 ps 0.6 lc rgb '{}'", look(course).colour);
             Curve::marks(places, &style, &told(course))

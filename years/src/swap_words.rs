@@ -24,10 +24,19 @@ pub fn since(readings: &[SwapReading]) -> &[SwapReading] {
     &readings[ahead.count()..]
 }
 
-/// The readings at the end that are all good.
+/// Readings at the end that have to be good, so that chance alone isn't told as
+/// a return.
+const LAST: usize = 5;
+
+/// The readings at the end that are all good: at least so many, or all.
 fn good_at_end(readings: &[SwapReading], good: impl Fn(&SwapReading) -> bool) -> &[SwapReading] {
-    let bad = since(readings).iter().rposition(|reading| !good(reading));
-    &since(readings)[bad.map_or(0, |place| place + 1)..]
+    let all = since(readings);
+    let first = match all.iter().rposition(|reading| !good(reading)) {
+        Some(bad) if all.len() - 1 - bad < LAST => all.len(),
+        Some(bad) => bad + 1,
+        None => 0,
+    };
+    &all[first..]
 }
 
 /// The first reading that a course receives and from which on it receives all
@@ -56,9 +65,12 @@ pub fn block_of(given: &Assumptions, place: i32) -> i32 {
     place * (burst.preamble_blocks + burst.payload_blocks) as i32 + burst.preamble_blocks as i32
 }
 
-/// Those of them whose symbols are known.
-fn known(given: &Assumptions, place: i32) -> i32 {
-    (place + 1) * given.burst.preamble_blocks as i32
+/// Those of them whose symbols a course knows.
+fn known(given: &Assumptions, course: Course, place: i32) -> i32 {
+    match course {
+        Course::Untrained => 0,
+        _ => (place + 1) * given.burst.preamble_blocks as i32,
+    }
 }
 
 /// "after 74 blocks".
@@ -74,10 +86,14 @@ pub fn after(given: &Assumptions, place: Option<i32>) -> String {
 }
 
 /// "after 74 blocks, 50 of them known".
-pub fn after_known(given: &Assumptions, place: Option<i32>) -> String {
-    let known = |place: &i32| format!(", {} of them known", known(given, *place));
-    let later = place.as_ref().filter(|place| **place > 0);
-    after(given, place) + &later.map_or(String::new(), known)
+pub fn after_known(given: &Assumptions, course: Course, place: Option<i32>) -> String {
+    let later = place.filter(|place| *place > 0);
+    let known = later.map_or(0, |place| known(given, course, place));
+    let told = match known {
+        0 => String::new(),
+        known => format!(", {known} of them known"),
+    };
+    after(given, place) + &told
 }
 
 /// How many readings a course loses.
@@ -92,9 +108,25 @@ pub fn same(readings: &[SwapReading]) -> usize {
     since(readings).iter().filter(|x| x.same).count()
 }
 
-/// Whether a sample of −32768 was among them, of which nothing is proved.
-pub fn has_lowest(readings: &[SwapReading]) -> bool {
-    readings.iter().any(|x| x.lowest)
+/// What is to be said of a pair: whether a sample was −32768, and else, or
+/// before it, whether it was none.
+#[derive(Clone, Copy, Debug, PartialEq, Eq)]
+pub enum Pair {
+    /// As is proved.
+    Proved,
+    /// As is proved up to a sample of −32768, of which nothing is.
+    UpToLowest,
+    AgainstTheProof,
+}
+
+pub fn pair(readings: &[SwapReading]) -> Pair {
+    let lowest = readings.iter().position(|x| x.lowest);
+    let before = &readings[..lowest.unwrap_or(readings.len())];
+    match (before.iter().all(|x| x.same), lowest) {
+        (false, _) => Pair::AgainstTheProof,
+        (true, None) => Pair::Proved,
+        (true, Some(_)) => Pair::UpToLowest,
+    }
 }
 
 /// "0 of 3840 payload symbols wrong (0 %), error power −17.0 dB".
@@ -112,9 +144,10 @@ pub fn decided(given: &Assumptions, readings: &[SwapReading], course: Course) ->
 fn negated(given: &Assumptions, readings: &[SwapReading]) -> String {
     let (same, all) = (same(readings), since(readings).len());
     let share = words::share(same as u64, all as u64, "reading", "");
-    let lowest = match has_lowest(readings) {
-        true => "; a sample was −32768, which has no negative",
-        false => "",
+    let lowest = match pair(readings) {
+        Pair::Proved => "",
+        Pair::UpToLowest => "; a sample was −32768, which has no negative",
+        Pair::AgainstTheProof => "; AGAINST THE PROOF",
     };
     let other = match same == all {
         true => String::new(),
@@ -128,8 +161,8 @@ fn course(given: &Assumptions, readings: &[SwapReading], course: Course) -> Stri
     let lost = words::share(lost as u64, all as u64, "reading", "lost");
     let mut text = format!("{lost}; {}", decided(given, readings, course));
     if course != Course::Unswapped {
-        let received = after_known(given, received_from(readings, course));
-        let near = after_known(given, near_from(readings, course));
+        let received = after_known(given, course, received_from(readings, course));
+        let near = after_known(given, course, near_from(readings, course));
         text += &format!("; all received again: {received}; error power within 3 dB: {near}");
     }
     text
@@ -144,7 +177,7 @@ pub fn lines(given: &Assumptions, readings: &[SwapReading]) -> String {
         * u64::from(given.burst.preamble_blocks + given.burst.payload_blocks);
     let head = format!(
         "joint swapped on day {}, for copies of the station, {}, {}:\n",
-        first.day,
+        words::plain(first.day),
         words::count(since(readings).len() as u64, "reading"),
         words::count(blocks, "block")
     );

@@ -31,6 +31,12 @@ pub fn share(part: u64, whole: u64, what: &str, how: &str) -> String {
     format!("{part} of {}{space}{how} ({shown})", count(whole, what))
 }
 
+/// A number to four decimals, without zeros at its end.
+pub fn plain(number: f64) -> String {
+    let text = format!("{number:.4}");
+    text.trim_end_matches('0').trim_end_matches('.').to_string()
+}
+
 /// A power in dB; what is less than −100 dB is that.
 pub fn decibels(power: f64) -> f64 {
     10.0 * power.max(1e-10).log10()

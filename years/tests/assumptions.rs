@@ -193,11 +193,12 @@ fn a_spell_beyond_the_years_is_noted() {
             changes.extend(cases.map(|(_, _, length)| (length, "0")));
             noted(&changes)
         };
-        assert_eq!(with("364"), Vec::<String>::new());
+        assert_eq!(with("364.75"), Vec::<String>::new());
         let line = line_of(DEFAULT, key);
         let wanted = format!(
-            "line {line}: the {name} from day 365 on is not in these years, which have 365 days"
+            "line {line}: the {name} from day 364.9 on is not in these years: the last reading is on day 364.75"
         );
-        assert_eq!(with("365"), [wanted]);
+        assert_eq!(with("364.9"), [wanted]);
+        assert_eq!(with("365").len(), 1);
     }
 }

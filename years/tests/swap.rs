@@ -12,7 +12,9 @@ use years::script::script;
 use years::station::{Decided, Station};
 use years::swap::{same, Course, SwapReading};
 use years::swap_page::page;
-use years::swap_words::{csv, lines, lost, near_from, received_from, since};
+use years::swap_words::{
+    after_known, block_of, csv, lines, lost as lost_by, near_from, pair, received_from, since, Pair,
+};
 use years::table;
 
 /// A year without spells or losses of power, with a swap in it.
@@ -97,6 +99,7 @@ fn whatever_differs_is_found() {
     ];
     let one = blocks();
     assert!(same(&one, &partners(blocks())) && !same(&one, &one));
+    assert!(!same(&one, &partners(blocks())[1..]) && !same(&[], &one));
     for (place, fault) in faults.iter().enumerate() {
         for at in [0, one.len() - 1] {
             let mut two = partners(blocks());
@@ -149,43 +152,45 @@ fn copies_and_station_do_not_reach_each_other() {
 
 #[test]
 fn the_lowest_sample_is_told() {
-    let (given, readings) = with(&[("headroom", "0.6")]);
-    let first = readings
-        .iter()
-        .position(|x| x.lowest)
-        .expect("a sample of −32768");
-    assert!(readings[..first].iter().all(|x| x.same));
-    assert!(!readings.iter().all(|x| x.same));
+    let given = given(&[("seed", "15")]);
+    let readings = whole(&given).swapped;
+    let lowest = readings.iter().position(|x| x.lowest);
+    let lowest = lowest.expect("a sample of −32768");
+    let other = readings.iter().position(|x| !x.same);
+    assert!(readings[lowest].place > 0 && other >= Some(lowest));
+    assert_eq!(pair(&readings), Pair::UpToLowest);
     let told = lines(&given, &readings);
-    assert!(
-        told.contains("; a sample was −32768, which has no negative; "),
-        "{told}"
-    );
+    let words = "; a sample was −32768, which has no negative; ";
+    assert!(told.contains(words), "{told}");
     let page = page(&given, &readings).expect("a page");
     let words = " of 60, a sample was −32768, not covered by the proof.";
-    assert!(
-        page.lines.iter().any(|line| line.ends_with(words)),
-        "{:?}",
-        page.lines
-    );
+    let mut lines = page.lines.iter();
+    assert!(lines.any(|line| line.ends_with(words)), "{:?}", page.lines);
 }
 
 #[test]
-fn a_difference_without_the_lowest_sample_is_told() {
+fn a_difference_before_the_lowest_sample_is_told() {
     let (given, mut readings) = with(&[]);
     let told = |readings: &[SwapReading]| page(&given, readings).expect("a page").lines.join("\n");
     assert!(told(&readings).contains(" in 60 readings of 60, which is proved."));
+    readings[40].lowest = true;
+    readings[40].same = false;
+    assert_eq!(pair(&readings), Pair::UpToLowest);
     readings[30].same = false;
-    assert!(told(&readings).contains(" in 59 readings of 60, against the proof."));
+    assert_eq!(pair(&readings), Pair::AgainstTheProof);
+    assert!(told(&readings).contains(" in 58 readings of 60, AGAINST THE PROOF."));
+    let told = lines(&given, &readings);
+    let words = ": 58 of 60 readings (96.7 %) the same at every sample";
     assert!(
-        lines(&given, &readings).contains(": 59 of 60 readings (98.3 %) the same at every sample")
+        told.contains(words) && told.contains("; AGAINST THE PROOF; "),
+        "{told}"
     );
 }
 
 /// Readings of which a course receives some, where the joint is not swapped all
 /// but two.
 fn received(good: &[bool]) -> Option<i32> {
-    let (_, readings) = with(&[("swap_readings", "8")]);
+    let (_, readings) = with(&[("swap_readings", "9")]);
     let mut readings = readings[10..].to_vec();
     for (at, reading) in readings.iter_mut().enumerate() {
         let sent = |right: bool| right.then_some(reading.sent);
@@ -199,12 +204,47 @@ fn received(good: &[bool]) -> Option<i32> {
 #[test]
 fn received_again_is_from_the_first_reading_on_that_nothing_is_lost_after() {
     let (o, x) = (true, false);
-    assert_eq!(received(&[o; 8]), Some(0));
-    assert_eq!(received(&[x; 8]), None);
-    assert_eq!(received(&[x, o, x, o, o, x, o, o]), Some(1));
-    assert_eq!(received(&[o, x, x, o, o, x, o, o]), Some(3));
-    assert_eq!(received(&[o, o, o, o, x, x, o, o]), Some(6));
-    assert_eq!(received(&[o, o, o, o, o, o, o, x]), None);
+    assert_eq!(received(&[o; 9]), Some(0));
+    assert_eq!(received(&[x; 9]), None);
+    assert_eq!(received(&[x, o, x, o, o, x, o, o, o]), Some(1));
+    assert_eq!(received(&[o, x, x, o, o, x, o, o, o]), Some(3));
+    assert_eq!(received(&[o, o, o, x, o, x, o, o, o]), Some(4));
+    assert_eq!(
+        received(&[o, o, o, o, x, o, o, o, o]),
+        None,
+        "four at the end"
+    );
+    assert_eq!(received(&[o, o, o, o, o, o, o, o, x]), None);
+}
+
+#[test]
+fn blocks_are_counted_to_the_payload() {
+    let (given, _) = with(&[("preamble_blocks", "5"), ("payload_blocks", "3")]);
+    let places = [-1, 0, 1, 2].map(|place| block_of(&given, place));
+    assert_eq!(places, [-3, 5, 13, 21]);
+    let told = |course, place| after_known(&given, course, place);
+    assert_eq!(
+        told(Course::Kept, Some(2)),
+        "after 21 blocks, 15 of them known"
+    );
+    assert_eq!(told(Course::Untrained, Some(2)), "after 21 blocks");
+    assert_eq!(told(Course::Kept, Some(0)), "at once");
+    assert_eq!(told(Course::Kept, None), "not in these blocks");
+}
+
+#[test]
+fn losses_ahead_of_the_swap_are_not_among_those_that_are_drawn() {
+    let (given, mut readings) = with(&[]);
+    readings[3]
+        .outcomes
+        .iter_mut()
+        .for_each(|outcome| outcome.received = None);
+    let page = page(&given, &readings).expect("a page");
+    let lost = panel(&page, "readings lost");
+    for (course, curve) in Course::ALL.into_iter().zip(&lost.curves) {
+        assert_eq!(curve.rows.lines().count(), lost_by(&readings, course));
+    }
+    assert_eq!(lost.notes.len(), 2);
 }
 
 #[test]
@@ -275,7 +315,7 @@ fn the_page_draws_a_pair_alike_but_for_the_sign_of_the_feed_forward_weights() {
     }
     let lost = |course: Course| {
         let name = course.name().replace("swapped, ", "");
-        format!("{} of 60: {name}", lost(&readings, course))
+        format!("{} of 60: {name}", lost_by(&readings, course))
     };
     assert!(Course::ALL
         .iter()
@@ -296,28 +336,35 @@ fn the_table_has_a_row_for_each_reading_and_course() {
     );
 }
 
-/// What the page for crews says of the default history.
+/// The rows of the page for crews, of the default history.
 #[test]
 fn the_page_for_crews_has_the_numbers_of_the_default_history() {
     let given = given(&[]);
     let readings = whole(&given).swapped;
-    let crews = include_str!("../../docs/SWAPPED.md").replace('\n', " ");
+    let crews = include_str!("../../docs/SWAPPED.md");
+    let names = [
+        (
+            "weights and past samples negated too (black)",
+            Course::Negated,
+        ),
+        ("weights kept (red)", Course::Kept),
+        ("set up anew (orange)", Course::SetUpAnew),
+        (
+            "weights kept, never trained again (grey)",
+            Course::Untrained,
+        ),
+    ];
+    for (name, course) in names {
+        let lost = lost_by(&readings, course);
+        let received = received_from(&readings, course);
+        let near = near_from(&readings, course);
+        let [received, near] = [received, near].map(|place| after_known(&given, course, place));
+        let row = format!("| swapped, {name} | {lost} of 60 | {received} | {near} |");
+        assert!(crews.contains(&row), "{row}");
+    }
     let told = lines(&given, &readings);
-    let mut words = Vec::new();
-    for course in [Course::Kept, Course::SetUpAnew] {
-        let (received, near) = (
-            received_from(&readings, course),
-            near_from(&readings, course),
-        );
-        for place in [received, near] {
-            words.push(years::swap_words::after_known(&given, place));
-        }
-        words.push(format!("{} of 60", lost(&readings, course)));
-    }
-    words.push("3840 of 3840".to_string());
-    words.push("−20.3 dB".to_string());
-    for word in words {
-        assert!(told.contains(&word), "{word}: {told}");
-        assert!(crews.contains(&word), "{word}");
-    }
+    let grey = "swapped, kept, never trained: 60 of 60 readings lost (100 %); \
+         3840 of 3840 payload symbols wrong (100 %), error power −20.3 dB;";
+    assert!(told.contains(grey), "{told}");
+    assert!(crews.contains("3840 of 3840 payload symbols") && crews.contains("−20.3 dB"));
 }
