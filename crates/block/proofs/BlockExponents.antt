@@ -8,8 +8,8 @@ use Rattle.laws.specs.Sums.{Each, each-weaken}
 use Rattle.numbers.proofs.BitLengthLaws.{bit-length-above, bit-length-le}
 use Rattle.steps.specs.Limits.{gainLimit, lengthLimit}
 use Rattle.steps.specs.Settings.{Settings, scaleForward}
-use Rattle.steps.specs.Side.{largest, magnitudes}
-use Rattle.block.specs.Block.{Block, Memory, receivedAll, newb, newB, g}
+use Rattle.steps.specs.Fir.{largest, magnitudes}
+use Rattle.block.specs.Block.{Block, Memory, receivedAll, newb, newB, Γ}
 use Rattle.block.specs.Sound.{Sound, Acceptable}
 use Rattle.steps.proofs.LargestLaws.{largest-magnitude, each-magnitude}
 use Rattle.block.proofs.ReceivedLaws.{received-each}
@@ -46,10 +46,10 @@ module _ (k : Settings) (o : Memory) (i : Block) where
   unfolding newB
   newB-most s a = omega (arith, max-le {a = newb k o i} {b = o .b} {k = lengthLimit - k .L} (omega (arith, newb-most (s .within .L-most) a)) (omega (arith, s .b-most, s .B-most)), s .within .L-most)
 
-  pub g-least : scaleForward k ≤ g k o i
-  unfolding g
-  g-least = omega arith
+  pub Γ-least : scaleForward k ≤ Γ k o i
+  unfolding Γ
+  Γ-least = omega arith
 
-  pub g-most : Sound k o → Acceptable k i → g k o i + k .L ≤ k .r + lengthLimit + scaleForward k
-  unfolding g
-  g-most s a = omega (arith, newB-most s a)
+  pub Γ-most : Sound k o → Acceptable k i → Γ k o i + k .L ≤ k .r + lengthLimit + scaleForward k
+  unfolding Γ
+  Γ-most s a = omega (arith, newB-most s a)

@@ -14,16 +14,15 @@ use Rattle.laws.specs.Ring.{ring, terms}
 use Rattle.numbers.specs.Cut.{cut, raise, rescale}
 use Rattle.numbers.proofs.CutLaws.{cut-error, rescale-up, rescale-down}
 use Rattle.steps.specs.Settings.{Settings, scaleForward}
-use Rattle.block.specs.Block.{Block, Memory, receivedAll, newB, stored, at, left}
+use Rattle.block.specs.Block.{Block, Memory, receivedAll, newB, stored, at, nextMemory, QuantisedWithin, StoredNear}
 use Rattle.block.specs.Sound.{Sound, Acceptable}
-use Rattle.block.specs.Stored.{Off, StoredNear, MetNear}
 use Rattle.block.proofs.BlockStored.{stored-at, old-at}
-use Rattle.block.proofs.BlockWindow.{at-new, at-old, left-at, left-length}
+use Rattle.block.proofs.BlockWindow.{at-new, at-old, next-memory-at, next-memory-length}
 
 -- ---- one sample
 
 -- stored
-stored-off : (x : ℤ) (e : ℕ) → Off e e (rescale x 15 e) x
+stored-off : (x : ℤ) (e : ℕ) → QuantisedWithin e e (rescale x 15 e) x
 stored-off x e = turn (raise x 15) (raise (rescale x 15 e) e) (cut-error (raise x 15) e)
   where
     turn : (a b : ℤ) → natAbs (a -ℤ b) < 2 ^ e → natAbs (b -ℤ a) < 2 ^ e
@@ -50,10 +49,10 @@ finer a x K U Q q h = omega (arith, ap natAbs whole)
     whole = ring (a ∷ x ∷ pos K ∷ pos U ∷ []) (search terms depth 40) tt ∙ ap (λ (n : ℕ). a *ℤ pos n -ℤ x) (sym q)
 
 -- at the exponent B′ of a later block, whether above or below B
-later-off : (A X : ℤ) (B B′ S : ℕ) → Off (B + S) (B + S) A X → Off (B′ + S) (max B B′ + S) (rescale A B B′) X
+later-off : (A X : ℤ) (B B′ S : ℕ) → QuantisedWithin (B + S) (B + S) A X → QuantisedWithin (B′ + S) (max B B′ + S) (rescale A B B′) X
 later-off A X B B′ S h = go (decLe B B′)
   where
-    go : Dec (B ≤ B′) → Off (B′ + S) (max B B′ + S) (rescale A B B′) X
+    go : Dec (B ≤ B′) → QuantisedWithin (B′ + S) (max B B′ + S) (rescale A B B′) X
     go (yes l) =
         rw (max-eq-right l, rescale-down A B B′ (B′ - B) (omega arith))
         (coarser A (cut A (B′ - B)) (raise X 15) (2 ^ (B′ - B)) (2 ^ (B + S)) (2 ^ (B′ + S)) (split (B′ + S) (B′ - B) (B + S) (omega arith)) (cut-error A (B′ - B)) h)
@@ -63,33 +62,34 @@ later-off A X B B′ S h = go (decLe B B′)
 
 -- ---- all of them
 
-pub stored-near : (k : Settings) (o : Memory) (i : Block) → Acceptable k i → StoredNear k o i
-stored-near k o i a = record {
-  own = own;
-  later = λ n B′ h. later-off (getD (stored k o i) n (pos 0)) (getD (receivedAll (i .samples) (i .gains)) n (pos 0)) (newB k o i) B′ (scaleForward k) (own n h);
-}
-  where
-    own : (n : ℕ) → n < k .N →
-        Off (newB k o i + scaleForward k) (newB k o i + scaleForward k) (getD (stored k o i) n (pos 0)) (getD (receivedAll (i .samples) (i .gains)) n (pos 0))
-    own n h = rw (stored-at k o i a n h) (stored-off (getD (receivedAll (i .samples) (i .gains)) n (pos 0)) (newB k o i + scaleForward k))
+module _ (k : Settings) (o : Memory) (i : Block) (a : Acceptable k i) where
+  pub stored-near : StoredNear k o i
+  stored-near n h = rw (stored-at k o i a n h) (stored-off (getD (receivedAll (i .samples) (i .gains)) n (pos 0)) (newB k o i + scaleForward k))
 
-pub met-near : (k : Settings) (o : Memory) (i : Block) → Sound k o → Acceptable k i → MetNear k o i
-unfolding left
-met-near k o i s a = record { own = own; later = later }
-  where
-    own : (n j : ℕ) → n < k .N → j < k .p → j ≤ n →
-        Off (newB k o i + scaleForward k) (newB k o i + scaleForward k) (getD (at k o i n .samples) j (pos 0))
-        (getD (receivedAll (i .samples) (i .gains)) (n - j) (pos 0))
-    own n j h l e = rw (at-new k o i (s .within .p-least) (s .samples-long) n j (n - j) l (omega arith)) (stored-near k o i a .own (n - j) (omega arith))
+  -- at the exponent B′ of a later block
+  stored-later : (n B′ : ℕ) → n < k .N →
+      QuantisedWithin (B′ + scaleForward k) (max (newB k o i) B′ + scaleForward k) (rescale (getD (stored k o i) n (pos 0)) (newB k o i) B′)
+      (getD (receivedAll (i .samples) (i .gains)) n (pos 0))
+  stored-later n B′ h = later-off (getD (stored k o i) n (pos 0)) (getD (receivedAll (i .samples) (i .gains)) n (pos 0)) (newB k o i) B′ (scaleForward k) (stored-near n h)
 
-    left-long : length (left k o i .samples) ≡ k .p - 1
-    left-long = left-length k o i (s .within .p-least) (s .samples-long)
+-- the samples that the weights meet
+module _ (k : Settings) (o : Memory) (i : Block) (s : Sound k o) (a : Acceptable k i) where
+  -- at sample n of their own block, where the place j holds sample n − j
+  pub met-near : (n j : ℕ) → n < k .N → j < k .p → j ≤ n →
+      QuantisedWithin (newB k o i + scaleForward k) (newB k o i + scaleForward k) (getD (at k o i n .samples) j (pos 0))
+      (getD (receivedAll (i .samples) (i .gains)) (n - j) (pos 0))
+  met-near n j h l e = rw (at-new k o i (s .within .p-least) (s .samples-long) n j (n - j) l (omega arith)) (stored-near k o i a (n - j) (omega arith))
 
-    later : (i′ : Block) (n j : ℕ) → n < k .N → j < k .p → n < j →
-        Off (newB k (left k o i) i′ + scaleForward k) (max (newB k o i) (newB k (left k o i) i′) + scaleForward k)
-        (getD (at k (left k o i) i′ n .samples) j (pos 0)) (getD (receivedAll (i .samples) (i .gains)) (k .N + n - j) (pos 0))
-    later i′ n j h l e = rw (
-      at-old k (left k o i) i′ (s .within .p-least) left-long n j (j - suc n) l (omega arith),
-      old-at k (left k o i) i′ (j - suc n) (omega (arith, left-long)),
-      left-at k o i (s .within .p-least) (s .samples-long) (j - suc n) (k .N + n - j) (omega arith) (omega arith),
-    ) (stored-near k o i a .later (k .N + n - j) (newB k (left k o i) i′) (omega arith))
+  next-long : length (nextMemory k o i .samples) ≡ k .p - 1
+  next-long = next-memory-length k o i (s .within .p-least) (s .samples-long)
+
+  -- at sample n of any block that runs on what this one left, where the place j holds this block's sample N + n − j
+  pub met-later : (i′ : Block) (n j : ℕ) → n < k .N → j < k .p → n < j →
+      QuantisedWithin (newB k (nextMemory k o i) i′ + scaleForward k) (max (newB k o i) (newB k (nextMemory k o i) i′) + scaleForward k)
+      (getD (at k (nextMemory k o i) i′ n .samples) j (pos 0)) (getD (receivedAll (i .samples) (i .gains)) (k .N + n - j) (pos 0))
+  unfolding nextMemory
+  met-later i′ n j h l e = rw (
+    at-old k (nextMemory k o i) i′ (s .within .p-least) next-long n j (j - suc n) l (omega arith),
+    old-at k (nextMemory k o i) i′ (j - suc n) (omega (arith, next-long)),
+    next-memory-at k o i (s .within .p-least) (s .samples-long) (j - suc n) (k .N + n - j) (omega arith) (omega arith),
+  ) (stored-later k o i a (k .N + n - j) (newB k (nextMemory k o i) i′) (omega arith))

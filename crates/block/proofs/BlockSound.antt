@@ -11,19 +11,19 @@ use borrow.Author.Tests.{leb-true}
 use Rattle.laws.specs.Lists.{and-left, and-right}
 use Rattle.laws.specs.Sums.{Each, each-at, each-of, each-append}
 use Rattle.steps.specs.Settings.{Settings, isEntry}
-use Rattle.filter.specs.Sample.{Taps}
-use Rattle.block.specs.Block.{Block, Memory, newb, newB, g, stored, old, start, entered, after, at, goes, left}
+use Rattle.filter.specs.Sample.{FilterState}
+use Rattle.block.specs.Block.{Block, Memory, newb, newB, Γ, stored, old, start, entered, after, at, ψFits, nextMemory}
 use Rattle.filter.specs.Sound.{Fit}
 use Rattle.block.specs.Sound.{Sound, Acceptable}
-use Rattle.steps.proofs.SideLaws.{push-length, push-each}
+use Rattle.steps.proofs.FirLaws.{push-length, push-each}
 use Rattle.filter.proofs.NextLaws.{next-fit}
-use Rattle.block.proofs.BlockExponents.{newb-newB, newB-most, g-least, g-most}
+use Rattle.block.proofs.BlockExponents.{newb-newB, newB-most, Γ-least, Γ-most}
 use Rattle.block.proofs.BlockStored.{StateBound, SampleBound, stored-sound, stored-small, old-small, stored-length}
-use Rattle.block.proofs.BlockWindow.{after-length, left-length, left-at}
+use Rattle.block.proofs.BlockWindow.{after-length, next-memory-length, next-memory-at}
 
 -- ---- before the first sample, and with a sample entered
 
-fit-start : (k : Settings) (o : Memory) (i : Block) → Sound k o → Acceptable k i → Fit k (g k o i) (start k o i)
+fit-start : (k : Settings) (o : Memory) (i : Block) → Sound k o → Acceptable k i → Fit k (Γ k o i) (start k o i)
 unfolding start after
 fit-start k o i s a = record {
   within = s .within;
@@ -37,11 +37,11 @@ fit-start k o i s a = record {
   samples-small = each-append (SampleBound k) (old k o i) (pos 0 ∷ []) (old-small k o i s) (omega arith, tt);
   symbols-are = s .symbols-are;
   ψ-most = s .ψ-most;
-  g-least = g-least k o i;
-  g-most = g-most k o i s a;
+  Γ-least = Γ-least k o i;
+  Γ-most = Γ-most k o i s a;
 }
 
-fit-entered : (k : Settings) (o : Memory) (i : Block) (n : ℕ) (t : Taps) → Acceptable k i → n < k .N → Fit k (g k o i) t → Fit k (g k o i) (entered k o i n t)
+fit-entered : (k : Settings) (o : Memory) (i : Block) (n : ℕ) (t : FilterState) → Acceptable k i → n < k .N → Fit k (Γ k o i) t → Fit k (Γ k o i) (entered k o i n t)
 fit-entered k o i n t a h f = record {
   within = f .within;
   admitted = f .admitted;
@@ -55,53 +55,53 @@ fit-entered k o i n t a h f = record {
       (each-at (SampleBound k) (stored k o i) n (pos 0) (stored-small k o i) (omega (arith, stored-length k o i a))) (f .samples-small);
   symbols-are = f .symbols-are;
   ψ-most = f .ψ-most;
-  g-least = f .g-least;
-  g-most = f .g-most;
+  Γ-least = f .Γ-least;
+  Γ-most = f .Γ-most;
 }
 
 -- the p − 1 samples that are left are all of this block
-left-samples : (k : Settings) (o : Memory) (i : Block) → Sound k o → Acceptable k i →
-    Each (StateBound k (newb k o i) (newB k o i)) (left k o i .samples)
-left-samples k o i s a = each-of (StateBound k (newb k o i) (newB k o i)) (pos 0) (left k o i .samples) each
+next-memory-samples : (k : Settings) (o : Memory) (i : Block) → Sound k o → Acceptable k i →
+    Each (StateBound k (newb k o i) (newB k o i)) (nextMemory k o i .samples)
+next-memory-samples k o i s a = each-of (StateBound k (newb k o i) (newB k o i)) (pos 0) (nextMemory k o i .samples) each
   where
-    each : (j : ℕ) → j < length (left k o i .samples) → StateBound k (newb k o i) (newB k o i) (getD (left k o i .samples) j (pos 0))
+    each : (j : ℕ) → j < length (nextMemory k o i .samples) → StateBound k (newb k o i) (newB k o i) (getD (nextMemory k o i .samples) j (pos 0))
     each j h =
-        let l = left-length k o i (s .within .p-least) (s .samples-long) in
-        rw (left-at k o i (s .within .p-least) (s .samples-long) j (k .N - 1 - j) (omega arith) (omega arith))
+        let l = next-memory-length k o i (s .within .p-least) (s .samples-long) in
+        rw (next-memory-at k o i (s .within .p-least) (s .samples-long) j (k .N - 1 - j) (omega arith) (omega arith))
         (each-at (StateBound k (newb k o i) (newB k o i)) (stored k o i) (k .N - 1 - j) (pos 0) (stored-sound k o i)
         (omega (arith, stored-length k o i a)))
 
 module _ (k : Settings) (o : Memory) (i : Block) (s : Sound k o) (a : Acceptable k i) where
   -- when n samples are done
-  pub fit-after : (n : ℕ) → n ≤ k .N → goes k o i n ≡ true → Fit k (g k o i) (after k o i n)
-  unfolding after goes
+  pub fit-after : (n : ℕ) → n ≤ k .N → ψFits k o i n ≡ true → Fit k (Γ k o i) (after k o i n)
+  unfolding after ψFits
   fit-after zero h e = fit-start k o i s a
   fit-after (suc n) h e =
-      next-fit k (g k o i) (entered k o i n (after k o i n)) (getD (i .entries) n (pos 0))
-      (fit-entered k o i n (after k o i n) a h (fit-after n (omega arith) (and-left (goes k o i n) _ e)))
+      next-fit k (Γ k o i) (entered k o i n (after k o i n)) (getD (i .entries) n (pos 0))
+      (fit-entered k o i n (after k o i n) a h (fit-after n (omega arith) (and-left (ψFits k o i n) _ e)))
       (each-at (λ (z : ℤ). isEntry (k .r) z ≡ true) (i .entries) n (pos 0) (a .entries-are) (omega (arith, a .entries-long)))
-      (leb-true _ _ (and-right (goes k o i n) _ e))
+      (leb-true _ _ (and-right (ψFits k o i n) _ e))
 
   -- at every sample that is reached
-  pub fit-at : (n : ℕ) → n < k .N → goes k o i n ≡ true → Fit k (g k o i) (at k o i n)
+  pub fit-at : (n : ℕ) → n < k .N → ψFits k o i n ≡ true → Fit k (Γ k o i) (at k o i n)
   unfolding at
   fit-at n h e = fit-entered k o i n (after k o i n) a h (fit-after n (omega arith) e)
 
   -- what an accepted block leaves
-  pub left-sound : goes k o i (k .N) ≡ true → Sound k (left k o i)
-  unfolding left
-  left-sound e =
+  pub next-memory-sound : ψFits k o i (k .N) ≡ true → Sound k (nextMemory k o i)
+  unfolding nextMemory
+  next-memory-sound e =
       let f = fit-after (k .N) (le-refl (k .N)) e in
       record {
         within = s .within;
         admitted = s .admitted;
         forward-long = f .forward-long;
         back-long = f .back-long;
-        samples-long = left-length k o i (s .within .p-least) (s .samples-long);
+        samples-long = next-memory-length k o i (s .within .p-least) (s .samples-long);
         symbols-long = f .symbols-long;
         forward-small = f .forward-small;
         back-small = f .back-small;
-        samples-small = left-samples k o i s a;
+        samples-small = next-memory-samples k o i s a;
         symbols-are = f .symbols-are;
         ψ-most = f .ψ-most;
         b-most = newb-newB k o i;

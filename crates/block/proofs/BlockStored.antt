@@ -14,7 +14,7 @@ use Rattle.numbers.proofs.CutLaws.{rescale-most}
 use Rattle.steps.specs.Limits.{lengthLimit}
 use Rattle.steps.specs.Settings.{Settings, scaleForward}
 use Rattle.steps.specs.Sound.{Storable}
-use Rattle.filter.proofs.SampleSides.{scale-most}
+use Rattle.filter.proofs.SampleFirs.{scale-most}
 use Rattle.block.specs.Block.{Block, Memory, receivedAll, newb, newB, stored, old}
 use Rattle.block.specs.Sound.{Sound, Acceptable, Receivable, StoreBounds}
 use Rattle.block.proofs.BlockExponents.{received-below, newb-newB, oldb-newB, newb-most, newB-most}
@@ -100,7 +100,7 @@ module _ (k : Settings) (o : Memory) (i : Block) where
   pub store-bounds : Sound k o → Acceptable k i → StoreBounds (i .samples) (i .gains) (newB k o i + scaleForward k)
   store-bounds s a = record {
     receivable = receivable a;
-    places-most = omega (arith, newB-most k o i s a, scale-most (k .p) (s .within .p-most));
+    shift-most = omega (arith, newB-most k o i s a, scale-most (k .p) (s .within .p-most));
     fitting = each-weaken (λ (x : ℤ). natAbs x < 2 ^ newb k o i) _ fitting (receivedAll (i .samples) (i .gains)) (received-below k o i);
   }
     where

@@ -7,10 +7,10 @@ use lib.ListN.{length, getD, length-append, List·getD-append}
 use lib.Seq.{length-take-le, getD-take}
 use lib.IntN.{ℤ, pos}
 use Rattle.steps.specs.Settings.{Settings}
-use Rattle.steps.specs.Side.{push}
+use Rattle.steps.specs.Fir.{push}
 use Rattle.filter.proofs.NextLaws.{next-samples}
-use Rattle.block.specs.Block.{Block, Memory, g, stored, old, start, after, at, left}
-use Rattle.steps.proofs.SideLaws.{push-length, push-at}
+use Rattle.block.specs.Block.{Block, Memory, Γ, stored, old, start, after, at, nextMemory}
+use Rattle.steps.proofs.FirLaws.{push-length, push-at}
 use Rattle.block.proofs.BlockStored.{old-length}
 
 same-place : (l : List ℤ) (m n : ℕ) → m ≡ n → getD l m (pos 0) ≡ getD l n (pos 0)
@@ -19,7 +19,7 @@ same-place l m n e = ap (λ (j : ℕ). getD l j (pos 0)) e
 -- the samples when one more is done
 pub after-next : (k : Settings) (o : Memory) (i : Block) (n : ℕ) → after k o i (suc n) .samples ≡ push (getD (stored k o i) n (pos 0)) (after k o i n .samples)
 unfolding after
-after-next k o i n = next-samples k (g k o i) _ _
+after-next k o i n = next-samples k (Γ k o i) _ _
 
 module _ (k : Settings) (o : Memory) (i : Block) (p-least : 1 ≤ k .p) (long : length (o .samples) ≡ k .p - 1) where
   pub after-length : (n : ℕ) → length (after k o i n .samples) ≡ k .p
@@ -57,10 +57,10 @@ module _ (k : Settings) (o : Memory) (i : Block) (p-least : 1 ≤ k .p) (long : 
   at-old n j m h e = ap (λ (s : List ℤ). getD s j (pos 0)) (at-after n) ∙ after-old (suc n) j m h (omega arith) (omega arith)
 
   -- what the block leaves
-  pub left-length : length (left k o i .samples) ≡ k .p - 1
-  unfolding left
-  left-length = length-take-le (k .p - 1) (after k o i (k .N) .samples) (omega (arith, after-length (k .N)))
+  pub next-memory-length : length (nextMemory k o i .samples) ≡ k .p - 1
+  unfolding nextMemory
+  next-memory-length = length-take-le (k .p - 1) (after k o i (k .N) .samples) (omega (arith, after-length (k .N)))
 
-  pub left-at : (j m : ℕ) → j < k .p - 1 → k .N ≡ suc (j + m) → getD (left k o i .samples) j (pos 0) ≡ getD (stored k o i) m (pos 0)
-  unfolding left
-  left-at j m h e = getD-take (k .p - 1) (after k o i (k .N) .samples) j (pos 0) h ∙ after-new (k .N) j m (omega arith) e
+  pub next-memory-at : (j m : ℕ) → j < k .p - 1 → k .N ≡ suc (j + m) → getD (nextMemory k o i .samples) j (pos 0) ≡ getD (stored k o i) m (pos 0)
+  unfolding nextMemory
+  next-memory-at j m h e = getD-take (k .p - 1) (after k o i (k .N) .samples) j (pos 0) h ∙ after-new (k .N) j m (omega arith) e

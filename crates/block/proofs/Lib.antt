@@ -1,5 +1,4 @@
 pub mod ValuesLaws
-pub mod WorkedExample
 pub mod ReceivedLaws
 pub mod BlockExponents
 pub mod BlockStored
@@ -8,7 +7,7 @@ pub mod LineLaws
 pub mod BlockNear
 pub mod BlockCount
 pub mod BlockSound
-pub mod BlockLeft
+pub mod BlockMemory
 pub mod RunStart
 pub mod RunLaws
 pub mod BlockHolds

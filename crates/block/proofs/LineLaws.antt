@@ -9,10 +9,11 @@ use native.Mathlib.Numerals.{add-one}
 use lib.ListN.{length, getD, take, drop, set, length-set, length-drop}
 use lib.Seq.{length-take-le, length-paste, take-length, take-take, take-at, take-append-seam, drop-at, drop-cons, drop-set-lt, getD-set-same, getD-set-other}
 use lib.IntN.{ℤ, pos}
-use Rattle.steps.specs.Limits.{tapLimit, blockLimit, lineLength}
-use Rattle.steps.specs.Side.{push}
-use Rattle.filter.specs.Calls.{LongestAt}
-use Rattle.filter.proofs.DelayLaws.{longest-at-take}
+use Rattle.steps.specs.Limits.{tapLimit, blockLimit}
+use Rattle.steps.specs.Sound.{lineLength}
+use Rattle.steps.specs.Fir.{push}
+use Rattle.filter.specs.Calls.{LargestBitsAt}
+use Rattle.filter.proofs.DelayLaws.{largest-bits-at-take}
 use Rattle.block.specs.Line.{place, newest, started, added}
 
 -- ---- a line that a loop writes: f i when i are written, of n
@@ -98,11 +99,11 @@ newest-given q n line past v e l =
     sym (take-take q (suc q) (drop (blockLimit - suc n) line) (omega arith)) ∙ ap (take q) e ∙ ap (λ (m : ℕ). take m (v ∷ past)) (sym l)
 
 -- the delay of a symbol, when v is given
-pub newest-longest-at : (r delay q n : ℕ) (line past : List ℤ) (v : ℤ) → newest (suc q) (suc n) line ≡ v ∷ past → length line ≡ lineLength → n < blockLimit →
-    LongestAt r delay (getD line (place n) (pos 0) ∷ past) → LongestAt r delay (newest q (suc n) line)
-newest-longest-at r delay q n line past v e l h p =
-    subst (LongestAt r delay) (take-take q (suc q) (drop (blockLimit - suc n) line) (omega arith))
-    (longest-at-take r delay q (newest (suc q) (suc n) line) (subst (LongestAt r delay) (ap (λ (x : ℤ). x ∷ past) first ∙ sym e) p))
+pub newest-largest-bits-at : (r delay q n : ℕ) (line past : List ℤ) (v : ℤ) → newest (suc q) (suc n) line ≡ v ∷ past → length line ≡ lineLength → n < blockLimit →
+    LargestBitsAt r delay (getD line (place n) (pos 0) ∷ past) → LargestBitsAt r delay (newest q (suc n) line)
+newest-largest-bits-at r delay q n line past v e l h p =
+    subst (LargestBitsAt r delay) (take-take q (suc q) (drop (blockLimit - suc n) line) (omega arith))
+    (largest-bits-at-take r delay q (newest (suc q) (suc n) line) (subst (LargestBitsAt r delay) (ap (λ (x : ℤ). x ∷ past) first ∙ sym e) p))
   where
     first : getD line (place n) (pos 0) ≡ v
     first =
@@ -116,11 +117,11 @@ window-part p n line h = ap₂ (λ (m a : ℕ). take m (drop a line)) (add-sub-c
 
 pub past-part : (q n : ℕ) (symbols : List ℤ) → length symbols ≡ lineLength → n < blockLimit → drop 1 (take (place n + q + 1 - place n) (drop (place n) symbols)) ≡ newest q n symbols
 past-part q n symbols l h =
-    ap₂ (λ (m : ℕ) (t : List ℤ). drop 1 (take m t)) places (drop-cons symbols (place n) (pos 0) (omega (arith, l)))
+    ap₂ (λ (m : ℕ) (t : List ℤ). drop 1 (take m t)) apart (drop-cons symbols (place n) (pos 0) (omega (arith, l)))
     ∙ ap (λ (a : ℕ). take q (drop a symbols)) (behind n h)
   where
-    places : place n + q + 1 - place n ≡ suc q
-    places = omega arith
+    apart : place n + q + 1 - place n ≡ suc q
+    apart = omega arith
 
 -- what is written there
 pub written-part : (q n m : ℕ) (symbols new : List ℤ) → length symbols ≡ lineLength → n < blockLimit → length new ≡ suc q →

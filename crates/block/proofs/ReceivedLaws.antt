@@ -12,8 +12,9 @@ use Rattle.laws.specs.Sums.{Each}
 use Rattle.numbers.specs.BitLength.{bitLength}
 use Rattle.numbers.specs.Cut.{rescale}
 use Rattle.numbers.proofs.CutLaws.{raise-abs, rescale-up, rescale-shifts}
-use Rattle.steps.specs.Side.{magnitudes, together}
-use Rattle.steps.proofs.LargestLaws.{together-longest, longest-is}
+use Rattle.steps.specs.Fir.{magnitudes}
+use Rattle.steps.specs.Sound.{orAll}
+use Rattle.steps.proofs.LargestLaws.{or-all-largest-bits, largest-bits-is}
 use Rattle.steps.specs.Limits.{gainLimit, scaleLimit, lengthLimit}
 use Rattle.block.specs.Block.{received, receivedAll}
 use Rattle.block.specs.Sound.{ShiftBounds}
@@ -46,23 +47,23 @@ received-at (m ∷ ms) (g ∷ gs) zero h k = refl
 received-at (m ∷ ms) (g ∷ gs) (suc i) h k = received-at ms gs i (le-of-suc-le-suc h) (le-of-suc-le-suc k)
 
 -- their bits together are as many as the largest has
-pub received-longest : (m : List ℤ) (gains : List ℕ) → bitLength (together (magnitudes (receivedAll m gains))) ≡ blockLength m gains
-received-longest m gains = together-longest (receivedAll m gains) ∙ longest-is (receivedAll m gains)
+pub received-largest-bits : (m : List ℤ) (gains : List ℕ) → bitLength (orAll (magnitudes (receivedAll m gains))) ≡ blockLength m gains
+received-largest-bits m gains = or-all-largest-bits (receivedAll m gains) ∙ largest-bits-is (receivedAll m gains)
 
 -- ---- one shift up and one down
 
-pub shifted-is : (places : ℕ) {x y : ℤ} {up down : ℕ} → x ≡ y → up ≡ 15 - places → down ≡ places - 15 → rescale x up down ≡ rescale y 15 places
-shifted-is places {y = y} e u d = rw (e, u, d) (sym (rescale-shifts y 15 places))
+pub shifted-is : (shift : ℕ) {x y : ℤ} {up down : ℕ} → x ≡ y → up ≡ 15 - shift → down ≡ shift - 15 → rescale x up down ≡ rescale y 15 shift
+shifted-is shift {y = y} e u d = rw (e, u, d) (sym (rescale-shifts y 15 shift))
 
 -- either none up, or the product is the result
-pub shift-bounds : (x : ℤ) (places : ℕ) → places ≤ lengthLimit + scaleLimit → natAbs x < 2 ^ 31 → natAbs (rescale x 15 places) < 2 ^ 15 → ShiftBounds (15 - places) (places - 15) x
-shift-bounds x places m r b = record {
+pub shift-bounds : (x : ℤ) (shift : ℕ) → shift ≤ lengthLimit + scaleLimit → natAbs x < 2 ^ 31 → natAbs (rescale x 15 shift) < 2 ^ 15 → ShiftBounds (15 - shift) (shift - 15) x
+shift-bounds x shift m r b = record {
   up-most = omega arith;
   down-most = omega arith;
-  room = go (decLe 15 places);
-  bound = subst (λ (z : ℤ). natAbs z < 2 ^ 15) (rescale-shifts x 15 places) b;
+  room = go (decLe 15 shift);
+  bound = subst (λ (z : ℤ). natAbs z < 2 ^ 15) (rescale-shifts x 15 shift) b;
 }
   where
-    go : Dec (15 ≤ places) → natAbs x * 2 ^ (15 - places) < 2 ^ 31
+    go : Dec (15 ≤ shift) → natAbs x * 2 ^ (15 - shift) < 2 ^ 31
     go (yes l) = subst (λ (n : ℕ). natAbs x * 2 ^ n < 2 ^ 31) {x = 0} (omega arith) (omega arith)
-    go (no l) = omega (arith, raise-abs x (15 - places), ap natAbs (rescale-up x 15 places (15 - places) (omega arith)))
+    go (no l) = omega (arith, raise-abs x (15 - shift), ap natAbs (rescale-up x 15 shift (15 - shift) (omega arith)))

@@ -13,26 +13,27 @@ use mir.Val.{Fits}
 use borrow.Author.Tests.{le-leb}
 use Rattle.laws.specs.Lists.{Written, written-none, written-next}
 use Rattle.laws.specs.Sums.{each-at}
-use Rattle.steps.specs.Limits.{tapLimit, blockLimit, exponentLimit, lineLength}
+use Rattle.steps.specs.Limits.{tapLimit, blockLimit, exponentLimit}
+use Rattle.steps.specs.Sound.{lineLength}
 use Rattle.steps.specs.Settings.{Settings, isEntry}
-use Rattle.filter.specs.Sample.{Taps}
+use Rattle.filter.specs.Sample.{FilterState}
 use Rattle.filter.specs.Sound.{Fit}
-use Rattle.filter.specs.Calls.{LongestAt, nextDelay, SampleResult-is, tapsOf}
+use Rattle.filter.specs.Calls.{LargestBitsAt, nextDelay, SampleResult-is, filterStateOf}
 use Rattle.filter.specs.declared.sample.SampleResult.{SampleResult}
-use Rattle.block.specs.Block.{Block, Memory, Outputs, newb, newB, g, after, at, goes, count, entryAt, handedY, handedξ, handedDecision, handedZ, handedθ, handed}
+use Rattle.block.specs.Block.{Block, Memory, Outputs, newb, newB, Γ, after, at, ψFits, entryAt, blockY, blockξ, blockDecision, blockZ, blockθ, outputsOf}
+use Rattle.block.specs.Calls.{count, outputsUpTo, filterStateAfter, filterStateAt, Advanceable, Runnable, BegunOn, ProgressedOn, BlockResult-is}
 use Rattle.block.specs.Line.{place, newest}
-use Rattle.block.specs.Calls.{outputsOf, tapsAfter, tapsAt, Advanceable, Runnable, BegunOn, ProgressedOn, BlockResult-is}
 use Rattle.block.specs.declared.run.BlockExponents.{BlockExponents}
 use Rattle.block.specs.declared.run.Progress.{Progress}
 use Rattle.block.specs.declared.run.BlockResult.{BlockResult}
 use Rattle.filter.proofs.NextLaws.{next-symbols}
-use Rattle.filter.proofs.DelayLaws.{next-delay-most, next-longest-at}
+use Rattle.filter.proofs.DelayLaws.{next-delay-most, next-largest-bits-at}
 use Rattle.block.proofs.ValuesLaws.{values-length, values-at}
 use Rattle.block.proofs.BlockCount.{count-most, count-all, count-stopped}
 use Rattle.block.proofs.BlockSound.{fit-at, fit-after}
 use Rattle.block.proofs.BlockWindow.{after-next}
-use Rattle.block.proofs.BlockLeft.{same-outputs}
-use Rattle.block.proofs.LineLaws.{newest-given, newest-longest-at}
+use Rattle.block.proofs.BlockMemory.{same-outputs}
+use Rattle.block.proofs.LineLaws.{newest-given, newest-largest-bits-at}
 
 -- what the loop carries: the weights, the line of symbols, ψ and the lists that are handed out
 pub record Work : Type 0 where
@@ -47,19 +48,19 @@ pub record Work : Type 0 where
 pub record Reached (k : Settings) (o : Memory) (i : Block) (samples : List ℤ) (l : Outputs) (w : Work) : Type 0 where
   pub within : w .n ≤ k .N
   pub symbols-long : length (w .symbols) ≡ lineLength
-  pub taps-are : tapsAfter k (w .n) (w .forward) (w .back) samples (w .symbols) (w .ψ) ≡ after k o i (w .n)
-  pub y-written : Written (handedY k o i) (l .y) (w .n) (w .outputs .y)
-  pub xi-written : Written (handedξ k o i) (l .xi) (w .n) (w .outputs .xi)
-  pub decision-written : Written (handedDecision k o i) (l .decision) (w .n) (w .outputs .decision)
-  pub z-written : Written (handedZ k o i) (l .z) (w .n) (w .outputs .z)
-  pub theta-written : Written (handedθ k o i) (l .theta) (w .n) (w .outputs .theta)
+  pub filter-state-is : filterStateAfter k (w .n) (w .forward) (w .back) samples (w .symbols) (w .ψ) ≡ after k o i (w .n)
+  pub y-written : Written (blockY k o i) (l .y) (w .n) (w .outputs .y)
+  pub xi-written : Written (blockξ k o i) (l .xi) (w .n) (w .outputs .xi)
+  pub decision-written : Written (blockDecision k o i) (l .decision) (w .n) (w .outputs .decision)
+  pub z-written : Written (blockZ k o i) (l .z) (w .n) (w .outputs .z)
+  pub theta-written : Written (blockθ k o i) (l .theta) (w .n) (w .outputs .theta)
 
 -- and ψ kept its limit
 pub record Passed (k : Settings) (o : Memory) (i : Block) (samples : List ℤ) (l : Outputs) (w : Work) (delay : ℕ) : Type 0 where
   pub reached : Reached k o i samples l w
-  pub goes-on : goes k o i (w .n) ≡ true
+  pub ψ-fits-on : ψFits k o i (w .n) ≡ true
   pub delay-most : delay ≤ tapLimit + w .n
-  pub longest-at : LongestAt (k .r) delay (newest (k .q) (w .n) (w .symbols))
+  pub largest-bits-at : LargestBitsAt (k .r) delay (newest (k .q) (w .n) (w .symbols))
 
 -- what is stored of a sample is what it gave
 pub record StoredAs (t : SampleResult) (y decision z : ℤ) : Type 0 where
@@ -72,85 +73,85 @@ pub progressed : {k : Settings} {o : Memory} {i : Block} {samples : List ℤ} {l
     ProgressedOn k o i samples l (record { count = w .n; psi = w .ψ }) (w .forward) (w .back) (w .symbols) (w .outputs)
 progressed {k = k} {o = o} {i = i} {l = l} {w = w} p e = record {
   count-is = e;
-  taps-are = p .taps-are ∙ ap (after k o i) e;
-  outputs-are = same-outputs (p .y-written .is) (p .xi-written .is) (p .decision-written .is) (p .z-written .is) (p .theta-written .is) ∙ ap (λ (m : ℕ). handed k o i m l) e;
+  filter-state-is = p .filter-state-is ∙ ap (after k o i) e;
+  outputs-are = same-outputs (p .y-written .is) (p .xi-written .is) (p .decision-written .is) (p .z-written .is) (p .theta-written .is) ∙ ap (λ (m : ℕ). outputsUpTo k o i m l) e;
 }
 
 module _ {k : Settings} {o : Memory} {i : Block} {e : BlockExponents} {ψ : ℕ} {entries forward₀ back₀ samples symbols₀ : List ℤ} {l : Outputs}
     (b : BegunOn k o i e ψ entries forward₀ back₀ samples symbols₀ l) where
   -- none is done
   pub passed-none : Passed k o i samples l (record { n = 0; forward = forward₀; back = back₀; symbols = symbols₀; ψ = ψ; outputs = l }) tapLimit
-  unfolding goes
+  unfolding ψFits
   passed-none = record {
     reached = record {
       within = omega arith;
       symbols-long = b .symbols-long;
-      taps-are = b .taps-are;
+      filter-state-is = b .filter-state-is;
       y-written = written-none _ _;
       xi-written = written-none _ _;
       decision-written = written-none _ _;
       z-written = written-none _ _;
       theta-written = written-none _ _;
     };
-    goes-on = refl;
+    ψ-fits-on = refl;
     delay-most = omega arith;
-    longest-at = λ a. absurd (omega (arith, length-take (k .q) (drop blockLimit symbols₀), b .sound .within .q-most));
+    largest-bits-at = λ a. absurd (omega (arith, length-take (k .q) (drop blockLimit symbols₀), b .sound .within .q-most));
   }
 
   module _ {w : Work} {delay : ℕ} (p : Passed k o i samples l w delay) where
-    fit : Fit k (g k o i) (after k o i (w .n))
-    fit = fit-after k o i (b .sound) (b .acceptable) (w .n) (p .reached .within) (p .goes-on)
+    fit : Fit k (Γ k o i) (after k o i (w .n))
+    fit = fit-after k o i (b .sound) (b .acceptable) (w .n) (p .reached .within) (p .ψ-fits-on)
 
     -- the weights are as many as the taps
     pub forward-long : length (w .forward) ≡ k .p
-    forward-long = ap (λ (t : Taps). length (t .forward)) (p .reached .taps-are) ∙ fit .forward-long
+    forward-long = ap (λ (t : FilterState). length (t .forward)) (p .reached .filter-state-is) ∙ fit .forward-long
 
     pub back-long : length (w .back) ≡ k .q
-    back-long = ap (λ (t : Taps). length (t .back)) (p .reached .taps-are) ∙ fit .back-long
+    back-long = ap (λ (t : FilterState). length (t .back)) (p .reached .filter-state-is) ∙ fit .back-long
 
     -- all are done
     pub finished : k .N ≤ w .n → ProgressedOn k o i samples l (record { count = w .n; psi = w .ψ }) (w .forward) (w .back) (w .symbols) (w .outputs)
     finished h =
         let last = le-antisymm (p .reached .within) h in
-        progressed (p .reached) (last ∙ sym (count-all k o i (k .N) (ap (goes k o i) (sym last) ∙ p .goes-on)))
+        progressed (p .reached) (last ∙ sym (count-all k o i (k .N) (ap (ψFits k o i) (sym last) ∙ p .ψ-fits-on)))
 
     -- one more is there
     module _ (more : w .n < k .N) {entry : ℤ} (q : entry ≡ getD entries (w .n) (pos 0)) where
       entry-is : entry ≡ entryAt k o i (w .n)
       entry-is = q ∙ ap (λ (t : List ℤ). getD t (w .n) (pos 0)) (b .entries-are)
 
-      abbrev taps : Taps
-      taps = tapsAt k (w .n) (w .forward) (w .back) samples (w .symbols) (w .ψ)
+      abbrev filters : FilterState
+      filters = filterStateAt k (w .n) (w .forward) (w .back) samples (w .symbols) (w .ψ)
 
-      taps-at : taps ≡ at k o i (w .n)
+      filter-state-at : filters ≡ at k o i (w .n)
       unfolding at
-      taps-at = ap₂ (λ (t : Taps) (a : List ℤ). tapsOf (t .forward) (t .back) a (t .symbols) (t .ψ)) (p .reached .taps-are) (b .sample-line .windows (suc (w .n)) more ∙ after-next k o i (w .n))
+      filter-state-at = ap₂ (λ (t : FilterState) (a : List ℤ). filterStateOf (t .forward) (t .back) a (t .symbols) (t .ψ)) (p .reached .filter-state-is) (b .sample-line .windows (suc (w .n)) more ∙ after-next k o i (w .n))
 
-      fit-now : Fit k (g k o i) (at k o i (w .n))
-      fit-now = fit-at k o i (b .sound) (b .acceptable) (w .n) more (p .goes-on)
+      fit-now : Fit k (Γ k o i) (at k o i (w .n))
+      fit-now = fit-at k o i (b .sound) (b .acceptable) (w .n) more (p .ψ-fits-on)
 
       room : w .n < blockLimit
       room = omega (arith, b .sound .within .N-most)
 
-      pub advanceable : Advanceable k e delay (w .n) entry samples (w .symbols) taps
+      pub advanceable : Advanceable k e delay (w .n) entry samples (w .symbols) filters
       advanceable = record {
         room = room;
         samples-long = b .sample-line .long;
         symbols-long = p .reached .symbols-long;
-        ready = rw (taps-at, b .exponents .g-is, entry-is) (record {
+        ready = rw (filter-state-at, b .exponents .Γ-is, entry-is) (record {
           fit = fit-now;
           entry-is = each-at (λ (v : ℤ). isEntry (k .r) v ≡ true) (i .entries) (w .n) (pos 0) (b .acceptable .entries-are) (omega (arith, b .acceptable .entries-long));
           forward-scale = b .exponents .s-is;
           back-scale = b .exponents .sb-is;
         });
-        longest-at = p .longest-at;
+        largest-bits-at = p .largest-bits-at;
       }
 
-      module _ {t : SampleResult} {forward back : List ℤ} (symbols : List ℤ) (h : SampleResult-is k (e .g) taps entry t forward back (newest (suc (k .q)) (suc (w .n)) symbols))
+      module _ {t : SampleResult} {forward back : List ℤ} (symbols : List ℤ) (h : SampleResult-is k (e .gamma30) filters entry t forward back (newest (suc (k .q)) (suc (w .n)) symbols))
           (long : length symbols ≡ lineLength) {ty td tz : ℤ} (same : StoredAs t ty td tz) where
         -- a step of the definitions
-        step : SampleResult-is k (g k o i) (at k o i (w .n)) (entryAt k o i (w .n)) t forward back (newest (suc (k .q)) (suc (w .n)) symbols)
-        step = rw (taps-at, b .exponents .g-is, entry-is) at h
+        step : SampleResult-is k (Γ k o i) (at k o i (w .n)) (entryAt k o i (w .n)) t forward back (newest (suc (k .q)) (suc (w .n)) symbols)
+        step = rw (filter-state-at, b .exponents .Γ-is, entry-is) at h
 
         ψ-next : t .psi ≡ after k o i (suc (w .n)) .ψ
         unfolding after at
@@ -167,10 +168,10 @@ module _ {k : Settings} {o : Memory} {i : Block} {e : BlockExponents} {ψ : ℕ}
               (set (w .outputs .z) (w .n) tz) (set (w .outputs .theta) (w .n) (t .theta));
         }
 
-        taps-next : tapsAfter k (suc (w .n)) forward back samples symbols (t .psi) ≡ after k o i (suc (w .n))
+        filter-state-next : filterStateAfter k (suc (w .n)) forward back samples symbols (t .psi) ≡ after k o i (suc (w .n))
         unfolding after at
-        taps-next =
-            let x = next-symbols k (g k o i) (at k o i (w .n)) (entryAt k o i (w .n)) in
+        filter-state-next =
+            let x = next-symbols k (Γ k o i) (at k o i (w .n)) (entryAt k o i (w .n)) in
             rw (
               step .forward-is,
               step .back-is,
@@ -180,11 +181,11 @@ module _ {k : Settings} {o : Memory} {i : Block} {e : BlockExponents} {ψ : ℕ}
             )
 
         reached : Reached k o i samples l work
-        unfolding handedY handedξ handedDecision handedZ handedθ
+        unfolding blockY blockξ blockDecision blockZ blockθ
         reached = record {
           within = omega arith;
           symbols-long = long;
-          taps-are = rw (add-one (w .n)) taps-next;
+          filter-state-is = rw (add-one (w .n)) filter-state-next;
           y-written = written-next (p .reached .y-written) (pos 0) _ (rw values-length more) (rw (b .outputs-long .y-long) more) (same .y-as ∙ step .y ∙ sym (values-at _ (pos 0) (k .N) (w .n) more));
           xi-written = written-next (p .reached .xi-written) 0 _ (rw values-length more) (rw (b .outputs-long .xi-long) more) (step .xi ∙ sym (values-at _ 0 (k .N) (w .n) more));
           decision-written = written-next (p .reached .decision-written) (pos 0) _ (rw values-length more) (rw (b .outputs-long .decision-long) more) (same .decision-as ∙ step .decision-is ∙ sym (values-at _ (pos 0) (k .N) (w .n) more));
@@ -194,18 +195,18 @@ module _ {k : Settings} {o : Memory} {i : Block} {e : BlockExponents} {ψ : ℕ}
 
         -- ψ kept its limit
         pub passed-next : t .psi ≤ exponentLimit → {delay′ : ℕ} {v : ℤ} → v ≡ getD symbols (place (w .n)) (pos 0) → delay′ ≡ nextDelay (k .r) delay v → Passed k o i samples l work delay′
-        unfolding goes
+        unfolding ψFits
         passed-next m {v = v} ev d = record {
           reached = reached;
-          goes-on = rw (add-one (w .n), p .goes-on) (le-leb _ _ (subst (λ (x : ℕ). x ≤ exponentLimit) ψ-next m));
+          ψ-fits-on = rw (add-one (w .n), p .ψ-fits-on) (le-leb _ _ (subst (λ (x : ℕ). x ≤ exponentLimit) ψ-next m));
           delay-most = omega (arith, d, next-delay-most (k .r) delay v, p .delay-most);
-          longest-at = rw (add-one (w .n), d) (newest-longest-at (k .r) (nextDelay (k .r) delay v) (k .q) (w .n) symbols _ _ (h .symbols-are) long room
-              (subst (λ (x : ℤ). LongestAt (k .r) (nextDelay (k .r) delay v) (x ∷ taps .symbols)) ev (next-longest-at (k .r) delay v (taps .symbols) (p .longest-at))));
+          largest-bits-at = rw (add-one (w .n), d) (newest-largest-bits-at (k .r) (nextDelay (k .r) delay v) (k .q) (w .n) symbols _ _ (h .symbols-are) long room
+              (subst (λ (x : ℤ). LargestBitsAt (k .r) (nextDelay (k .r) delay v) (x ∷ filters .symbols)) ev (next-largest-bits-at (k .r) delay v (filters .symbols) (p .largest-bits-at))));
         }
 
         -- ψ passes it
         pub stopped : exponentLimit < t .psi → ProgressedOn k o i samples l (record { count = w .n + 1; psi = t .psi }) forward back symbols (work .outputs)
-        stopped m = progressed reached (add-one (w .n) ∙ sym (count-stopped k o i (w .n) (k .N) more (p .goes-on) (subst (λ (x : ℕ). exponentLimit < x) ψ-next m)))
+        stopped m = progressed reached (add-one (w .n) ∙ sym (count-stopped k o i (w .n) (k .N) more (p .ψ-fits-on) (subst (λ (x : ℕ). exponentLimit < x) ψ-next m)))
 
 -- ---- the newest samples and symbols are where the old ones were
 
@@ -215,12 +216,12 @@ module _ {k : Settings} {o : Memory} {i : Block} {samples : List ℤ} {l : Outpu
   count-room h = omega (arith, p .count-is, count-most k o i (k .N))
 
   pub block-result : {window past : List ℤ} {p′ q′ : ℕ} → p′ ≡ k .p → q′ ≡ k .q → window ≡ newest p′ (r .count) samples → past ≡ newest q′ (r .count) symbols →
-      {b big : ℕ} → b ≡ newb k o i → big ≡ newB k o i → BlockResult-is k o i l (record { psi = r .psi; b = b; big = big }) forward back window past l′
+      {b bmax : ℕ} → b ≡ newb k o i → bmax ≡ newB k o i → BlockResult-is k o i l (record { psi = r .psi; b = b; bmax = bmax }) forward back window past l′
   block-result ep eq ew es eb eB = record {
-    taps-are = ap₂ (λ (a b : List ℤ). tapsOf forward back a b (r .psi)) (ew ∙ ap (λ (m : ℕ). newest m (r .count) samples) ep) (es ∙ ap (λ (m : ℕ). newest m (r .count) symbols) eq)
-        ∙ p .taps-are;
+    filter-state-is = ap₂ (λ (a b : List ℤ). filterStateOf forward back a b (r .psi)) (ew ∙ ap (λ (m : ℕ). newest m (r .count) samples) ep) (es ∙ ap (λ (m : ℕ). newest m (r .count) symbols) eq)
+        ∙ p .filter-state-is;
     b = eb;
-    big = eB;
+    bmax = eB;
     outputs-are = p .outputs-are;
   }
 

@@ -8,11 +8,11 @@ use lib.IntN.{ℤ, pos}
 use Rattle.laws.specs.Sums.{Each, each-append}
 use Rattle.numbers.specs.Cut.{rescale}
 use Rattle.numbers.proofs.CutLaws.{rescale-zero}
-use Rattle.steps.specs.Limits.{tapLimit, blockLimit, lineLength}
+use Rattle.steps.specs.Limits.{tapLimit, blockLimit}
+use Rattle.steps.specs.Sound.{lineLength, Storable}
 use Rattle.steps.specs.Settings.{Settings}
-use Rattle.steps.specs.Side.{push}
-use Rattle.steps.specs.Sound.{Storable}
-use Rattle.block.specs.Block.{Block, Memory, Outputs, storedAll, newb, newB, g, stored, old, start, after}
+use Rattle.steps.specs.Fir.{push}
+use Rattle.block.specs.Block.{Block, Memory, Outputs, storedAll, newb, newB, Γ, stored, old, start, after}
 use Rattle.block.specs.Line.{place, newest, started, added}
 use Rattle.block.specs.Calls.{Startable, BlockExponents-is, ExponentsOf, FillBounds, filled, SampleLine, Runnable, BegunOn}
 use Rattle.block.specs.declared.run.BlockExponents.{BlockExponents}
@@ -37,14 +37,14 @@ module _ {k : Settings} {o : Memory} {i : Block} {window₀ : List ℤ} {l : Out
   symbols-most = omega (arith, run .sound .symbols-long, run .sound .within .q-most)
 
 pub exponents-of : {k : Settings} {o : Memory} {i : Block} {e : BlockExponents} → BlockExponents-is k (o .b) (i .samples) (i .gains) e → ExponentsOf k o i e
-unfolding g newB newb
-exponents-of p = record { s-is = p .s; sb-is = p .sb; b-is = p .b; big-is = p .big; g-is = p .exponent }
+unfolding Γ newB newb
+exponents-of p = record { s-is = p .s; sb-is = p .sb; b-is = p .b; bmax-is = p .bmax; Γ-is = p .exponent }
 
 module _ {k : Settings} {o : Memory} {i : Block} {e : BlockExponents} {window₀ : List ℤ} {l : Outputs} (b : ExponentsOf k o i e) (run : Runnable k o i window₀ l) where
   -- the window that was lent may be rescaled
-  pub window-storable : Each (Storable (o .B) (e .big)) window₀
+  pub window-storable : Each (Storable (o .B) (e .bmax)) window₀
   window-storable =
-      rw (run .window-is, b .big-is)
+      rw (run .window-is, b .bmax-is)
       (each-append (Storable (o .B) (newB k o i)) (o .samples) (pos 0 ∷ []) (old-storable k o i (run .sound)) (
         record {
           shift = omega (arith, run .sound .B-most);
@@ -54,7 +54,7 @@ module _ {k : Settings} {o : Memory} {i : Block} {e : BlockExponents} {window₀
         tt,
       ))
 
-  module _ {window : List ℤ} (w : window ≡ map (λ (a : ℤ). rescale a (o .B) (e .big)) window₀) where
+  module _ {window : List ℤ} (w : window ≡ map (λ (a : ℤ). rescale a (o .B) (e .bmax)) window₀) where
     pub window-long : length window ≡ k .p
     window-long = ap length w ∙ length-map window₀ _ ∙ lent-long run
 
@@ -62,7 +62,7 @@ module _ {k : Settings} {o : Memory} {i : Block} {e : BlockExponents} {window₀
     window-rescaled : window ≡ after k o i 0 .samples
     unfolding after start old
     window-rescaled =
-        w ∙ rw (run .window-is, b .big-is) (
+        w ∙ rw (run .window-is, b .bmax-is) (
         map-append (λ (a : ℤ). rescale a (o .B) (newB k o i)) (o .samples) (pos 0 ∷ [])
         ∙ ap (λ (z : ℤ). map (λ (a : ℤ). rescale a (o .B) (newB k o i)) (o .samples) ++ (z ∷ [])) (rescale-zero (o .B) (newB k o i)))
 
@@ -70,9 +70,9 @@ module _ {k : Settings} {o : Memory} {i : Block} {e : BlockExponents} {window₀
     window-most = omega (arith, window-long, run .sound .within .p-most)
 
     -- the samples may be stored
-    pub fill-bounds : {area line : List ℤ} → length area ≡ length (i .samples) → length line ≡ lineLength → FillBounds (i .samples) (i .gains) (e .big + e .s) window area line
+    pub fill-bounds : {area line : List ℤ} → length area ≡ length (i .samples) → length line ≡ lineLength → FillBounds (i .samples) (i .gains) (e .bmax + e .s) window area line
     fill-bounds a h = record {
-      bounds = rw (b .big-is, b .s-is) (store-bounds k o i (run .sound) (run .acceptable));
+      bounds = rw (b .bmax-is, b .s-is) (store-bounds k o i (run .sound) (run .acceptable));
       samples-most = omega (arith, run .acceptable .samples-long, run .sound .within .N-most);
       stored-long = a;
       old-most = window-most;
@@ -81,7 +81,7 @@ module _ {k : Settings} {o : Memory} {i : Block} {e : BlockExponents} {window₀
 
     -- then they stand in the line
     module _ (line₀ : List ℤ) {line : List ℤ} (h : length line₀ ≡ lineLength)
-        (is : line ≡ filled (e .big + e .s) (i .samples) (i .gains) window line₀) where
+        (is : line ≡ filled (e .bmax + e .s) (i .samples) (i .gains) window line₀) where
       started-long : length (started window line₀) ≡ lineLength
       started-long = started-length window line₀ h window-most
 
@@ -93,7 +93,7 @@ module _ {k : Settings} {o : Memory} {i : Block} {e : BlockExponents} {window₀
       stored-in n m =
           ap (λ (t : List ℤ). getD t (place n) (pos 0)) is
           ∙ added-at _ _ _ started-long (omega (arith, run .acceptable .samples-long, run .sound .within .N-most)) n (omega (arith, run .acceptable .samples-long))
-          ∙ ap (λ (m : ℕ). getD (storedAll m (i .samples) (i .gains)) n (pos 0)) (omega (arith, b .big-is, b .s-is))
+          ∙ ap (λ (m : ℕ). getD (storedAll m (i .samples) (i .gains)) n (pos 0)) (omega (arith, b .bmax-is, b .s-is))
 
       windows : (n : ℕ) → n ≤ k .N → newest (k .p) n line ≡ after k o i n .samples
       windows zero m =
@@ -117,7 +117,7 @@ module _ {k : Settings} {o : Memory} {i : Block} {e : BlockExponents} {window₀
         entries-are = refl;
         sample-line = sample-line;
         symbols-long = ap length s ∙ started-length (o .symbols) symbols₀ f (symbols-most run);
-        taps-are = rw (windows 0 (omega arith), past);
+        filter-state-is = rw (windows 0 (omega arith), past);
       }
         where
           past : newest (k .q) 0 symbols ≡ o .symbols
@@ -125,6 +125,6 @@ module _ {k : Settings} {o : Memory} {i : Block} {e : BlockExponents} {window₀
 
 -- ---- the samples are stored, and stand in the line
 
-pub filled-is : (places : ℕ) (m : List ℤ) (gains : List ℕ) (old line₀ : List ℤ) {stored between line : List ℤ} → stored ≡ storedAll places m gains → length stored ≡ length m →
-    between ≡ started old line₀ → line ≡ added (length stored) stored between → line ≡ filled places m gains old line₀
-filled-is places m gains old line₀ s n b e = e ∙ rw (n, s, b)
+pub filled-is : (shift : ℕ) (m : List ℤ) (gains : List ℕ) (old line₀ : List ℤ) {stored between line : List ℤ} → stored ≡ storedAll shift m gains → length stored ≡ length m →
+    between ≡ started old line₀ → line ≡ added (length stored) stored between → line ≡ filled shift m gains old line₀
+filled-is shift m gains old line₀ s n b e = e ∙ rw (n, s, b)

@@ -12,12 +12,13 @@ use Rattle.numbers.proofs.CutLaws.{raise-neg, rescale-neg}
 use Rattle.steps.specs.Limits.{exponentLimit, halvingLimit}
 use Rattle.steps.specs.Settings.{Settings, scaleForward}
 use Rattle.steps.proofs.NegatedLaws.{push-neg, magnitudes-neg}
-use Rattle.filter.specs.Sample.{Taps, Y, ξ, decision, Z, θ, next}
-use Rattle.filter.proofs.NegatedLaws.{swappedTaps, Y-same, ξ-same, decision-same, Z-same, θ-same, next-swapped}
-use Rattle.block.specs.Block.{Block, Memory, receivedAll, values, newb, newB, g, stored, old, start, entered, after, at, entryAt, goes, handedY, handedξ, handedDecision, handedZ, handedθ, handedAll, left}
+use Rattle.filter.specs.Sample.{FilterState, Y, ξ, decision, Z, θ, next}
+use Rattle.filter.proofs.NegatedLaws.{swappedFilterState, Y-same, ξ-same, decision-same, Z-same, θ-same, next-swapped}
+use Rattle.block.specs.Block.{Block, Memory, receivedAll, values, newb, newB, Γ, stored, old, start, entered, after, at, entryAt, ψFits, blockY, blockξ, blockDecision, blockZ, blockθ, blockOutputs, nextMemory}
 use Rattle.block.specs.Sound.{Sound}
-use Rattle.block.specs.Swapped.{swapped, swappedBlock}
-use Rattle.block.proofs.BlockLeft.{same-outputs}
+use Rattle.block.specs.Swapped.{swapped}
+use Rattle.block.specs.Calls.{swappedBlock}
+use Rattle.block.proofs.BlockMemory.{same-outputs}
 
 pub swapped-back : (o : Memory) → swapped (swapped o) ≡ o
 swapped-back o = rw (negated-negated (o .forward), negated-negated (o .samples))
@@ -45,9 +46,9 @@ module _ (k : Settings) (o : Memory) (i : Block) where
   unfolding newB
   newB-same = rw newb-same
 
-  g-same : g k o′ i′ ≡ g k o i
-  unfolding g
-  g-same = rw newB-same
+  Γ-same : Γ k o′ i′ ≡ Γ k o i
+  unfolding Γ
+  Γ-same = rw newB-same
 
   -- ---- the stored samples
 
@@ -63,43 +64,43 @@ module _ (k : Settings) (o : Memory) (i : Block) where
 
   -- ---- sample by sample
 
-  start-swapped : start k o′ i′ ≡ swappedTaps (start k o i)
+  start-swapped : start k o′ i′ ≡ swappedFilterState (start k o i)
   unfolding start
   start-swapped = rw (old-neg, map-append)
 
-  entered-swapped : (n : ℕ) (t : Taps) {t′ : Taps} → t′ ≡ swappedTaps t → entered k o′ i′ n t′ ≡ swappedTaps (entered k o i n t)
+  entered-swapped : (n : ℕ) (t : FilterState) {t′ : FilterState} → t′ ≡ swappedFilterState t → entered k o′ i′ n t′ ≡ swappedFilterState (entered k o i n t)
   entered-swapped n t e = rw (e, stored-neg, negated-at, push-neg)
 
-  after-swapped : (n : ℕ) → after k o′ i′ n ≡ swappedTaps (after k o i n)
+  after-swapped : (n : ℕ) → after k o′ i′ n ≡ swappedFilterState (after k o i n)
   unfolding after
   after-swapped zero = start-swapped
   after-swapped (suc n) =
-      ap₂ (λ (γ : ℕ) (t : Taps). next k γ t (entryAt k o i n)) g-same (entered-swapped n (after k o i n) (after-swapped n))
-      ∙ next-swapped k (g k o i) (entered k o i n (after k o i n)) (entryAt k o i n)
+      ap₂ (λ (γ : ℕ) (t : FilterState). next k γ t (entryAt k o i n)) Γ-same (entered-swapped n (after k o i n) (after-swapped n))
+      ∙ next-swapped k (Γ k o i) (entered k o i n (after k o i n)) (entryAt k o i n)
 
-  at-swapped : (n : ℕ) → at k o′ i′ n ≡ swappedTaps (at k o i n)
+  at-swapped : (n : ℕ) → at k o′ i′ n ≡ swappedFilterState (at k o i n)
   unfolding at
   at-swapped n = entered-swapped n (after k o i n) (after-swapped n)
 
-  pub goes-same : (n : ℕ) → goes k o′ i′ n ≡ goes k o i n
-  unfolding goes
-  goes-same zero = refl
-  goes-same (suc n) = ap₂ (λ (b : Bool) (t : Taps). b && leb (t .ψ) exponentLimit) (goes-same n) (after-swapped (suc n))
+  pub ψ-fits-same : (n : ℕ) → ψFits k o′ i′ n ≡ ψFits k o i n
+  unfolding ψFits
+  ψ-fits-same zero = refl
+  ψ-fits-same (suc n) = ap₂ (λ (b : Bool) (t : FilterState). b && leb (t .ψ) exponentLimit) (ψ-fits-same n) (after-swapped (suc n))
 
   -- ---- what it hands out and leaves
 
-  -- a value of each sample that is the same of swapped taps
-  each-same : {A : Type 0} (f : Settings → ℕ → Taps → ℤ → A) → ((g₀ : ℕ) (t : Taps) (e : ℤ) → f k g₀ (swappedTaps t) e ≡ f k g₀ t e) →
-      values (λ n. f k (g k o′ i′) (at k o′ i′ n) (entryAt k o′ i′ n)) (k .N) ≡ values (λ n. f k (g k o i) (at k o i n) (entryAt k o i n)) (k .N)
-  each-same f h = ap (λ h. values h (k .N)) (fun-ext (λ n. rw (g-same, at-swapped) (h (g k o i) (at k o i n) (entryAt k o i n))))
+  -- a value of each sample that is the same of a swapped filter state
+  each-same : {A : Type 0} (f : Settings → ℕ → FilterState → ℤ → A) → ((Γ₀ : ℕ) (t : FilterState) (e : ℤ) → f k Γ₀ (swappedFilterState t) e ≡ f k Γ₀ t e) →
+      values (λ n. f k (Γ k o′ i′) (at k o′ i′ n) (entryAt k o′ i′ n)) (k .N) ≡ values (λ n. f k (Γ k o i) (at k o i n) (entryAt k o i n)) (k .N)
+  each-same f h = ap (λ h. values h (k .N)) (fun-ext (λ n. rw (Γ-same, at-swapped) (h (Γ k o i) (at k o i n) (entryAt k o i n))))
 
-  pub handed-same : handedAll k o′ i′ ≡ handedAll k o i
-  unfolding handedY handedξ handedDecision handedZ handedθ
-  handed-same = same-outputs (each-same Y (Y-same k)) (each-same ξ (ξ-same k)) (each-same decision (decision-same k)) (each-same Z (Z-same k)) (each-same θ (θ-same k))
+  pub block-same : blockOutputs k o′ i′ ≡ blockOutputs k o i
+  unfolding blockY blockξ blockDecision blockZ blockθ
+  block-same = same-outputs (each-same Y (Y-same k)) (each-same ξ (ξ-same k)) (each-same decision (decision-same k)) (each-same Z (Z-same k)) (each-same θ (θ-same k))
 
-  pub left-swapped : left k o′ i′ ≡ swapped (left k o i)
-  unfolding left
-  left-swapped = rw (after-swapped, newb-same, newB-same, negated-take)
+  pub next-memory-swapped : nextMemory k o′ i′ ≡ swapped (nextMemory k o i)
+  unfolding nextMemory
+  next-memory-swapped = rw (after-swapped, newb-same, newB-same, negated-take)
 
 -- ---- what is sound stays so
 

@@ -1,17 +1,18 @@
--- One block of N samples.
-use mathlib.Core.Bool.{Bool, true, _&&_, cond}
+-- One block of N samples, and what holds at each sample of an accepted one.
+use mathlib.Core.Path.{_≡_}
+use mathlib.Core.Bool.{Bool, true, _&&_}
 use mathlib.Core.List.{List, [], _∷_, _++_, map}
-use Prim.Native.Nat.{ℕ, zero, suc, _+_, _-_, max}
+use Prim.Native.Nat.{ℕ, zero, suc, _+_, _-_, _^_, _≤_, _<_, max}
 use lib.Dec.{leb}
-use lib.ListN.{getD, take}
-use lib.IntN.{ℤ, pos}
-use Rattle.laws.specs.Lists.{overlay}
+use lib.ListN.{length, getD, take}
+use lib.IntN.{ℤ, pos, natAbs, _-ℤ_}
+use Rattle.laws.specs.Sums.{Each}
 use Rattle.numbers.specs.BitLength.{bitLength}
 use Rattle.numbers.specs.Cut.{raise, rescale}
 use Rattle.steps.specs.Limits.{exponentLimit}
 use Rattle.steps.specs.Settings.{Settings, scaleForward}
-use Rattle.steps.specs.Side.{largest, magnitudes, push}
-use Rattle.filter.specs.Sample.{Taps, Y, ξ, decision, Z, θ, next}
+use Rattle.steps.specs.Fir.{Small, largest, magnitudes, push}
+use Rattle.filter.specs.Sample.{FilterState, halve, Y, ξ, decision, Z, θ, outcome, next, Bounded, Normalised, Faithful, SameValues, Frozen}
 
 -- what a block is given: m, the gains and the training entries
 pub record Block : Type 0 where
@@ -38,9 +39,9 @@ receivedAll [] gs = []
 receivedAll (m ∷ ms) [] = []
 receivedAll (m ∷ ms) (g ∷ gs) = received m g ∷ receivedAll ms gs
 
--- the samples as they are stored at B + S = places
+-- the samples as they are stored at B + S = shift
 abbrev pub storedAll : ℕ → List ℤ → List ℕ → List ℤ
-storedAll places m gains = map (λ (x : ℤ). rescale x 15 places) (receivedAll m gains)
+storedAll shift m gains = map (λ (x : ℤ). rescale x 15 shift) (receivedAll m gains)
 
 -- five lists, of an element for each sample
 pub record Outputs : Type 0 where
@@ -50,21 +51,37 @@ pub record Outputs : Type 0 where
   pub z : List ℤ
   pub theta : List ℕ
 
+abbrev pub outputsOf : List ℤ → List ℕ → List ℤ → List ℤ → List ℕ → Outputs
+outputsOf y xi decision z theta = record { y = y; xi = xi; decision = decision; z = z; theta = theta }
+
 -- the values of f at 0 to n − 1
 unfoldable pub values {ℓ} : {A : Type ℓ} → (ℕ → A) → ℕ → List A
 values f zero = []
 values f (suc n) = values f n ++ (f n ∷ [])
 
+-- A stored sample A means A·2^(γ−15), with γ = r − 30 + B + S, and the received value is x = X·2^(r−30). Both are compared times 2^(45−r):
+-- A at B + S = e is off X by less than 2^limit, where 2^(γ−15) becomes 2^(B+S)
+abbrev pub QuantisedWithin : ℕ → ℕ → ℤ → ℤ → Type 0
+QuantisedWithin e limit A X = natAbs (raise A e -ℤ raise X 15) < 2 ^ limit
+
+-- the weights that a block left mean the same numbers as those that it found
+abbrev pub SameWeights : Memory → Memory → Type 0
+SameWeights o o′ = SameValues (o .ψ) (o .forward) (o .back) (o′ .ψ) (o′ .forward) (o′ .back)
+
 module _ (k : Settings) (o : Memory) (i : Block) where
+  -- X of each sample
+  abbrev pub X : List ℤ
+  X = receivedAll (i .samples) (i .gains)
+
   -- 1: b, B and γ + 30
   unfoldable pub newb : ℕ
-  newb = bitLength (largest (magnitudes (receivedAll (i .samples) (i .gains))))
+  newb = bitLength (largest (magnitudes X))
 
   unfoldable pub newB : ℕ
   newB = max newb (o .b)
 
-  unfoldable pub g : ℕ
-  g = k .r + newB + scaleForward k
+  unfoldable pub Γ : ℕ
+  Γ = k .r + newB + scaleForward k
 
   -- 2: the stored samples, and the old ones at the new exponent
   unfoldable pub stored : List ℤ
@@ -73,67 +90,88 @@ module _ (k : Settings) (o : Memory) (i : Block) where
   unfoldable pub old : List ℤ
   old = map (λ (a : ℤ). rescale a (o .B) newB) (o .samples)
 
-  -- the window before the first sample, with a place for it
-  unfoldable pub start : Taps
+  -- the filter state before the first sample: the window ends in a 0, which falls off when the sample enters
+  unfoldable pub start : FilterState
   start = record { forward = o .forward; back = o .back; samples = old ++ (pos 0 ∷ []); symbols = o .symbols; ψ = o .ψ }
 
   -- the new stored sample enters the window
-  abbrev pub entered : ℕ → Taps → Taps
+  abbrev pub entered : ℕ → FilterState → FilterState
   entered n t = record { forward = t .forward; back = t .back; samples = push (getD stored n (pos 0)) (t .samples); symbols = t .symbols; ψ = t .ψ }
 
-  -- the taps when n samples are done, and with the next sample entered
-  unfoldable pub after : ℕ → Taps
+  -- the filter state when n samples are done
+  unfoldable pub after : ℕ → FilterState
   after zero = start
-  after (suc n) = next k g (entered n (after n)) (getD (i .entries) n (pos 0))
+  after (suc n) = next k Γ (entered n (after n)) (getD (i .entries) n (pos 0))
 
-  unfoldable pub at : ℕ → Taps
+  -- and with the next sample entered
+  unfoldable pub at : ℕ → FilterState
   at n = entered n (after n)
 
   -- ψ stayed within its limit through the first n samples
-  unfoldable pub goes : ℕ → Bool
-  goes zero = true
-  goes (suc n) = goes n && leb (after (suc n) .ψ) exponentLimit
-
-  -- how many of the first n samples are run: all, or up to and with the one at which ψ passes its limit
-  unfoldable pub count : ℕ → ℕ
-  count zero = 0
-  count (suc n) = cond (goes n) (suc n) (count n)
+  unfoldable pub ψFits : ℕ → Bool
+  ψFits zero = true
+  ψFits (suc n) = ψFits n && leb (after (suc n) .ψ) exponentLimit
 
   -- the training entry of a sample
   abbrev pub entryAt : ℕ → ℤ
   entryAt n = getD (i .entries) n (pos 0)
 
   -- what a block hands out: Y, ξ, decision, Z and θ of each sample
-  unfoldable pub handedY : List ℤ
-  handedY = values (λ n. Y k g (at n) (entryAt n)) (k .N)
+  unfoldable pub blockY : List ℤ
+  blockY = values (λ n. Y k Γ (at n) (entryAt n)) (k .N)
 
-  unfoldable pub handedξ : List ℕ
-  handedξ = values (λ n. ξ k g (at n) (entryAt n)) (k .N)
+  unfoldable pub blockξ : List ℕ
+  blockξ = values (λ n. ξ k Γ (at n) (entryAt n)) (k .N)
 
-  unfoldable pub handedDecision : List ℤ
-  handedDecision = values (λ n. decision k g (at n) (entryAt n)) (k .N)
+  unfoldable pub blockDecision : List ℤ
+  blockDecision = values (λ n. decision k Γ (at n) (entryAt n)) (k .N)
 
-  unfoldable pub handedZ : List ℤ
-  handedZ = values (λ n. Z k g (at n) (entryAt n)) (k .N)
+  unfoldable pub blockZ : List ℤ
+  blockZ = values (λ n. Z k Γ (at n) (entryAt n)) (k .N)
 
-  unfoldable pub handedθ : List ℕ
-  handedθ = values (λ n. θ k g (at n) (entryAt n)) (k .N)
+  unfoldable pub blockθ : List ℕ
+  blockθ = values (λ n. θ k Γ (at n) (entryAt n)) (k .N)
 
-  abbrev pub handedAll : Outputs
-  handedAll = record { y = handedY; xi = handedξ; decision = handedDecision; z = handedZ; theta = handedθ }
-
-  -- the first n of each, over lists that were there
-  abbrev pub handed : ℕ → Outputs → Outputs
-  handed n l = record {
-    y = overlay n handedY (l .y);
-    xi = overlay n handedξ (l .xi);
-    decision = overlay n handedDecision (l .decision);
-    z = overlay n handedZ (l .z);
-    theta = overlay n handedθ (l .theta);
-  }
+  abbrev pub blockOutputs : Outputs
+  blockOutputs = record { y = blockY; xi = blockξ; decision = blockDecision; z = blockZ; theta = blockθ }
 
   -- what an accepted block leaves
-  unfoldable pub left : Memory
-  left =
+  unfoldable pub nextMemory : Memory
+  nextMemory =
       let t = after (k .N) in
       record { forward = t .forward; back = t .back; samples = take (k .p - 1) (t .samples); symbols = t .symbols; ψ = t .ψ; b = newb; B = newB }
+
+  -- ---- what holds of an accepted block
+
+  -- what holds at sample n
+  pub record AtSample (n : ℕ) : Type 0 where
+    -- p weights with as many stored samples, q weights with as many symbols; after it p and q weights
+    pub forward-long : length (at n .forward) ≡ k .p
+    pub samples-long : length (at n .samples) ≡ k .p
+    pub back-long : length (at n .back) ≡ k .q
+    pub symbols-long : length (at n .symbols) ≡ k .q
+    pub next-forward-long : length (after (suc n) .forward) ≡ k .p
+    pub next-back-long : length (after (suc n) .back) ≡ k .q
+    -- |W| ≤ 16383 before it
+    pub forward-before : Each Small (at n .forward)
+    pub back-before : Each Small (at n .back)
+    -- F, H, Y, Z and new weights keep their bounds, and |W| ≤ 16383 after it
+    pub bounded : Bounded k Γ (at n) (entryAt n)
+    -- one halving is enough, and a doubling changes no weight's value
+    pub normalised-once : Normalised k Γ (at n) (entryAt n)
+    -- the distances of y and of each new weight to the exact ones
+    pub faithful : Faithful k Γ (at n) (entryAt n)
+    -- with M = 0 no weight changes its value, though mantissas and ψ may change
+    pub frozen : Frozen k Γ (at n) (entryAt n)
+
+  -- each stored sample is off its received value by less than 2^(γ−15)
+  abbrev pub StoredNear : Type 0
+  StoredNear = (n : ℕ) → n < k .N → QuantisedWithin (newB + scaleForward k) (newB + scaleForward k) (getD stored n (pos 0)) (getD X n (pos 0))
+
+  -- step 7 would raise ψ to 16 at some sample, and at none before
+  pub record Raises : Type 0 where
+    pub place : ℕ
+    pub in-block : place < k .N
+    pub within : (j : ℕ) → j ≤ place → after j .ψ ≤ exponentLimit
+    pub highest : after place .ψ ≡ exponentLimit
+    pub halves : outcome k Γ (at place) (entryAt place) ≡ halve

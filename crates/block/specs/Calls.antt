@@ -1,17 +1,21 @@
 -- What the functions of a block ask and promise.
 use mathlib.Core.Path.{_≡_}
+use mathlib.Core.Bool.{cond}
 use mathlib.Core.List.{List, [], _∷_, _++_}
-use Prim.Native.Nat.{ℕ, suc, _+_, _-_, _≤_, _<_, max}
+use Prim.Native.Nat.{ℕ, zero, suc, _+_, _-_, _≤_, _<_, max}
 use lib.ListN.{length, take}
 use lib.IntN.{ℤ, pos}
+use Rattle.laws.specs.Lists.{overlay}
+use Rattle.laws.specs.Negated.{negated}
 use Rattle.numbers.specs.BitLength.{bitLength}
-use Rattle.steps.specs.Limits.{tapLimit, blockLimit, lengthLimit, lineLength}
-use Rattle.steps.specs.Settings.{Settings, Within, scaleForward, scaleBack}
-use Rattle.steps.specs.Side.{largest, magnitudes}
-use Rattle.filter.specs.Sample.{Taps}
-use Rattle.filter.specs.Calls.{LongestAt, Ready, tapsOf}
+use Rattle.steps.specs.Limits.{tapLimit, blockLimit, lengthLimit}
+use Rattle.steps.specs.Sound.{lineLength, Within}
+use Rattle.steps.specs.Settings.{Settings, scaleForward, scaleBack}
+use Rattle.steps.specs.Fir.{largest, magnitudes}
+use Rattle.filter.specs.Sample.{FilterState}
+use Rattle.filter.specs.Calls.{LargestBitsAt, Ready, filterStateOf}
 use Rattle.block.specs.Line.{newest, started, added}
-use Rattle.block.specs.Block.{Block, Memory, Outputs, receivedAll, storedAll, newb, newB, g, after, count, handed}
+use Rattle.block.specs.Block.{Block, Memory, Outputs, receivedAll, storedAll, newb, newB, Γ, after, ψFits, blockY, blockξ, blockDecision, blockZ, blockθ}
 use Rattle.block.specs.Sound.{Sound, Acceptable, Receivable, StoreBounds}
 use Rattle.block.specs.declared.run.BlockExponents.{BlockExponents}
 use Rattle.block.specs.declared.run.Progress.{Progress}
@@ -23,9 +27,6 @@ blockOf m gains entries = record { samples = m; gains = gains; entries = entries
 -- the window has the last p − 1 stored samples and a place for the next
 abbrev pub memoryOf : List ℤ → List ℤ → List ℤ → List ℤ → ℕ → ℕ → ℕ → Memory
 memoryOf forward back window symbols ψ b B = record { forward = forward; back = back; samples = take (length window - 1) window; symbols = symbols; ψ = ψ; b = b; B = B }
-
-abbrev pub outputsOf : List ℤ → List ℕ → List ℤ → List ℤ → List ℕ → Outputs
-outputsOf y xi decision z theta = record { y = y; xi = xi; decision = decision; z = z; theta = theta }
 
 -- 1: b
 abbrev pub blockLength : List ℤ → List ℕ → ℕ
@@ -40,13 +41,13 @@ pub record BlockExponents-is (k : Settings) (was : ℕ) (m : List ℤ) (gains : 
   pub s : r .s ≡ scaleForward k
   pub sb : r .sb ≡ scaleBack k
   pub b : r .b ≡ blockLength m gains
-  pub big : r .big ≡ max (blockLength m gains) was
-  pub exponent : r .g ≡ k .r + max (blockLength m gains) was + scaleForward k
+  pub bmax : r .bmax ≡ max (blockLength m gains) was
+  pub exponent : r .gamma30 ≡ k .r + max (blockLength m gains) was + scaleForward k
 
 -- ---- the samples of a block
 
-pub record FillBounds (m : List ℤ) (gains : List ℕ) (places : ℕ) (old stored line : List ℤ) : Type 0 where
-  pub bounds : StoreBounds m gains places
+pub record FillBounds (m : List ℤ) (gains : List ℕ) (shift : ℕ) (old stored line : List ℤ) : Type 0 where
+  pub bounds : StoreBounds m gains shift
   pub samples-most : length m ≤ blockLimit
   pub stored-long : length stored ≡ length m
   pub old-most : length old ≤ tapLimit
@@ -54,21 +55,39 @@ pub record FillBounds (m : List ℤ) (gains : List ℕ) (places : ℕ) (old stor
 
 -- a line with the old samples and those of a block
 abbrev pub filled : ℕ → List ℤ → List ℕ → List ℤ → List ℤ → List ℤ
-filled places m gains old line = added (length m) (storedAll places m gains) (started old line)
+filled shift m gains old line = added (length m) (storedAll shift m gains) (started old line)
 
--- the taps when n samples are done, on the lines of stored samples and of symbols, and with the next sample entered
-abbrev pub tapsAfter : Settings → ℕ → List ℤ → List ℤ → List ℤ → List ℤ → ℕ → Taps
-tapsAfter k n forward back samples symbols ψ = tapsOf forward back (newest (k .p) n samples) (newest (k .q) n symbols) ψ
+-- the filter state when n samples are done, on the lines of stored samples and of symbols, and with the next sample entered
+abbrev pub filterStateAfter : Settings → ℕ → List ℤ → List ℤ → List ℤ → List ℤ → ℕ → FilterState
+filterStateAfter k n forward back samples symbols ψ = filterStateOf forward back (newest (k .p) n samples) (newest (k .q) n symbols) ψ
 
-abbrev pub tapsAt : Settings → ℕ → List ℤ → List ℤ → List ℤ → List ℤ → ℕ → Taps
-tapsAt k n forward back samples symbols ψ = tapsOf forward back (newest (k .p) (suc n) samples) (newest (k .q) n symbols) ψ
+abbrev pub filterStateAt : Settings → ℕ → List ℤ → List ℤ → List ℤ → List ℤ → ℕ → FilterState
+filterStateAt k n forward back samples symbols ψ = filterStateOf forward back (newest (k .p) (suc n) samples) (newest (k .q) n symbols) ψ
 
-pub record Advanceable (k : Settings) (e : BlockExponents) (delay n : ℕ) (entry : ℤ) (samples symbols : List ℤ) (t : Taps) : Type 0 where
+pub record Advanceable (k : Settings) (e : BlockExponents) (delay n : ℕ) (entry : ℤ) (samples symbols : List ℤ) (t : FilterState) : Type 0 where
   pub room : n < blockLimit
   pub samples-long : length samples ≡ lineLength
   pub symbols-long : length symbols ≡ lineLength
-  pub ready : Ready k (e .s) (e .sb) (e .g) t entry
-  pub longest-at : LongestAt (k .r) delay (t .symbols)
+  pub ready : Ready k (e .s) (e .sb) (e .gamma30) t entry
+  pub largest-bits-at : LargestBitsAt (k .r) delay (t .symbols)
+
+-- ---- a block in progress
+
+module _ (k : Settings) (o : Memory) (i : Block) where
+  -- how many of the first n samples are run: all, or up to and with the one at which ψ passes its limit
+  unfoldable pub count : ℕ → ℕ
+  count zero = 0
+  count (suc n) = cond (ψFits k o i n) (suc n) (count n)
+
+  -- the first n of each, over lists that were there
+  abbrev pub outputsUpTo : ℕ → Outputs → Outputs
+  outputsUpTo n l = record {
+    y = overlay n (blockY k o i) (l .y);
+    xi = overlay n (blockξ k o i) (l .xi);
+    decision = overlay n (blockDecision k o i) (l .decision);
+    z = overlay n (blockZ k o i) (l .z);
+    theta = overlay n (blockθ k o i) (l .theta);
+  }
 
 -- five lists of N elements
 pub record OutputsLong (k : Settings) (l : Outputs) : Type 0 where
@@ -83,8 +102,8 @@ pub record ExponentsOf (k : Settings) (o : Memory) (i : Block) (e : BlockExponen
   pub s-is : e .s ≡ scaleForward k
   pub sb-is : e .sb ≡ scaleBack k
   pub b-is : e .b ≡ newb k o i
-  pub big-is : e .big ≡ newB k o i
-  pub g-is : e .g ≡ g k o i
+  pub bmax-is : e .bmax ≡ newB k o i
+  pub Γ-is : e .gamma30 ≡ Γ k o i
 
 -- a line that has the samples as the weights meet them
 pub record SampleLine (k : Settings) (o : Memory) (i : Block) (line : List ℤ) : Type 0 where
@@ -100,7 +119,7 @@ pub record BegunOn (k : Settings) (o : Memory) (i : Block) (e : BlockExponents) 
   pub entries-are : entries ≡ i .entries
   pub sample-line : SampleLine k o i samples
   pub symbols-long : length symbols ≡ lineLength
-  pub taps-are : tapsAfter k 0 forward back samples symbols ψ ≡ after k o i 0
+  pub filter-state-is : filterStateAfter k 0 forward back samples symbols ψ ≡ after k o i 0
 
 pub record Begun (k : Settings) (e : BlockExponents) (ψ : ℕ) (entries forward back samples symbols : List ℤ) (l : Outputs) : Type 0 where
   pub o : Memory
@@ -110,8 +129,8 @@ pub record Begun (k : Settings) (e : BlockExponents) (ψ : ℕ) (entries forward
 -- the same after its last sample
 pub record ProgressedOn (k : Settings) (o : Memory) (i : Block) (samples : List ℤ) (l : Outputs) (r : Progress) (forward back symbols : List ℤ) (l′ : Outputs) : Type 0 where
   pub count-is : r .count ≡ count k o i (k .N)
-  pub taps-are : tapsAfter k (r .count) forward back samples symbols (r .psi) ≡ after k o i (count k o i (k .N))
-  pub outputs-are : l′ ≡ handed k o i (count k o i (k .N)) l
+  pub filter-state-is : filterStateAfter k (r .count) forward back samples symbols (r .psi) ≡ after k o i (count k o i (k .N))
+  pub outputs-are : l′ ≡ outputsUpTo k o i (count k o i (k .N)) l
 
 abbrev pub Progressed : Settings → BlockExponents → ℕ → List ℤ → List ℤ → List ℤ → List ℤ → List ℤ → Outputs → Progress → List ℤ → List ℤ → List ℤ → Outputs → Type 0
 Progressed k e ψ entries forward back samples symbols l r forward′ back′ symbols′ l′ =
@@ -126,7 +145,13 @@ pub record Runnable (k : Settings) (o : Memory) (i : Block) (window : List ℤ) 
   pub outputs-long : OutputsLong k l
 
 pub record BlockResult-is (k : Settings) (o : Memory) (i : Block) (l : Outputs) (r : BlockResult) (forward back window symbols : List ℤ) (l′ : Outputs) : Type 0 where
-  pub taps-are : tapsOf forward back window symbols (r .psi) ≡ after k o i (count k o i (k .N))
+  pub filter-state-is : filterStateOf forward back window symbols (r .psi) ≡ after k o i (count k o i (k .N))
   pub b : r .b ≡ newb k o i
-  pub big : r .big ≡ newB k o i
-  pub outputs-are : l′ ≡ handed k o i (count k o i (k .N)) l
+  pub bmax : r .bmax ≡ newB k o i
+  pub outputs-are : l′ ≡ outputsUpTo k o i (count k o i (k .N)) l
+
+-- ---- the two conductors swapped
+
+-- samples are the negatives; gains and training entries are the same
+abbrev pub swappedBlock : Block → Block
+swappedBlock i = record { samples = negated (i .samples); gains = i .gains; entries = i .entries }

@@ -8,8 +8,9 @@ use lib.IntN.{ℤ, natAbs}
 use Rattle.laws.specs.Sums.{Each}
 use Rattle.numbers.specs.Cut.{rescale}
 use Rattle.steps.specs.Limits.{gainLimit, exponentLimit, scaleLimit, lengthLimit}
-use Rattle.steps.specs.Settings.{Settings, Within, Admitted, isEntry, scaleForward}
-use Rattle.steps.specs.Side.{Small}
+use Rattle.steps.specs.Settings.{Settings, isEntry, scaleForward}
+use Rattle.steps.specs.Sound.{Within, Admitted}
+use Rattle.steps.specs.Fir.{Small}
 use Rattle.block.specs.Block.{Block, Memory, receivedAll}
 
 -- the soundness facts between blocks
@@ -52,8 +53,8 @@ pub record ShiftBounds (up down : ℕ) (x : ℤ) : Type 0 where
   pub room : natAbs x * 2 ^ up < 2 ^ 31
   pub bound : natAbs (rescale x up down) < 2 ^ 15
 
--- samples that are stored at B + S = places
-pub record StoreBounds (m : List ℤ) (gains : List ℕ) (places : ℕ) : Type 0 where
+-- samples that are stored at B + S = shift
+pub record StoreBounds (m : List ℤ) (gains : List ℕ) (shift : ℕ) : Type 0 where
   pub receivable : Receivable m gains
-  pub places-most : places ≤ lengthLimit + scaleLimit
-  pub fitting : Each (λ (x : ℤ). (natAbs x < 2 ^ 31) × (natAbs (rescale x 15 places) < 2 ^ 15)) (receivedAll m gains)
+  pub shift-most : shift ≤ lengthLimit + scaleLimit
+  pub fitting : Each (λ (x : ℤ). (natAbs x < 2 ^ 31) × (natAbs (rescale x 15 shift) < 2 ^ 15)) (receivedAll m gains)

@@ -2,7 +2,8 @@
 ghost use mathlib.Core.Path.{_≡_};
 ghost use Prim.Native.Nat.{_≤_};
 ghost use lib.ListN.{length};
-ghost use Rattle.steps.specs.Limits.{tapLimit, blockLimit, lineLength};
+ghost use Rattle.steps.specs.Limits.{tapLimit, blockLimit};
+ghost use Rattle.steps.specs.Sound.{lineLength};
 ghost use Rattle.block.specs.Line.{newest, started, added};
 use steps::limits;
 

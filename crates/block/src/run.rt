@@ -2,9 +2,9 @@
 ghost use mathlib.Core.Path.{_≡_};
 ghost use Prim.Native.Nat.{suc};
 ghost use Rattle.filter.specs.Calls.{settingsOf, SampleResult-is};
-ghost use Rattle.block.specs.Block.{storedAll};
+ghost use Rattle.block.specs.Block.{storedAll, outputsOf};
 ghost use Rattle.block.specs.Line.{newest};
-ghost use Rattle.block.specs.Calls.{blockOf, memoryOf, outputsOf, BlockExponents-is, Startable, FillBounds, filled, tapsAt, Advanceable, Begun, Progressed, Runnable, BlockResult-is};
+ghost use Rattle.block.specs.Calls.{blockOf, memoryOf, BlockExponents-is, Startable, FillBounds, filled, filterStateAt, Advanceable, Begun, Progressed, Runnable, BlockResult-is};
 use filter::sample::SampleResult;
 use filter::sample::Settings;
 use steps::limits;
@@ -14,8 +14,8 @@ pub struct BlockExponents {
     pub s: u32,
     pub sb: u32,
     pub b: u32,
-    pub big: u32,
-    pub g: u32,
+    pub bmax: u32,
+    pub gamma30: u32,
 }
 
 // How many samples are run, and ψ after them.
@@ -28,7 +28,7 @@ pub struct Progress {
 pub struct BlockResult {
     pub psi: u32,
     pub b: u32,
-    pub big: u32,
+    pub bmax: u32,
 }
 
 // Step 1 of a block.
@@ -39,22 +39,22 @@ pub fn begin(k: Settings, was: u32, m: &[i16], gains: &[u8]) -> BlockExponents
     let s = numbers::scale_count::scale_count(k.p as usize);
     let sb = numbers::scale_count::scale_count(k.q as usize);
     let b = numbers::bit_length::bit_length(super::stored::received_bits(m, gains) as u64);
-    let big = steps::exponent::larger(b, was);
+    let bmax = steps::exponent::larger(b, was);
     BlockExponents {
         s: s,
         sb: sb,
         b: b,
-        big: big,
-        g: k.r + big + s,
+        bmax: bmax,
+        gamma30: k.r + bmax + s,
     }
 }
 
 // The samples of a block as stored, and in a line before the old ones.
-fn fill(m: &[i16], gains: &[u8], places: u32, old: &[i16], stored: &mut [i16], line: &mut [i16])
-    requires { ⌜ FillBounds (now m) (now gains) places (now old) (now stored) (now line) ⌝ }
-    ensures { λ _. ⌜ (now (stored .exit) ≡ storedAll places (now (m .entry)) (now (gains .entry))) × (now (line .exit) ≡ filled places (now (m .entry)) (now (gains .entry)) (now (old .entry)) (now (line .entry))) ⌝ }
+fn fill(m: &[i16], gains: &[u8], shift: u32, old: &[i16], stored: &mut [i16], line: &mut [i16])
+    requires { ⌜ FillBounds (now m) (now gains) shift (now old) (now stored) (now line) ⌝ }
+    ensures { λ _. ⌜ (now (stored .exit) ≡ storedAll shift (now (m .entry)) (now (gains .entry))) × (now (line .exit) ≡ filled shift (now (m .entry)) (now (gains .entry)) (now (old .entry)) (now (line .entry))) ⌝ }
 {
-    super::stored::store(m, gains, places, stored);
+    super::stored::store(m, gains, shift, stored);
     super::line::start(old, line);
     super::line::add(stored, line);
 }
@@ -78,8 +78,8 @@ fn advance(
     samples: &[i16],
     symbols: &mut [i16],
 ) -> SampleResult
-    requires { ⌜ Advanceable (settingsOf k) e delay n entry (now samples) (now symbols) (tapsAt (settingsOf k) n (now forward) (now back) (now samples) (now symbols) psi) ⌝ }
-    ensures { λ r. ⌜ SampleResult-is (settingsOf k) (e .g) (tapsAt (settingsOf k) n (now (forward .entry)) (now (back .entry)) (now (samples .entry)) (now (symbols .entry)) psi) entry r (now (forward .exit)) (now (back .exit)) (newest (suc (k .q)) (suc n) (now (symbols .exit))) ⌝ }
+    requires { ⌜ Advanceable (settingsOf k) e delay n entry (now samples) (now symbols) (filterStateAt (settingsOf k) n (now forward) (now back) (now samples) (now symbols) psi) ⌝ }
+    ensures { λ r. ⌜ SampleResult-is (settingsOf k) (e .gamma30) (filterStateAt (settingsOf k) n (now (forward .entry)) (now (back .entry)) (now (samples .entry)) (now (symbols .entry)) psi) entry r (now (forward .exit)) (now (back .exit)) (newest (suc (k .q)) (suc n) (now (symbols .exit))) ⌝ }
 {
     let first = limits::BLOCK - 1 - n;
     let oldest = first + (k.p as usize);
@@ -88,7 +88,7 @@ fn advance(
         k,
         e.s,
         e.sb,
-        e.g,
+        e.gamma30,
         psi,
         delay,
         wide(entry),
@@ -158,7 +158,7 @@ pub fn run(
     k: Settings,
     psi: u32,
     b: u32,
-    big: u32,
+    bmax: u32,
     m: &[i16],
     gains: &[u8],
     entries: &[i8],
@@ -172,18 +172,18 @@ pub fn run(
     z: &mut [i32],
     theta: &mut [u8],
 ) -> BlockResult
-    requires { ⌜ Runnable (settingsOf k) (memoryOf (now forward) (now back) (now samples) (now symbols) psi b big) (blockOf (now m) (now gains) (now entries)) (now samples) (outputsOf (now y) (now xi) (now decision) (now z) (now theta)) ⌝ }
-    ensures { λ r. ⌜ BlockResult-is (settingsOf k) (memoryOf (now (forward .entry)) (now (back .entry)) (now (samples .entry)) (now (symbols .entry)) psi b big) (blockOf (now (m .entry)) (now (gains .entry)) (now (entries .entry))) (outputsOf (now (y .entry)) (now (xi .entry)) (now (decision .entry)) (now (z .entry)) (now (theta .entry))) r (now (forward .exit)) (now (back .exit)) (now (samples .exit)) (now (symbols .exit)) (outputsOf (now (y .exit)) (now (xi .exit)) (now (decision .exit)) (now (z .exit)) (now (theta .exit))) ⌝ }
+    requires { ⌜ Runnable (settingsOf k) (memoryOf (now forward) (now back) (now samples) (now symbols) psi b bmax) (blockOf (now m) (now gains) (now entries)) (now samples) (outputsOf (now y) (now xi) (now decision) (now z) (now theta)) ⌝ }
+    ensures { λ r. ⌜ BlockResult-is (settingsOf k) (memoryOf (now (forward .entry)) (now (back .entry)) (now (samples .entry)) (now (symbols .entry)) psi b bmax) (blockOf (now (m .entry)) (now (gains .entry)) (now (entries .entry))) (outputsOf (now (y .entry)) (now (xi .entry)) (now (decision .entry)) (now (z .entry)) (now (theta .entry))) r (now (forward .exit)) (now (back .exit)) (now (samples .exit)) (now (symbols .exit)) (outputsOf (now (y .exit)) (now (xi .exit)) (now (decision .exit)) (now (z .exit)) (now (theta .exit))) ⌝ }
 {
     let e = begin(k, b, m, gains);
-    steps::side::rescale_all(samples, big, e.big);
+    steps::fir::rescale_all(samples, bmax, e.bmax);
     let n = m.len();
     let mut stored = [0i16; limits::BLOCK];
     let mut sample_line = [0i16; limits::LINE];
     fill(
         m,
         gains,
-        e.big + e.s,
+        e.bmax + e.s,
         samples,
         &mut stored[0..n],
         &mut sample_line,
@@ -210,6 +210,6 @@ pub fn run(
     BlockResult {
         psi: r.psi,
         b: e.b,
-        big: e.big,
+        bmax: e.bmax,
     }
 }

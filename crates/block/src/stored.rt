@@ -5,7 +5,8 @@ ghost use lib.ListN.{length, getD};
 ghost use lib.IntN.{pos};
 ghost use Rattle.numbers.specs.Cut.{rescale};
 ghost use Rattle.steps.specs.Limits.{gainLimit};
-ghost use Rattle.steps.specs.Side.{magnitudes, together};
+ghost use Rattle.steps.specs.Fir.{magnitudes};
+ghost use Rattle.steps.specs.Sound.{orAll};
 ghost use Rattle.block.specs.Block.{received, receivedAll, storedAll};
 ghost use Rattle.block.specs.Sound.{Receivable, ShiftBounds, StoreBounds};
 
@@ -28,7 +29,7 @@ fn received_at(m: &[i16], gains: &[u8], i: usize) -> i32
 // The bits of every |X| of a block together.
 pub fn received_bits(m: &[i16], gains: &[u8]) -> u32
     requires { ⌜ Receivable (now m) (now gains) ⌝ }
-    ensures { λ r. ⌜ r ≡ together (magnitudes (receivedAll (now (m .entry)) (now (gains .entry)))) ⌝ }
+    ensures { λ r. ⌜ r ≡ orAll (magnitudes (receivedAll (now (m .entry)) (now (gains .entry)))) ⌝ }
 {
     let mut seen: u32 = 0;
     let mut i: usize = 0;
@@ -55,12 +56,12 @@ fn shifted(x: i32, up: u32, down: u32) -> i16
 }
 
 // The samples of a block as stored.
-pub fn store(m: &[i16], gains: &[u8], places: u32, out: &mut [i16])
-    requires { ⌜ (StoreBounds (now m) (now gains) places) × (length (now out) ≡ length (now m)) ⌝ }
-    ensures { λ _. ⌜ now (out .exit) ≡ storedAll places (now (m .entry)) (now (gains .entry)) ⌝ }
+pub fn store(m: &[i16], gains: &[u8], shift: u32, out: &mut [i16])
+    requires { ⌜ (StoreBounds (now m) (now gains) shift) × (length (now out) ≡ length (now m)) ⌝ }
+    ensures { λ _. ⌜ now (out .exit) ≡ storedAll shift (now (m .entry)) (now (gains .entry)) ⌝ }
 {
-    let up = difference(15, places);
-    let down = difference(places, 15);
+    let up = difference(15, shift);
+    let down = difference(shift, 15);
     let mut i: usize = 0;
     while i < out.len() {
         out[i] = shifted(received_at(m, gains, i), up, down);

@@ -10,10 +10,9 @@ fn run() {
     if n <= DESCRIPTION && streams::failed(streams::next(), b"cable") {
         return;
     }
-    let w = description::described(&input[..n], &mut out);
-    if w.fits {
-        streams::write_front(&out, w.length, b"cable");
-    }
+    let length = description::described(&input[..n], &mut out);
+    let output = &out;
+    streams::write_front(output, length, b"cable");
 }
 
 fn main() {

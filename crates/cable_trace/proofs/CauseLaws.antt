@@ -14,10 +14,10 @@ use Rattle.steps.specs.Settings.{isSymbol}
 use Rattle.block.specs.Block.{values}
 use Rattle.state.specs.Sizes.{settingsNumber}
 use Rattle.trace_text.specs.Trace.{traceLimit}
-use Rattle.cable_trace.specs.Limits.{responseLimit, countLimit, sentLimit}
-use Rattle.cable_trace.specs.Cable.{Cable, s, sampleCount, traceLength, cableTrace, responseFits, blocksFit, gainFits, lengthCause, listCause, cause, cableNumber}
+use Rattle.cable_trace.specs.Limits.{responseLimit, countLimit}
+use Rattle.cable_trace.specs.Calls.{sentLimit, Made}
+use Rattle.cable_trace.specs.Cable.{Cable, s, sampleCount, traceLength, cableTrace, responseFits, blocksFit, gainAvailable, lengthCause, listCause, cause, cableNumber}
 use Rattle.cable_trace.specs.Answers.{cableOf, Simulation}
-use Rattle.cable_trace.specs.Calls.{Made}
 
 -- ---- by the lengths
 
@@ -133,12 +133,12 @@ module _ (c : Cable) (room : ℕ) where
         room-is = l .2;
       }
 
-  pub cause-tests : cause c room ≡ 0 → (listCause c room ≡ 0) × (all (gainFits (c .settings)) (values (s c) (sampleCount c)) ≡ true)
+  pub cause-tests : cause c room ≡ 0 → (listCause c room ≡ 0) × (all (gainAvailable (c .settings)) (values (s c) (sampleCount c)) ≡ true)
   unfolding cause
-  cause-tests h = go (eqb (listCause c room) 0) (all (gainFits (c .settings)) (values (s c) (sampleCount c))) refl refl h
+  cause-tests h = go (eqb (listCause c room) 0) (all (gainAvailable (c .settings)) (values (s c) (sampleCount c))) refl refl h
     where
-      go : (a b : Bool) → eqb (listCause c room) 0 ≡ a → all (gainFits (c .settings)) (values (s c) (sampleCount c)) ≡ b → cond a (cond b 0 7) (listCause c room) ≡ 0 →
-          (listCause c room ≡ 0) × (all (gainFits (c .settings)) (values (s c) (sampleCount c)) ≡ true)
+      go : (a b : Bool) → eqb (listCause c room) 0 ≡ a → all (gainAvailable (c .settings)) (values (s c) (sampleCount c)) ≡ b → cond a (cond b 0 7) (listCause c room) ≡ 0 →
+          (listCause c room ≡ 0) × (all (gainAvailable (c .settings)) (values (s c) (sampleCount c)) ≡ true)
       go true true x y e = (eqb-true (listCause c room) 0 x, y)
       go true false x y e = absurd (eqb-false 7 0 refl e)
       go false b x y e = absurd (eqb-false (listCause c room) 0 x e)

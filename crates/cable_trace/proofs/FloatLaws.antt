@@ -56,8 +56,8 @@ written-is (suc n) h = go
     short : b ≤ 24
     short = bit-length-le (suc n) 24 h
 
-    places : size (suc n * 2 ^ 149) - 24 ≡ 125 + b
-    places = omega (arith, size-raised (suc n) 149 (omega arith), short)
+    shift : size (suc n * 2 ^ 149) - 24 ≡ 125 + b
+    shift = omega (arith, size-raised (suc n) 149 (omega arith), short)
 
     kept : suc n * 2 ^ 149 / 2 ^ (125 + b) ≡ suc n * 2 ^ (24 - b)
     kept =
@@ -66,7 +66,7 @@ written-is (suc n) h = go
         ∙ mul-div-cancel (suc n * 2 ^ (24 - b)) (positive (125 + b))
 
     go : written (suc n * 2 ^ 149) ≡ magnitudeBits (suc n)
-    go = ap (λ (k : ℕ). k * 2 ^ 23 + suc n * 2 ^ 149 / 2 ^ k) places ∙ ap (λ (x : ℕ). (125 + b) * 2 ^ 23 + x) kept
+    go = ap (λ (k : ℕ). k * 2 ^ 23 + suc n * 2 ^ 149 / 2 ^ k) shift ∙ ap (λ (x : ℕ). (125 + b) * 2 ^ 23 + x) kept
 
 bits-of : (x : Float) (s : Bool) (a : ℕ) → HasValue x s a 1 → a < 2 ^ floatDigits → toBits binary32 x ≡ cond s (2 ^ 31) 0 + magnitudeBits a
 unfolding toBits

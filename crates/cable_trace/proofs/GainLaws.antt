@@ -20,10 +20,11 @@ use Rattle.numbers.proofs.BitLengthLaws.{bit-length-above, bit-length-zero, bit
 use Rattle.numbers.proofs.CutLaws.{rescale-most, rescale-up, rescale-shifts}
 use Rattle.steps.specs.Limits.{symbolLimit, gainLimit}
 use Rattle.steps.specs.Settings.{Settings}
-use Rattle.steps.specs.Side.{magnitudes, together}
-use Rattle.steps.proofs.LargestLaws.{together-longest}
-use Rattle.steps.proofs.LongestTests.{by-longest}
-use Rattle.cable_trace.specs.Cable.{takesGain, greatest, gain, hasGain, sample, gainFits}
+use Rattle.steps.specs.Fir.{magnitudes}
+use Rattle.steps.specs.Sound.{orAll}
+use Rattle.steps.proofs.LargestLaws.{or-all-largest-bits}
+use Rattle.steps.proofs.LargestBitsTests.{by-largest-bits}
+use Rattle.cable_trace.specs.Cable.{takesGain, greatest, gain, hasGain, sample, gainAvailable}
 use Rattle.cable_trace.specs.Calls.{Gainable, gainOf, floatDigits, leading}
 
 -- ---- the greatest number that passes
@@ -162,21 +163,21 @@ module _ (r : ℕ) (s : ℤ) (h : Gainable r s) where
 -- ---- the gains of a list
 
 module _ (k : Settings) (L-most : k .L ≤ gainLimit) where
-  fits-below : (s : ℤ) → gainFits k s ≡ true → natAbs s < 2 ^ (15 + k .r - k .L)
+  fits-below : (s : ℤ) → gainAvailable k s ≡ true → natAbs s < 2 ^ (15 + k .r - k .L)
   fits-below s e =
       lower (natAbs s) (15 + k .r) (15 + k .r - k .L) (k .L) (omega arith)
       (lt-of-le-of-lt (mul-le-mul-left (natAbs s) (rises (leb-true (k .L) (gain (k .r) s) (and-right (hasGain (k .r) s) (leb (k .L) (gain (k .r) s)) e))))
       (ltb-true _ _ (and-left (hasGain (k .r) s) (leb (k .L) (gain (k .r) s)) e)))
 
-  below-fits : (s : ℤ) → natAbs s < 2 ^ (15 + k .r - k .L) → gainFits k s ≡ true
+  below-fits : (s : ℤ) → natAbs s < 2 ^ (15 + k .r - k .L) → gainAvailable k s ≡ true
   below-fits s h =
       let t = gain-largest (k .r) s (k .L) L-most (lt-ltb _ _ (Powers.raise (natAbs s) (15 + k .r) (15 + k .r - k .L) (k .L) (omega arith) h)) in
       both (hasGain (k .r) s) (leb (k .L) (gain (k .r) s)) (t .0) (le-leb (k .L) (gain (k .r) s) (t .1))
 
   -- by the bits of every |s| together
-  pub gains-fit : (l : List ℤ) → leb (bitLength (together (magnitudes l))) (15 + k .r - k .L) ≡ all (gainFits k) l
-  gains-fit l = ap (λ (n : ℕ). leb n (15 + k .r - k .L)) (together-longest l) ∙ by-longest (gainFits k) (15 + k .r - k .L) fits-below below-fits l
+  pub gains-fit : (l : List ℤ) → leb (bitLength (orAll (magnitudes l))) (15 + k .r - k .L) ≡ all (gainAvailable k) l
+  gains-fit l = ap (λ (n : ℕ). leb n (15 + k .r - k .L)) (or-all-largest-bits l) ∙ by-largest-bits (gainAvailable k) (15 + k .r - k .L) fits-below below-fits l
 
-pub gains-each : (k : Settings) (l : List ℤ) → k .r ≤ symbolLimit → all (gainFits k) l ≡ true → Each (Gainable (k .r)) l
+pub gains-each : (k : Settings) (l : List ℤ) → k .r ≤ symbolLimit → all (gainAvailable k) l ≡ true → Each (Gainable (k .r)) l
 gains-each k l h e =
-    each-tested (gainFits k) (Gainable (k .r)) (λ s f. record { r-most = h; has = and-left (hasGain (k .r) s) (leb (k .L) (gain (k .r) s)) f }) l e
+    each-tested (gainAvailable k) (Gainable (k .r)) (λ s f. record { r-most = h; has = and-left (hasGain (k .r) s) (leb (k .L) (gain (k .r) s)) f }) l e

@@ -13,9 +13,9 @@ use borrow.Author.Tests.{lt-ltb, le-ltb, ltb-true, ltb-false, leb-true, leb-fals
 use Rattle.laws.specs.Sums.{Each, each-at, each-of}
 use Rattle.block.specs.Block.{values}
 use Rattle.block.proofs.ValuesLaws.{values-length, values-at}
-use Rattle.cable_trace.specs.Limits.{responseLimit, sentLimit, lineLength}
+use Rattle.cable_trace.specs.Limits.{responseLimit}
+use Rattle.cable_trace.specs.Calls.{sentLimit, sentLineLength, sentPlace, placed, lineOf, emptyLine, emptySums, window}
 use Rattle.cable_trace.specs.Cable.{sentBefore}
-use Rattle.cable_trace.specs.Calls.{place, placed, lineOf, emptyLine, emptySums, window}
 
 -- ---- lists of values
 
@@ -56,9 +56,9 @@ each-default P l i h z = go (ltb i (length l)) refl
 take-none : (k n : ℕ) (l : List ℤ) → k ≤ n → getD (take k l) n (pos 0) ≡ pos 0
 take-none k n l h = List·getD-eq-default (take k l) (pos 0) {n = n} (omega (arith, length-take k l))
 
-pub empty-line : length emptyLine ≡ lineLength
+pub empty-line : length emptyLine ≡ sentLineLength
 unfolding emptyLine
-empty-line = length-replicate lineLength (pos 0)
+empty-line = length-replicate sentLineLength (pos 0)
 
 pub empty-sums : length emptySums ≡ sentLimit
 unfolding emptySums
@@ -67,47 +67,47 @@ empty-sums = length-replicate sentLimit (pos 0)
 line-none : emptyLine ≡ lineOf []
 unfolding emptyLine
 line-none =
-    ext-getD (pos 0) emptyLine (lineOf []) (empty-line ∙ sym (values-length (placed []) lineLength))
-    (λ i k. let l : i < lineLength = omega (arith, empty-line) in
-    getD-replicate lineLength i (pos 0) (pos 0) l ∙ sym (values-at (placed []) (pos 0) lineLength i l ∙ nothing i (ltb i sentLimit)))
+    ext-getD (pos 0) emptyLine (lineOf []) (empty-line ∙ sym (values-length (placed []) sentLineLength))
+    (λ i k. let l : i < sentLineLength = omega (arith, empty-line) in
+    getD-replicate sentLineLength i (pos 0) (pos 0) l ∙ sym (values-at (placed []) (pos 0) sentLineLength i l ∙ nothing i (ltb i sentLimit)))
   where
-    nothing : (i : ℕ) (b : Bool) → cond b (getD [] (place i) (pos 0)) (pos 0) ≡ pos 0
+    nothing : (i : ℕ) (b : Bool) → cond b (getD [] (sentPlace i) (pos 0)) (pos 0) ≡ pos 0
     nothing i true = refl
     nothing i false = refl
 
 -- one symbol more
-pub line-next : (l : List ℤ) (i : ℕ) → i < length l → length l ≤ sentLimit → set (lineOf (take i l)) (place i) (getD l i (pos 0)) ≡ lineOf (take (suc i) l)
-line-next l i h k = set-values (pos 0) (placed (take i l)) (placed (take (suc i) l)) lineLength (place i) (getD l i (pos 0)) (omega arith) new old
+pub line-next : (l : List ℤ) (i : ℕ) → i < length l → length l ≤ sentLimit → set (lineOf (take i l)) (sentPlace i) (getD l i (pos 0)) ≡ lineOf (take (suc i) l)
+line-next l i h k = set-values (pos 0) (placed (take i l)) (placed (take (suc i) l)) sentLineLength (sentPlace i) (getD l i (pos 0)) (omega arith) new old
   where
-    back : place (place i) ≡ i
+    back : sentPlace (sentPlace i) ≡ i
     back = omega arith
 
-    new : getD l i (pos 0) ≡ placed (take (suc i) l) (place i)
+    new : getD l i (pos 0) ≡ placed (take (suc i) l) (sentPlace i)
     new =
-        sym (ap (λ (b : Bool). cond b (getD (take (suc i) l) (place (place i)) (pos 0)) (pos 0)) (lt-ltb (place i) sentLimit (omega arith))
+        sym (ap (λ (b : Bool). cond b (getD (take (suc i) l) (sentPlace (sentPlace i)) (pos 0)) (pos 0)) (lt-ltb (sentPlace i) sentLimit (omega arith))
         ∙ ap (λ (n : ℕ). getD (take (suc i) l) n (pos 0)) back ∙ getD-take (suc i) l i (pos 0) (omega arith))
 
-    old : (j : ℕ) → (j ≡ place i → ⊥) → placed (take i l) j ≡ placed (take (suc i) l) j
+    old : (j : ℕ) → (j ≡ sentPlace i → ⊥) → placed (take i l) j ≡ placed (take (suc i) l) j
     old j q = go (ltb j sentLimit) refl
       where
-        inside : (b : Bool) → ltb (place j) i ≡ b → j < sentLimit → getD (take i l) (place j) (pos 0) ≡ getD (take (suc i) l) (place j) (pos 0)
-        inside true f s = getD-take i l (place j) (pos 0) (ltb-true (place j) i f) ∙ sym (getD-take (suc i) l (place j) (pos 0) (omega (arith, ltb-true (place j) i f)))
-        inside false f s = take-none i (place j) l (ltb-false (place j) i f) ∙ sym (take-none (suc i) (place j) l after)
+        inside : (b : Bool) → ltb (sentPlace j) i ≡ b → j < sentLimit → getD (take i l) (sentPlace j) (pos 0) ≡ getD (take (suc i) l) (sentPlace j) (pos 0)
+        inside true f s = getD-take i l (sentPlace j) (pos 0) (ltb-true (sentPlace j) i f) ∙ sym (getD-take (suc i) l (sentPlace j) (pos 0) (omega (arith, ltb-true (sentPlace j) i f)))
+        inside false f s = take-none i (sentPlace j) l (ltb-false (sentPlace j) i f) ∙ sym (take-none (suc i) (sentPlace j) l after)
           where
-            after : suc i ≤ place j
-            after = go (ltb i (place j)) refl
+            after : suc i ≤ sentPlace j
+            after = go (ltb i (sentPlace j)) refl
               where
-                go : (b : Bool) → ltb i (place j) ≡ b → suc i ≤ place j
-                go true t = ltb-true i (place j) t
-                go false t = absurd (q (omega (arith, s, ltb-false i (place j) t, ltb-false (place j) i f)))
+                go : (b : Bool) → ltb i (sentPlace j) ≡ b → suc i ≤ sentPlace j
+                go true t = ltb-true i (sentPlace j) t
+                go false t = absurd (q (omega (arith, s, ltb-false i (sentPlace j) t, ltb-false (sentPlace j) i f)))
 
-        go : (b : Bool) → ltb j sentLimit ≡ b → cond b (getD (take i l) (place j) (pos 0)) (pos 0) ≡ cond b (getD (take (suc i) l) (place j) (pos 0)) (pos 0)
-        go true e = inside (ltb (place j) i) refl (ltb-true j sentLimit e)
+        go : (b : Bool) → ltb j sentLimit ≡ b → cond b (getD (take i l) (sentPlace j) (pos 0)) (pos 0) ≡ cond b (getD (take (suc i) l) (sentPlace j) (pos 0)) (pos 0)
+        go true e = inside (ltb (sentPlace j) i) refl (ltb-true j sentLimit e)
         go false e = refl
 
 -- a line that holds the first i symbols
 pub record Lined (symbols : List ℤ) (i : ℕ) (line : List ℤ) : Type 0 where
-  pub long : length line ≡ lineLength
+  pub long : length line ≡ sentLineLength
   pub few : length symbols ≤ sentLimit
   pub is : line ≡ lineOf (take i symbols)
 
@@ -115,7 +115,7 @@ pub lined-none : (symbols line : List ℤ) → length symbols ≤ sentLimit → 
 lined-none symbols line h e = record { long = ap length e ∙ empty-line; few = h; is = e ∙ line-none }
 
 module _ {symbols : List ℤ} {i : ℕ} {line : List ℤ} (w : Lined symbols i line) where
-  pub lined-next : (j : ℕ) (x : ℤ) → i < length symbols → j ≡ place i → x ≡ getD symbols i (pos 0) → Lined symbols (i + 1) (set line j x)
+  pub lined-next : (j : ℕ) (x : ℤ) → i < length symbols → j ≡ sentPlace i → x ≡ getD symbols i (pos 0) → Lined symbols (i + 1) (set line j x)
   lined-next j x h e f = record {
     long = length-set line j x ∙ w .long;
     few = w .few;
@@ -128,16 +128,16 @@ module _ {symbols : List ℤ} {i : ℕ} {line : List ℤ} (w : Lined symbols i l
   lined-all h = w .is ∙ ap lineOf (take-all i symbols h)
 
 pub line-small : (P : ℤ → Type 0) (l : List ℤ) → Each P l → P (pos 0) → Each P (lineOf l)
-line-small P l h z = each-of P (pos 0) (lineOf l) (λ i k. rw (values-at (placed l) (pos 0) lineLength i (omega (arith, values-length (placed l) lineLength))) (go i (ltb i sentLimit)))
+line-small P l h z = each-of P (pos 0) (lineOf l) (λ i k. rw (values-at (placed l) (pos 0) sentLineLength i (omega (arith, values-length (placed l) sentLineLength))) (go i (ltb i sentLimit)))
   where
-    go : (i : ℕ) (b : Bool) → P (cond b (getD l (place i) (pos 0)) (pos 0))
-    go i true = each-default P l (place i) h z
+    go : (i : ℕ) (b : Bool) → P (cond b (getD l (sentPlace i) (pos 0)) (pos 0))
+    go i true = each-default P l (sentPlace i) h z
     go i false = z
 
 -- ---- a window: the symbols that are newest at n
 
-pub window-long : (line : List ℤ) (k n : ℕ) → length line ≡ lineLength → k ≤ responseLimit → length (window line k n) ≡ k
-window-long line k n l h = length-take-le k (drop (place n) line) (omega (arith, length-drop (place n) line))
+pub window-long : (line : List ℤ) (k n : ℕ) → length line ≡ sentLineLength → k ≤ responseLimit → length (window line k n) ≡ k
+window-long line k n l h = length-take-le k (drop (sentPlace n) line) (omega (arith, length-drop (sentPlace n) line))
 
 pub window-is : (l : List ℤ) (k n : ℕ) → k ≤ responseLimit → n < sentLimit → window (lineOf l) k n ≡ values (sentBefore l n) k
 window-is l k n h m =
@@ -145,16 +145,16 @@ window-is l k n h m =
     (λ j b. let s : j < k = omega (arith, long) in at j s ∙ sym (values-at (sentBefore l n) (pos 0) k j s))
   where
     long : length (window (lineOf l) k n) ≡ k
-    long = window-long (lineOf l) k n (values-length (placed l) lineLength) h
+    long = window-long (lineOf l) k n (values-length (placed l) sentLineLength) h
 
     at : (j : ℕ) → j < k → getD (window (lineOf l) k n) j (pos 0) ≡ sentBefore l n j
     at j s =
-        getD-take k (drop (place n) (lineOf l)) j (pos 0) s ∙ getD-drop (place n) (lineOf l) j (pos 0)
-        ∙ values-at (placed l) (pos 0) lineLength (place n + j) (omega arith) ∙ go (leb j n) refl
+        getD-take k (drop (sentPlace n) (lineOf l)) j (pos 0) s ∙ getD-drop (sentPlace n) (lineOf l) j (pos 0)
+        ∙ values-at (placed l) (pos 0) sentLineLength (sentPlace n + j) (omega arith) ∙ go (leb j n) refl
       where
-        go : (b : Bool) → leb j n ≡ b → placed l (place n + j) ≡ cond b (getD l (n - j) (pos 0)) (pos 0)
+        go : (b : Bool) → leb j n ≡ b → placed l (sentPlace n + j) ≡ cond b (getD l (n - j) (pos 0)) (pos 0)
         go true e =
-            let back : place (place n + j) ≡ n - j = omega (arith, leb-true j n e) in
-            ap (λ (b : Bool). cond b (getD l (place (place n + j)) (pos 0)) (pos 0)) (lt-ltb (place n + j) sentLimit (omega (arith, leb-true j n e)))
+            let back : sentPlace (sentPlace n + j) ≡ n - j = omega (arith, leb-true j n e) in
+            ap (λ (b : Bool). cond b (getD l (sentPlace (sentPlace n + j)) (pos 0)) (pos 0)) (lt-ltb (sentPlace n + j) sentLimit (omega (arith, leb-true j n e)))
             ∙ ap (λ (i : ℕ). getD l i (pos 0)) back
-        go false e = ap (λ (b : Bool). cond b (getD l (place (place n + j)) (pos 0)) (pos 0)) (le-ltb (place n + j) sentLimit (omega (arith, leb-false j n e)))
+        go false e = ap (λ (b : Bool). cond b (getD l (sentPlace (sentPlace n + j)) (pos 0)) (pos 0)) (le-ltb (sentPlace n + j) sentLimit (omega (arith, leb-false j n e)))

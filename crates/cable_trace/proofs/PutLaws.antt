@@ -21,44 +21,44 @@ use Rattle.image.specs.Image.{bytes}
 use Rattle.image.proofs.ByteLaws.{four-bytes}
 use Rattle.image.proofs.ImageLaws.{word-bytes, next-part}
 use Rattle.cable_trace.specs.Cable.{joined}
-use Rattle.cable_trace.specs.Calls.{gainUnit, wordBytes, stored}
+use Rattle.cable_trace.specs.Calls.{gainUnit, wordBytes, storedWords}
 
 -- ---- four bytes of each word, three places apart
 
 module _ (words : List ℤ) (out : List ℕ) where
-  pub stored-none : stored words out 0 ≡ out
-  unfolding stored
+  pub stored-none : storedWords words out 0 ≡ out
+  unfolding storedWords
   stored-none = refl
 
-  pub stored-long : (n : ℕ) → length (stored words out n) ≡ length out
-  unfolding stored
+  pub stored-long : (n : ℕ) → length (storedWords words out n) ≡ length out
+  unfolding storedWords
   stored-long zero = refl
-  stored-long (suc n) = length-sets (stored words out n) (3 * n) (wordBytes words n) ∙ stored-long n
+  stored-long (suc n) = length-sets (storedWords words out n) (3 * n) (wordBytes words n) ∙ stored-long n
 
   pub stored-next : (i w : ℕ) → w ≡ natAbs (getD words i (pos 0)) →
-      set (set (set (set (stored words out i) (3 * i) (w % 256)) (3 * i + 1) (w / 256 % 256)) (3 * i + 2) (w / 256 / 256 % 256)) (3 * i + 3) (w / 256 / 256 / 256 % 256)
-      ≡ stored words out (i + 1)
-  unfolding stored
+      set (set (set (set (storedWords words out i) (3 * i) (w % 256)) (3 * i + 1) (w / 256 % 256)) (3 * i + 2) (w / 256 / 256 % 256)) (3 * i + 3) (w / 256 / 256 / 256 % 256)
+      ≡ storedWords words out (i + 1)
+  unfolding storedWords
   stored-next i w e =
       let one : 3 * i + 1 ≡ suc (3 * i) = omega arith in
       let two : 3 * i + 2 ≡ suc (suc (3 * i)) = omega arith in
       let three : 3 * i + 3 ≡ suc (suc (suc (3 * i))) = omega arith in
-      rw (one, two, three) (ap (sets (stored words out i) (3 * i)) (sym (four-bytes w) ∙ ap (bytes 4) e)) ∙ ap (stored words out) (sym (add-one i))
+      rw (one, two, three) (ap (sets (storedWords words out i) (3 * i)) (sym (four-bytes w) ∙ ap (bytes 4) e)) ∙ ap (storedWords words out) (sym (add-one i))
 
   -- what the next word leaves of each
-  pub stored-front : (n : ℕ) → 3 * n < length out → take (3 * n) (stored words out n) ≡ joined (λ i. take 3 (wordBytes words i)) n
-  unfolding stored joined
+  pub stored-front : (n : ℕ) → 3 * n < length out → take (3 * n) (storedWords words out n) ≡ joined (λ i. take 3 (wordBytes words i)) n
+  unfolding storedWords joined
   stored-front zero h = refl
   stored-front (suc n) h =
-      let l = stored words out n in
+      let l = storedWords words out n in
       let next : 3 * suc n ≡ 3 * n + 3 = omega arith in
       ap₂ take next (sets-eq (wordBytes words n) l (3 * n) (omega (arith, stored-long n, four)))
       ∙ take-append-le (3 * n + 3) (take (3 * n) l ++ wordBytes words n) _ (omega (arith, length-append (take (3 * n) l) (wordBytes words n), before, four))
       ∙ ap (λ (m : ℕ). take (m + 3) (take (3 * n) l ++ wordBytes words n)) (sym before) ∙ take-append-add (take (3 * n) l) (wordBytes words n) 3
       ∙ ap (λ (x : List ℕ). x ++ take 3 (wordBytes words n)) (stored-front n (omega arith))
     where
-      before : length (take (3 * n) (stored words out n)) ≡ 3 * n
-      before = length-take-le (3 * n) (stored words out n) (omega (arith, stored-long n))
+      before : length (take (3 * n) (storedWords words out n)) ≡ 3 * n
+      before = length-take-le (3 * n) (storedWords words out n) (omega (arith, stored-long n))
 
       four : length (wordBytes words n) ≡ 4
       four = ap length (four-bytes (natAbs (getD words n (pos 0))))

@@ -14,7 +14,8 @@ use mir.Facts.{toZ-ofZ, fits-ofZ}
 use Rattle.laws.specs.Machine.{fits-abs}
 use Rattle.block.proofs.ValuesLaws.{values-length, values-at}
 use Rattle.image.proofs.ByteLaws.{two-bytes, four-bytes}
-use Rattle.trace_text.specs.Trace.{headerLength, byteAt, number16, sampleStart}
+use Rattle.image.specs.Load.{byteAt}
+use Rattle.trace_text.specs.Trace.{traceHeaderLength, unsigned16, sampleStart}
 use Rattle.cable_trace.specs.Cable.{Cable, s, gain, sample, entry, sampleCount, blockCount, sampleBytes, joined, samplePart, entryPart, cableTrace}
 
 -- ---- lists of three, one after another
@@ -66,28 +67,28 @@ module _ (c : Cable) where
   part-length : length (samplePart c) ≡ 3 * sampleCount c
   part-length = joined-length (λ n. sampleBytes (c .settings .r) (s c n)) three (sampleCount c)
 
-  pub flat-length : length flat ≡ headerLength + 4 * sampleCount c
+  pub flat-length : length flat ≡ traceHeaderLength + 4 * sampleCount c
   flat-length = omega (arith, length-append (samplePart c) (entryPart c), part-length, values-length (λ n. ofZ w8 (entry c n)) (sampleCount c))
 
-  after : (i : ℕ) → byteAt flat (headerLength + i) ≡ getD rest i 0
-  after i = sym (getD-drop headerLength flat i 0)
+  after : (i : ℕ) → byteAt flat (traceHeaderLength + i) ≡ getD rest i 0
+  after i = sym (getD-drop traceHeaderLength flat i 0)
 
   module _ (n : ℕ) (h : n < sampleCount c) where
-    sample-byte : (i j : ℕ) → i ≡ headerLength + (3 * n + j) → j < 3 → byteAt flat i ≡ getD (sampleBytes (c .settings .r) (s c n)) j 0
+    sample-byte : (i j : ℕ) → i ≡ traceHeaderLength + (3 * n + j) → j < 3 → byteAt flat i ≡ getD (sampleBytes (c .settings .r) (s c n)) j 0
     sample-byte i j e k =
         ap (byteAt flat) e ∙ after (3 * n + j)
         ∙ List·getD-append (samplePart c) (entryPart c) 0 (3 * n + j) (omega (arith, part-length))
         ∙ joined-at (λ n. sampleBytes (c .settings .r) (s c n)) three (sampleCount c) n j h k
 
     -- a byte of the sample by its place in it
-    listed : (i j : ℕ) → i ≡ headerLength + (3 * n + j) → j < 3 →
+    listed : (i j : ℕ) → i ≡ traceHeaderLength + (3 * n + j) → j < 3 →
         let x = ofZ w16 (sample (c .settings .r) (s c n)) in byteAt flat i ≡ getD (x % 256 ∷ x / 256 % 256 ∷ gain (c .settings .r) (s c n) ∷ []) j 0
     listed i j e k = sample-byte i j e k ∙ ap (λ (l : List ℕ). getD l j 0) (sample-list (c .settings .r) (s c n))
 
     pub gain-byte : byteAt flat (sampleStart n + 2) ≡ gain (c .settings .r) (s c n)
     gain-byte = listed (sampleStart n + 2) 2 (omega arith) (omega arith)
 
-    pub sample-word : natAbs (sample (c .settings .r) (s c n)) < 2 ^ 15 → toZ w16 (number16 flat (sampleStart n)) ≡ sample (c .settings .r) (s c n)
+    pub sample-word : natAbs (sample (c .settings .r) (s c n)) < 2 ^ 15 → toZ w16 (unsigned16 flat (sampleStart n)) ≡ sample (c .settings .r) (s c n)
     sample-word small =
         let m = sample (c .settings .r) (s c n) in
         let f = fits-abs {w = w16} m small in
@@ -99,7 +100,7 @@ module _ (c : Cable) where
 
     pub entry-byte : natAbs (entry c n) < 2 ^ 7 → toZ w8 (byteAt flat (sampleStart (sampleCount c) + n)) ≡ entry c n
     entry-byte small =
-        let at : sampleStart (sampleCount c) + n ≡ headerLength + (length (samplePart c) + n) = omega (arith, part-length) in
+        let at : sampleStart (sampleCount c) + n ≡ traceHeaderLength + (length (samplePart c) + n) = omega (arith, part-length) in
         ap (toZ w8)
         (ap (byteAt flat) at ∙ after (length (samplePart c) + n) ∙ getD-append-add (samplePart c) (entryPart c) n 0 ∙ values-at (λ n. ofZ w8 (entry c n)) 0 (sampleCount c) n h)
         ∙ toZ-ofZ (fits-abs {w = w8} (entry c n) small)

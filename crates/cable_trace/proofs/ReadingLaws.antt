@@ -16,7 +16,8 @@ use Rattle.laws.specs.Lists.{all, all-at, and-left, and-right}
 use Rattle.laws.specs.Powers.{rises}
 use Rattle.laws.specs.Tests.{both}
 use Rattle.steps.specs.Limits.{gainLimit}
-use Rattle.steps.specs.Settings.{Settings, Within, isSymbol, isEntry}
+use Rattle.steps.specs.Settings.{Settings, isSymbol, isEntry}
+use Rattle.steps.specs.Sound.{Within}
 use Rattle.steps.proofs.SymbolLaws.{symbol-entry, entry-below}
 use Rattle.block.specs.Block.{values}
 use Rattle.block.proofs.ValuesLaws.{values-length, values-at}
@@ -30,20 +31,21 @@ use Rattle.state.proofs.SizesLaws.{settings-tests, fit-within}
 use Rattle.state.proofs.SoundLaws.{Accepted, set-up-accepted}
 use Rattle.image.proofs.StateBits.{step-bits}
 use Rattle.checks.specs.Checks as Checks
-use Rattle.checks.specs.Checks.{Lent, block, checkNumber}
+use Rattle.checks.specs.Checks.{Buffers, block, checkNumber}
 use Rattle.checks.specs.Calls.{Sampled}
 use Rattle.checks.proofs.CheckLaws.{checks-pass}
 use Rattle.station.specs.Answers.{runNumber, runState}
-use Rattle.station.specs.Calls.{goesOn}
+use Rattle.station.specs.Calls.{ψFitsBlock}
 use Rattle.station.proofs.AnswerLaws.{number-is}
 use Rattle.station.proofs.NumberLaws.{run-settings, run-accepted}
-use Rattle.trace_text.specs.Trace.{headerLength, byteAt, settingsIn, countIn, samplesIn, wellFormed, sampleStart, lentAt}
+use Rattle.image.specs.Load.{byteAt}
+use Rattle.trace_text.specs.Trace.{traceHeaderLength, settingsIn, countIn, samplesIn, wellFormed, sampleStart, buffersAt}
 use Rattle.trace_text.specs.Text.{textFrom, traceText}
 use Rattle.trace_text.proofs.ReadLaws.{well-tested}
-use Rattle.trace_text.proofs.LentLaws.{lent-long, lent-samples, lent-gains, lent-entries}
+use Rattle.trace_text.proofs.BufferLaws.{buffers-long, buffers-samples, buffers-gains, buffers-entries}
 use Rattle.trace_text.proofs.TraceLaws.{state-is, accepted-text}
 use Rattle.cable_trace.specs.Limits.{countLimit}
-use Rattle.cable_trace.specs.Cable.{Cable, s, gain, hasGain, entry, sampleCount, blockCount, cableTrace, gainFits, cableNumber}
+use Rattle.cable_trace.specs.Cable.{Cable, s, gain, hasGain, entry, sampleCount, blockCount, cableTrace, gainAvailable, cableNumber}
 use Rattle.cable_trace.specs.Reading.{ReadsSample, Runs, Reads}
 use Rattle.cable_trace.proofs.CauseLaws.{Listed, listed, cause-tests, number-tests}
 use Rattle.cable_trace.proofs.GainLaws.{gain-most, sample-small}
@@ -62,8 +64,8 @@ module _ (c : Cable) (room : ℕ) (ok : cableNumber c room ≡ 0) where
   gains : (n : ℕ) → n < sampleCount c → (hasGain (c .settings .r) (s c n) ≡ true) × (c .settings .L ≤ gain (c .settings .r) (s c n))
   gains n h =
       let k = c .settings in
-      let t = all-at (gainFits k) (values (s c) (sampleCount c)) n (pos 0) (cause-tests c room (number-tests c room ok .1) .1) (omega (arith, values-length (s c) (sampleCount c))) in
-      let e : gainFits k (s c n) ≡ true = ap (gainFits k) (sym (values-at (s c) (pos 0) (sampleCount c) n h)) ∙ t in
+      let t = all-at (gainAvailable k) (values (s c) (sampleCount c)) n (pos 0) (cause-tests c room (number-tests c room ok .1) .1) (omega (arith, values-length (s c) (sampleCount c))) in
+      let e : gainAvailable k (s c n) ≡ true = ap (gainAvailable k) (sym (values-at (s c) (pos 0) (sampleCount c) n h)) ∙ t in
       (and-left (hasGain (k .r) (s c n)) (leb (k .L) (gain (k .r) (s c n))) e, leb-true (k .L) (gain (k .r) (s c n)) (and-right (hasGain (k .r) (s c n)) (leb (k .L) (gain (k .r) (s c n))) e))
 
   entry-is : (n : ℕ) → n < sampleCount c → isEntry (c .settings .r) (entry c n) ≡ true
@@ -105,7 +107,7 @@ module _ (c : Cable) (room : ℕ) (ok : cableNumber c room ≡ 0) where
   well-formed : wellFormed t ≡ true
   well-formed =
       well-tested t (omega (arith, flat-length c)) (omega (arith, flat-length c, fitting .few))
-      ∙ both (eqb (length t) (headerLength + 4 * samplesIn t)) (eqb (byteAt t 5) 0) (eq-eqb (length t) (headerLength + 4 * samplesIn t) (flat-length c ∙ ap (λ (n : ℕ). headerLength + 4 * n) (sym samples-are))) refl
+      ∙ both (eqb (length t) (traceHeaderLength + 4 * samplesIn t)) (eqb (byteAt t 5) 0) (eq-eqb (length t) (traceHeaderLength + 4 * samplesIn t) (flat-length c ∙ ap (λ (n : ℕ). traceHeaderLength + 4 * n) (sym samples-are))) refl
 
   -- ---- the samples
 
@@ -138,8 +140,8 @@ module _ (c : Cable) (room : ℕ) (ok : cableNumber c room ≡ 0) where
   inside i j h k = omega (arith, samples-are, mul-le-mul-right (settingsIn t .N) h)
 
   module _ (e : Equaliser) (a : Accepted e) (same : settings e ≡ settingsIn t) (i : ℕ) (h : i < countIn t) where
-    abbrev l : Lent
-    l = lentAt t (i * e .n)
+    abbrev l : Buffers
+    l = buffersAt t (i * e .n)
 
     n-is : e .n ≡ settingsIn t .N
     n-is = ap (λ (k : Settings). k .N) same
@@ -154,32 +156,32 @@ module _ (c : Cable) (room : ℕ) (ok : cableNumber c room ≡ 0) where
     at j k = reads-sample (i * e .n + j) (omega (arith, inside i j h k, ap (λ (n : ℕ). i * n) n-is))
 
     lengths : Checks.lengthsFit (e .n) l ≡ true
-    lengths = subst (λ (n : ℕ). Checks.lengthsFit n l ≡ true) (sym n-is) (lent-long t (i * e .n))
+    lengths = subst (λ (n : ℕ). Checks.lengthsFit n l ≡ true) (sym n-is) (buffers-long t (i * e .n))
 
     gains-pass : all (Checks.gainFits (e .l)) (l .gains) ≡ true
     gains-pass =
-        lent-gains t (i * e .n) (Checks.gainFits (e .l))
+        buffers-gains t (i * e .n) (Checks.gainFits (e .l))
         (λ j k. both _ _ (le-leb (e .l) _ (omega (arith, l-is, at j k .gain-least))) (le-leb _ gainLimit (at j k .gain-most)))
 
     entries-pass : all (isEntry (e .r)) (l .entries) ≡ true
-    entries-pass = lent-entries t (i * e .n) (isEntry (e .r)) (λ j k. rw r-is (at j k .entry-fits))
+    entries-pass = buffers-entries t (i * e .n) (isEntry (e .r)) (λ j k. rw r-is (at j k .entry-fits))
 
     checked : checkNumber e l ≡ 0
     checked = sym (checks-pass e l (a .number) lengths gains-pass entries-pass)
 
     sampled : Sampled (l .m)
-    sampled = lent-samples t (i * e .n) (λ (z : ℤ). natAbs z ≤ 2 ^ 15) (λ j k. le-of-lt (at j k .sample-small))
+    sampled = buffers-samples t (i * e .n) (λ (z : ℤ). natAbs z ≤ 2 ^ 15) (λ j k. le-of-lt (at j k .sample-small))
 
   runs : (blocks i : ℕ) (e : Equaliser) → Accepted e → settings e ≡ settingsIn t → i + blocks ≡ countIn t → Runs t blocks i e
   runs zero i e a same q = tt
   runs (suc blocks) i e a same q =
       let h : i < countIn t = omega (arith, q) in
-      go (goesOn e (block (l e a same i h))) (number-is e (l e a same i h) (checked e a same i h))
+      go (ψFitsBlock e (block (l e a same i h))) (number-is e (l e a same i h) (checked e a same i h))
       (λ z. runs blocks (suc i) (runState e (l e a same i h)) (run-accepted e (l e a same i h) z (a .weights-long) (a .past-long) (sampled e a same i h))
       (run-settings e (l e a same i h) ∙ same) (omega (arith, q)))
     where
-      go : (b : Bool) → cond b 0 6 ≡ runNumber e (lentAt t (i * e .n)) → (runNumber e (lentAt t (i * e .n)) ≡ 0 → Runs t blocks (suc i) (runState e (lentAt t (i * e .n)))) →
-          (runNumber e (lentAt t (i * e .n)) ≡ 6) ⊎ ((runNumber e (lentAt t (i * e .n)) ≡ 0) × Runs t blocks (suc i) (runState e (lentAt t (i * e .n))))
+      go : (b : Bool) → cond b 0 6 ≡ runNumber e (buffersAt t (i * e .n)) → (runNumber e (buffersAt t (i * e .n)) ≡ 0 → Runs t blocks (suc i) (runState e (buffersAt t (i * e .n)))) →
+          (runNumber e (buffersAt t (i * e .n)) ≡ 6) ⊎ ((runNumber e (buffersAt t (i * e .n)) ≡ 0) × Runs t blocks (suc i) (runState e (buffersAt t (i * e .n))))
       go true z rest = inr (sym z, rest (sym z))
       go false z rest = inl (sym z)
 

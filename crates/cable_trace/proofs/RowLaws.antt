@@ -8,24 +8,24 @@ use lib.Seq.{take-all, take-take, length-take-le, getD-take, getD-drop, ext-getD
 use lib.IntN.{ℤ, pos, natAbs, _+ℤ_, _*ℤ_, zero-*ℤ, +ℤ-idr}
 use Rattle.laws.specs.Sums.{each-of, each-take, each-drop, dot, dot-next, dot-bound}
 use Rattle.block.proofs.ValuesLaws.{values-length, values-at}
-use Rattle.cable_trace.specs.Limits.{responseLimit, tapsLength}
-use Rattle.cable_trace.specs.Calls.{place, window, sums, LineSummable, twice, row, rowSums, RowsSummable, Summable}
+use Rattle.cable_trace.specs.Limits.{responseLimit}
+use Rattle.cable_trace.specs.Calls.{tapsLength, sentPlace, window, sums, LineSummable, twice, row, rowSums, RowsSummable, RowSummable}
 use Rattle.cable_trace.proofs.LineLaws.{values-same, each-default, window-long}
 
 -- ---- one sum
 
 -- each partial sum is below 2^25
-pub sum-bound : (h v : List ℤ) (j : ℕ) → Summable h v → natAbs (dot (take j h) (take j v)) < 2 ^ 25
+pub sum-bound : (h v : List ℤ) (j : ℕ) → RowSummable h v → natAbs (dot (take j h) (take j v)) < 2 ^ 25
 sum-bound h v j s =
     omega (arith, dot-bound (2 ^ 15) (2 ^ 4) (take j h) (take j v) (each-take _ j h (s .h-small)) (each-take _ j v (s .v-small)), length-take j h, s .h-long)
 
 -- a row and a window
-pub row-summable : (taps line : List ℤ) (m n : ℕ) → RowsSummable taps line m → Summable (row taps n) (window line responseLimit n)
+pub row-summable : (taps line : List ℤ) (m n : ℕ) → RowsSummable taps line m → RowSummable (row taps n) (window line responseLimit n)
 row-summable taps line m n s = record {
   h-long = length-take-le responseLimit (drop (responseLimit * (n % 2)) taps) (omega (arith, length-drop (responseLimit * (n % 2)) taps, s .taps-long));
   v-long = window-long line responseLimit n (s .line-long) (omega arith);
   h-small = each-take _ responseLimit (drop (responseLimit * (n % 2)) taps) (each-drop _ (responseLimit * (n % 2)) taps (s .taps-small));
-  v-small = each-take _ responseLimit (drop (place n) line) (each-drop _ (place n) line (s .line-small));
+  v-small = each-take _ responseLimit (drop (sentPlace n) line) (each-drop _ (sentPlace n) line (s .line-small));
 }
 
 -- ---- a row of a response
@@ -90,4 +90,4 @@ module _ (h line : List ℤ) (n : ℕ) (s : LineSummable h line n) where
   row-sums-are =
       values-same (pos 0) _ _ n
       (λ i l. row-dot h (s .few) (window line responseLimit i) (window-long line responseLimit i (s .line-long) (omega arith)) i
-      ∙ ap (dot h) (take-take (length h) responseLimit (drop (place i) line) (s .few)))
+      ∙ ap (dot h) (take-take (length h) responseLimit (drop (sentPlace i) line) (s .few)))

@@ -21,10 +21,9 @@ use Rattle.block.specs.Block.{values}
 use Rattle.block.proofs.ValuesLaws.{values-length, values-at}
 use Rattle.image.specs.Image.{bytes}
 use Rattle.checks.specs.Calls.{Sampled}
-use Rattle.cable_trace.specs.Limits.{responseLimit, sentLimit}
+use Rattle.cable_trace.specs.Limits.{responseLimit}
+use Rattle.cable_trace.specs.Calls.{sentLimit, placed, lineOf, sums, LineSummable, Gainable, sampleWord, sampleWords, NotNegative, wordBytes, traceBytes, sentLineLength}
 use Rattle.cable_trace.specs.Cable.{Cable, s, gain, sample, sampleCount, blockCount, traceHeader, sampleBytes, joined, entryPart, cableTrace}
-use Rattle.cable_trace.specs.Calls.{placed, lineOf, sums, LineSummable, Gainable, sampleWord, sampleWords, NotNegative, wordBytes, traceBytes}
-use Rattle.cable_trace.specs.Limits.{lineLength}
 use Rattle.cable_trace.proofs.LineLaws.{values-same, line-small, window-is}
 use Rattle.cable_trace.proofs.GainLaws.{gain-most, sample-small}
 use Rattle.cable_trace.proofs.PutLaws.{word-is}
@@ -44,7 +43,7 @@ module _ (c : Cable) (few : sampleCount c ≤ sentLimit) (response : length (c .
   line-summable h e m = record {
     few = response;
     h-small = m;
-    line-long = values-length (placed (c .symbols)) lineLength;
+    line-long = values-length (placed (c .symbols)) sentLineLength;
     line-small = line-small (λ (x : ℤ). natAbs x ≤ 2 ^ 4) (c .symbols) (symbols-small (c .settings .r) (c .symbols) h e) (omega arith);
     n-most = few;
   }

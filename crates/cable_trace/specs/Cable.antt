@@ -15,7 +15,7 @@ use Rattle.steps.specs.Settings.{Settings, isSymbol}
 use Rattle.block.specs.Block.{values}
 use Rattle.state.specs.Sizes.{settingsNumber}
 use Rattle.image.specs.Image.{bytes, width}
-use Rattle.trace_text.specs.Trace.{headerLength, traceLimit}
+use Rattle.trace_text.specs.Trace.{traceHeaderLength, traceLimit}
 use Rattle.cable_trace.specs.Limits.{responseLimit, countLimit}
 
 -- what is given: the settings, the response h in units of 1/32768, the symbols, and how many of them are training entries
@@ -70,7 +70,7 @@ abbrev pub blockCount : Cable → ℕ
 blockCount c = sampleCount c / c .settings .N
 
 abbrev pub traceLength : Cable → ℕ
-traceLength c = headerLength + 4 * sampleCount c
+traceLength c = traceHeaderLength + 4 * sampleCount c
 
 -- p, q, N, r, L, a 0 byte, the block count and M
 abbrev pub traceHeader : Settings → ℕ → List ℕ
@@ -106,8 +106,8 @@ abbrev pub blocksFit : ℕ → ℕ → Bool
 blocksFit N n = eqb (n % N) 0 && leb 1 (n / N) && leb (n / N) countLimit
 
 -- there is a gain, and it is not below L
-abbrev pub gainFits : Settings → ℤ → Bool
-gainFits k s = hasGain (k .r) s && leb (k .L) (gain (k .r) s)
+abbrev pub gainAvailable : Settings → ℤ → Bool
+gainAvailable k s = hasGain (k .r) s && leb (k .L) (gain (k .r) s)
 
 -- the cause of a 10, the first in this order, or 0. 1 to 4: the response, the blocks, the training count, the length of the trace
 unfoldable pub lengthCause : Cable → ℕ
@@ -124,7 +124,7 @@ listCause c room =
 -- 7: a gain
 unfoldable pub cause : Cable → ℕ → ℕ
 cause c room =
-    cond (eqb (listCause c room) 0) (cond (all (gainFits (c .settings)) (values (s c) (sampleCount c))) 0 7) (listCause c room)
+    cond (eqb (listCause c room) 0) (cond (all (gainAvailable (c .settings)) (values (s c) (sampleCount c))) 0 7) (listCause c room)
 
 -- what the simulator answers for an output of `room` bytes: 1 and 2 of set-up, then 10, or 0
 unfoldable pub cableNumber : Cable → ℕ → ℕ

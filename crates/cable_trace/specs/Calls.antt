@@ -16,33 +16,47 @@ use Rattle.numbers.specs.Cut.{rescale}
 use Rattle.steps.specs.Limits.{symbolLimit, gainLimit}
 use Rattle.steps.specs.Settings.{Settings}
 use Rattle.block.specs.Block.{values}
-use Rattle.cable_trace.specs.Limits.{responseLimit, tapsLength, sentLimit, lineLength}
+use Rattle.cable_trace.specs.Limits.{responseLimit}
 use Rattle.state.specs.Sizes.{settingsNumber}
 use Rattle.image.specs.Image.{bytes}
-use Rattle.trace_text.specs.Trace.{headerLength}
-use Rattle.cable_trace.specs.Cable.{Cable, s, gain, hasGain, sample, sampleCount, traceHeader, joined, cableTrace, gainFits, listCause}
+use Rattle.trace_text.specs.Trace.{traceHeaderLength, traceLimit}
+use Rattle.cable_trace.specs.Cable.{Cable, s, gain, hasGain, sample, sampleCount, traceHeader, joined, cableTrace, gainAvailable, listCause}
+
+-- ---- lengths that follow from those of a trace
+
+-- a response twice
+abbrev pub tapsLength : ℕ
+tapsLength = 2 * responseLimit
+
+-- symbols: a sample and its training entry take 4 bytes of the trace
+abbrev pub sentLimit : ℕ
+sentLimit = (traceLimit - traceHeaderLength) / 4
+
+-- the length of a line: the symbols, and what was there before the first
+abbrev pub sentLineLength : ℕ
+sentLineLength = sentLimit + responseLimit
 
 -- ---- the symbols in a line, newest first, and 0 from place sentLimit on
 
-abbrev pub place : ℕ → ℕ
-place n = sentLimit - 1 - n
+abbrev pub sentPlace : ℕ → ℕ
+sentPlace n = sentLimit - 1 - n
 
 abbrev pub placed : List ℤ → ℕ → ℤ
-placed symbols i = cond (ltb i sentLimit) (getD symbols (place i) (pos 0)) (pos 0)
+placed symbols i = cond (ltb i sentLimit) (getD symbols (sentPlace i) (pos 0)) (pos 0)
 
 abbrev pub lineOf : List ℤ → List ℤ
-lineOf symbols = values (placed symbols) lineLength
+lineOf symbols = values (placed symbols) sentLineLength
 
 -- work areas before they are written: a line, and s of each symbol
 unfoldable pub emptyLine : List ℤ
-emptyLine = replicate lineLength (pos 0)
+emptyLine = replicate sentLineLength (pos 0)
 
 unfoldable pub emptySums : List ℤ
 emptySums = replicate sentLimit (pos 0)
 
 -- the k symbols that are newest at place n
 abbrev pub window : List ℤ → ℕ → ℕ → List ℤ
-window line k n = take k (drop (place n) line)
+window line k n = take k (drop (sentPlace n) line)
 
 -- ---- sums
 
@@ -53,7 +67,7 @@ sums h line n = values (λ i. dot h (window line (length h) i)) n
 pub record LineSummable (h line : List ℤ) (n : ℕ) : Type 0 where
   pub few : length h ≤ responseLimit
   pub h-small : Each (λ (x : ℤ). natAbs x ≤ 2 ^ 15) h
-  pub line-long : length line ≡ lineLength
+  pub line-long : length line ≡ sentLineLength
   pub line-small : Each (λ (x : ℤ). natAbs x ≤ 2 ^ 4) line
   pub n-most : n ≤ sentLimit
 
@@ -71,12 +85,12 @@ rowSums taps line n = values (λ i. dot (row taps i) (window line responseLimit 
 pub record RowsSummable (taps line : List ℤ) (n : ℕ) : Type 0 where
   pub taps-long : length taps ≡ tapsLength
   pub taps-small : Each (λ (x : ℤ). natAbs x ≤ 2 ^ 15) taps
-  pub line-long : length line ≡ lineLength
+  pub line-long : length line ≡ sentLineLength
   pub line-small : Each (λ (x : ℤ). natAbs x ≤ 2 ^ 4) line
   pub n-most : n ≤ sentLimit
 
 -- a row and as many symbols
-pub record Summable (h v : List ℤ) : Type 0 where
+pub record RowSummable (h v : List ℤ) : Type 0 where
   pub h-long : length h ≡ responseLimit
   pub v-long : length v ≡ responseLimit
   pub h-small : Each (λ (x : ℤ). natAbs x ≤ 2 ^ 15) h
@@ -138,9 +152,9 @@ abbrev pub wordBytes : List ℤ → ℕ → List ℕ
 wordBytes words n = bytes 4 (natAbs (getD words n (pos 0)))
 
 -- those of n words, each three places after the one before
-unfoldable pub stored : List ℤ → List ℕ → ℕ → List ℕ
-stored words out zero = out
-stored words out (suc n) = sets (stored words out n) (3 * n) (wordBytes words n)
+unfoldable pub storedWords : List ℤ → List ℕ → ℕ → List ℕ
+storedWords words out zero = out
+storedWords words out (suc n) = sets (storedWords words out n) (3 * n) (wordBytes words n)
 
 -- with the word of each sample
 abbrev pub traceBytes : Settings → List ℤ → ℕ → List ℤ → List ℕ
@@ -156,7 +170,7 @@ pub record Puttable (N : ℕ) (symbols : List ℤ) (training : ℕ) (words : Lis
   pub training-most : training ≤ length symbols
   pub same-length : length words ≡ length symbols
   pub not-negative : Each NotNegative words
-  pub room : length out ≡ headerLength + 4 * length symbols
+  pub room : length out ≡ traceHeaderLength + 4 * length symbols
 
 -- ---- a cable whose settings and lists fit
 
@@ -166,5 +180,5 @@ pub record Makeable (c : Cable) (room : ℕ) : Type 0 where
 
 -- whether the gains fit, and the output at the end
 pub record Made (c : Cable) (before : List ℕ) (fit : Bool) (after : List ℕ) : Type 0 where
-  pub fit-is : fit ≡ all (gainFits (c .settings)) (values (s c) (sampleCount c))
+  pub fit-is : fit ≡ all (gainAvailable (c .settings)) (values (s c) (sampleCount c))
   pub contents : after ≡ cond fit (cableTrace c) before

@@ -12,29 +12,29 @@ use Rattle.state.specs.Sizes.{settingsNumber}
 use Rattle.state.specs.State.{fresh}
 use Rattle.state.specs.declared.equaliser.Equaliser.{Equaliser}
 use Rattle.station.specs.Answers.{runNumber, runState}
-use Rattle.trace_text.specs.Trace.{settingsIn, countIn, samplesIn, wellFormed, sampleAt, gainAt, entryAt, lentAt}
+use Rattle.trace_text.specs.Trace.{settingsIn, countIn, samplesIn, wellFormed, traceSample, traceGain, traceEntry, buffersAt}
 use Rattle.trace_text.specs.Text.{textFrom, traceText}
 use Rattle.cable_trace.specs.Cable.{Cable, s, gain, sample, entry, sampleCount, blockCount}
 
 -- sample n of the trace: those that were computed, within what the checks 4 and 5 ask
 pub record ReadsSample (c : Cable) (t : List ℕ) (n : ℕ) : Type 0 where
-  pub sample-is : sampleAt t n ≡ sample (c .settings .r) (s c n)
-  pub gain-is : gainAt t n ≡ gain (c .settings .r) (s c n)
-  pub entry-is : entryAt t n ≡ entry c n
+  pub sample-is : traceSample t n ≡ sample (c .settings .r) (s c n)
+  pub gain-is : traceGain t n ≡ gain (c .settings .r) (s c n)
+  pub entry-is : traceEntry t n ≡ entry c n
   -- the first symbols, and 0 after them
-  pub entry-trained : n < c .training → entryAt t n ≡ getD (c .symbols) n (pos 0)
-  pub entry-later : c .training ≤ n → entryAt t n ≡ pos 0
+  pub entry-trained : n < c .training → traceEntry t n ≡ getD (c .symbols) n (pos 0)
+  pub entry-later : c .training ≤ n → traceEntry t n ≡ pos 0
   -- |m| < 2^15
-  pub sample-small : natAbs (sampleAt t n) < 2 ^ 15
-  pub gain-least : c .settings .L ≤ gainAt t n
-  pub gain-most : gainAt t n ≤ gainLimit
-  pub entry-fits : isEntry (c .settings .r) (entryAt t n) ≡ true
+  pub sample-small : natAbs (traceSample t n) < 2 ^ 15
+  pub gain-least : c .settings .L ≤ traceGain t n
+  pub gain-most : traceGain t n ≤ gainLimit
+  pub entry-fits : isEntry (c .settings .r) (traceEntry t n) ≡ true
 
 -- the last blocks, from the block i on: each is accepted, up to one that is refused with 6 if there is any
 abbrev pub Runs : List ℕ → ℕ → ℕ → Equaliser → Type 0
 Runs t zero i e = Unit
 Runs t (suc blocks) i e =
-    let l = lentAt t (i * e .n) in
+    let l = buffersAt t (i * e .n) in
     (runNumber e l ≡ 6) ⊎ ((runNumber e l ≡ 0) × Runs t blocks (suc i) (runState e l))
 
 -- a well-formed trace with these settings and samples. Its text is that of its blocks, so it does not stop with 8, 1 or 2, and no block with 3, 4, 5 or 9

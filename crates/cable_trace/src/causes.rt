@@ -7,7 +7,7 @@ ghost use Rattle.steps.specs.Settings.{isSymbol};
 ghost use Rattle.cable_trace.specs.Cable.{responseFits, blocksFit, lengthCause, listCause};
 ghost use Rattle.cable_trace.specs.Answers.{cableOf};
 use super::limits;
-use trace_text::limits::HEADER;
+use trace_text::limits::TRACE_HEADER;
 
 fn is_symbol(v: i8, r: u32) -> bool
     requires { ⌜ r ≤ symbolLimit ⌝ }
@@ -79,7 +79,7 @@ pub fn list_cause(
     if !all_symbols(symbols, r as u32) {
         return 5;
     }
-    if room == HEADER + 4 * symbols.len() {
+    if room == TRACE_HEADER + 4 * symbols.len() {
         0
     } else {
         6

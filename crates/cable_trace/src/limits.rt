@@ -11,7 +11,7 @@ pub const TAPS: usize = 2 * RESPONSE;
 pub const COUNT: usize = 65535;
 
 // Symbols: a sample and its training entry take 4 bytes of the trace.
-pub const SENT: usize = (limits::TRACE - limits::HEADER) / 4;
+pub const SENT: usize = (limits::TRACE - limits::TRACE_HEADER) / 4;
 
 // Places of a line: those of the symbols, and what was there before the first.
 pub const LINE: usize = SENT + RESPONSE;

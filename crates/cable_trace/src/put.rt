@@ -13,15 +13,14 @@ ghost use Rattle.state.specs.Sizes.{given};
 ghost use Rattle.image.specs.Image.{header};
 ghost use Rattle.cable_trace.specs.Limits.{countLimit};
 ghost use Rattle.cable_trace.specs.Cable.{traceHeader};
-ghost use Rattle.cable_trace.specs.Calls.{Gainable, sampleWords, NotNegative, stored, Puttable, traceBytes};
+ghost use Rattle.cable_trace.specs.Calls.{Gainable, sampleWords, NotNegative, storedWords, Puttable, traceBytes};
 use state::equaliser::Equaliser;
-use steps::limits::PLACES;
-use trace_text::limits::HEADER;
+use trace_text::limits::TRACE_HEADER;
 
 // Three bytes of each word, and a fourth over which the next one is written: a store of four bytes is one.
 fn samples(words: &[i32], out: &mut [u8])
     requires { ⌜ (Each NotNegative (now words)) × (3 * length (now words) < length (now out)) ⌝ }
-    ensures { λ _. ⌜ now (out .exit) ≡ stored (now (words .entry)) (now (out .entry)) (length (now (words .entry))) ⌝ }
+    ensures { λ _. ⌜ now (out .exit) ≡ storedWords (now (words .entry)) (now (out .entry)) (length (now (words .entry))) ⌝ }
 {
     let mut i: usize = 0;
     while i < words.len() {
@@ -83,10 +82,10 @@ fn header(p: u8, q: u8, n: u8, r: u8, l: u8, m: u32, count: usize) -> Equaliser
         l: l,
         psi: 0,
         b: (count % 256) as u8,
-        big: (count / 256) as u8,
+        bmax: (count / 256) as u8,
         m: m,
-        weights: [0i16; PLACES],
-        past: [0i16; PLACES],
+        weights: [0i16; Equaliser::SLOTS],
+        past: [0i16; Equaliser::SLOTS],
     }
 }
 
@@ -107,11 +106,11 @@ fn word_trace(
     ensures { λ _. ⌜ now (out .exit) ≡ traceBytes (given p q n r l m) (now (symbols .entry)) training (now (words .entry)) ⌝ }
 {
     let k = symbols.len();
-    let mid = HEADER + 3 * k;
+    let mid = TRACE_HEADER + 3 * k;
     let end = mid + k;
     let e = header(p, q, n, r, l, m, k / (n as usize));
-    image::save::put_header(e, &mut out[0..HEADER]);
-    samples(words, &mut out[HEADER..end]);
+    image::save::put_header(e, &mut out[0..TRACE_HEADER]);
+    samples(words, &mut out[TRACE_HEADER..end]);
     entries(symbols, training, &mut out[mid..end]);
 }
 

@@ -4,9 +4,9 @@ ghost use Prim.Native.Nat.{_≤_};
 ghost use lib.ListN.{length, getD};
 ghost use lib.IntN.{pos};
 ghost use Rattle.laws.specs.Sums.{dot};
-ghost use Rattle.steps.specs.Side.{magnitudes, together};
-ghost use Rattle.cable_trace.specs.Limits.{sentLimit, tapsLength};
-ghost use Rattle.cable_trace.specs.Calls.{lineOf, emptyLine, emptySums, sums, LineSummable, twice, rowSums, RowsSummable, Summable};
+ghost use Rattle.steps.specs.Fir.{magnitudes};
+ghost use Rattle.steps.specs.Sound.{orAll};
+ghost use Rattle.cable_trace.specs.Calls.{sentLimit, tapsLength, lineOf, emptyLine, emptySums, sums, LineSummable, twice, rowSums, RowsSummable, RowSummable};
 use super::limits;
 
 pub fn empty_line() -> [i16; limits::LINE]
@@ -54,13 +54,13 @@ fn twice(h: &[i16], taps: &mut [i16])
 
 // The sum of a row times as many symbols.
 fn sum(h: &[i16], v: &[i16]) -> i32
-    requires { ⌜ Summable (now h) (now v) ⌝ }
+    requires { ⌜ RowSummable (now h) (now v) ⌝ }
     ensures { λ r. ⌜ r ≡ dot (now (h .entry)) (now (v .entry)) ⌝ }
 {
     let mut sum: i32 = 0;
     let mut i: usize = 0;
     while i < limits::RESPONSE {
-        sum = steps::side::mac(sum, h[i], v[i]);
+        sum = steps::fir::mac(sum, h[i], v[i]);
         i += 1;
     }
     sum
@@ -85,7 +85,7 @@ fn row_sums(taps: &[i16], line: &[i16], out: &mut [i32])
 
 // The bits of every |s| together.
 fn bits(sums: &[i32]) -> u32
-    ensures { λ r. ⌜ r ≡ together (magnitudes (now (sums .entry))) ⌝ }
+    ensures { λ r. ⌜ r ≡ orAll (magnitudes (now (sums .entry))) ⌝ }
 {
     let mut seen: u32 = 0;
     let mut i: usize = 0;
@@ -99,7 +99,7 @@ fn bits(sums: &[i32]) -> u32
 // s of each symbol from a response, and the bits of every |s| together.
 pub fn sums(h: &[i16], line: &[i16], out: &mut [i32]) -> u32
     requires { ⌜ LineSummable (now h) (now line) (length (now out)) ⌝ }
-    ensures { λ r. ⌜ (now (out .exit) ≡ sums (now (h .entry)) (now (line .entry)) (length (now (out .entry)))) × (r ≡ together (magnitudes (now (out .exit)))) ⌝ }
+    ensures { λ r. ⌜ (now (out .exit) ≡ sums (now (h .entry)) (now (line .entry)) (length (now (out .entry)))) × (r ≡ orAll (magnitudes (now (out .exit)))) ⌝ }
 {
     let mut taps = [0i16; limits::TAPS];
     twice(h, &mut taps);

@@ -8,7 +8,7 @@ ghost use Rattle.steps.specs.Limits.{symbolLimit};
 ghost use Rattle.cable_trace.specs.Cable.{sample};
 ghost use Rattle.cable_trace.specs.Calls.{Gainable, gainOf, floatDigits, floatOffset, floatBits, exponentIn, leading, sampleWord, sampleWords};
 use super::limits;
-use steps::limits::GAIN;
+use state::equaliser::Equaliser;
 
 fn float_bits(s: i32) -> u32
     requires { ⌜ natAbs s < 2 ^ floatDigits ⌝ }
@@ -23,7 +23,7 @@ fn gain(r: u32, e: u32) -> u32
     ensures { λ g. ⌜ g ≡ gainOf r (e - floatOffset) ⌝ }
 {
     if e <= limits::OFFSET + r {
-        GAIN
+        Equaliser::GAIN as u32
     } else {
         limits::OFFSET + 15 + r - e
     }

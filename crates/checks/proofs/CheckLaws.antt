@@ -8,9 +8,9 @@ use lib.ListN.{length}
 use borrow.Author.Tests.{leb-true, eqb-true, eqb-false, ne-eqb}
 use Rattle.laws.specs.Lists.{and-left, and-right, all}
 use Rattle.laws.specs.Tests.{last-eq, each-tested}
-use Rattle.steps.specs.Limits.{gainLimit, places}
+use Rattle.steps.specs.Limits.{gainLimit, slots}
 use Rattle.steps.specs.Settings.{Settings, isEntry}
-use Rattle.checks.specs.Checks.{Lent, block, lengthsFit, gainFits, checkNumber}
+use Rattle.checks.specs.Checks.{Buffers, block, lengthsFit, gainFits, checkNumber}
 use Rattle.state.specs.State.{settings}
 use Rattle.state.specs.Answers.{examined}
 use Rattle.checks.specs.Calls.{Sampled, Checked}
@@ -19,7 +19,7 @@ use Rattle.state.proofs.SoundLaws.{examined-tests, accepted-sound}
 
 -- ---- the number, check by check
 
-module _ (e : Equaliser) (l : Lent) where
+module _ (e : Equaliser) (l : Buffers) where
   pub state-fails : (n : ℕ) → n ≡ examined e → (n ≡ 0 → ⊥) → n ≡ checkNumber e l
   unfolding checkNumber
   state-fails n h f = simp (ne-eqb (examined e) 0 (λ z. f (h ∙ z))) h
@@ -42,7 +42,7 @@ module _ (e : Equaliser) (l : Lent) where
     checks-pass h g f = simp (sound, h, g, f)
 
 -- of an accepted state: 0, 3, 4 or 5
-pub check-number : (e : Equaliser) (l : Lent) (P : ℕ → Type 0) → examined e ≡ 0 → P 0 → P 3 → P 4 → P 5 → P (checkNumber e l)
+pub check-number : (e : Equaliser) (l : Buffers) (P : ℕ → Type 0) → examined e ≡ 0 → P 0 → P 3 → P 4 → P 5 → P (checkNumber e l)
 unfolding checkNumber
 check-number e l P h pass lengths gains entries = rw h (go (lengthsFit (e .n) l) (all (gainFits (e .l)) (l .gains)) (all (isEntry (e .r)) (l .entries)))
   where
@@ -53,7 +53,7 @@ check-number e l P h pass lengths gains entries = rw h (go (lengthsFit (e .n) l)
     go false b c = lengths
 
 -- of another state and other lists that every check finds the same
-pub check-same : (e e′ : Equaliser) (l l′ : Lent) → settings e′ ≡ settings e → examined e′ ≡ examined e → lengthsFit (e .n) l′ ≡ lengthsFit (e .n) l → l′ .gains ≡ l .gains → l′ .entries ≡ l .entries →
+pub check-same : (e e′ : Equaliser) (l l′ : Buffers) → settings e′ ≡ settings e → examined e′ ≡ examined e → lengthsFit (e .n) l′ ≡ lengthsFit (e .n) l → l′ .gains ≡ l .gains → l′ .entries ≡ l .entries →
     checkNumber e′ l′ ≡ checkNumber e l
 unfolding checkNumber
 check-same e e′ l l′ k x f g v = rw (x, ap (λ (c : Settings). c .N) k, ap (λ (c : Settings). c .L) k, ap (λ (c : Settings). c .r) k, f, g, v)
@@ -67,7 +67,7 @@ four n true true false c f h = absurd (omega arith)
 four n true false b c f h = absurd (omega arith)
 four n false a b c f h = absurd (eqb-false n 0 f h)
 
-module _ (e : Equaliser) (l : Lent) (passed : checkNumber e l ≡ 0) where
+module _ (e : Equaliser) (l : Buffers) (passed : checkNumber e l ≡ 0) where
   pub check-tests : (examined e ≡ 0) × (lengthsFit (e .n) l ≡ true) × (all (gainFits (e .l)) (l .gains) ≡ true) × (all (isEntry (e .r)) (l .entries) ≡ true)
   unfolding checkNumber
   check-tests = four (examined e) (eqb (examined e) 0) (lengthsFit (e .n) l) (all (gainFits (e .l)) (l .gains)) (all (isEntry (e .r)) (l .entries)) refl passed
@@ -103,7 +103,7 @@ module _ (e : Equaliser) (l : Lent) (passed : checkNumber e l ≡ 0) where
         theta = theta .1;
       }
 
-  pub checked-is : length (e .weights) ≡ places → length (e .past) ≡ places → Sampled (l .m) → Checked e (block l)
+  pub checked-is : length (e .weights) ≡ slots → length (e .past) ≡ slots → Sampled (l .m) → Checked e (block l)
   checked-is w d m =
       let t = check-tests in
       record {

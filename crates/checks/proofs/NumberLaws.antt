@@ -8,9 +8,9 @@ use Rattle.steps.specs.Settings.{isEntry}
 use Rattle.state.specs.Answers.{examined}
 use Rattle.state.specs.declared.equaliser.Equaliser.{Equaliser}
 use Rattle.state.proofs.NumberLaws.{examined-most}
-use Rattle.checks.specs.Checks.{Lent, lengthsFit, gainFits, checkNumber}
+use Rattle.checks.specs.Checks.{Buffers, lengthsFit, gainFits, checkNumber}
 
-pub check-most : (e : Equaliser) (l : Lent) → checkNumber e l ≤ 9
+pub check-most : (e : Equaliser) (l : Buffers) → checkNumber e l ≤ 9
 unfolding checkNumber
 check-most e l = go (eqb (examined e) 0) (lengthsFit (e .n) l) (all (gainFits (e .l)) (l .gains)) (all (isEntry (e .r)) (l .entries))
   where

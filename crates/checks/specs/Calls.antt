@@ -2,7 +2,7 @@
 use mathlib.Core.Path.{_≡_}
 use mathlib.Core.Bool.{true}
 use mathlib.Core.List.{List}
-use Prim.Native.Nat.{ℕ, _^_, _≤_}
+use Prim.Native.Nat.{_^_, _≤_}
 use lib.IntN.{ℤ, natAbs}
 use Rattle.laws.specs.Sums.{Each}
 use Rattle.block.specs.Block.{Block}
@@ -10,10 +10,6 @@ use Rattle.block.specs.Sound.{Sound, Acceptable}
 use Rattle.state.specs.Sizes.{sizesFit}
 use Rattle.state.specs.State.{settings, memory, isSound}
 use Rattle.state.specs.declared.equaliser.Equaliser.{Equaliser}
-use Rattle.checks.specs.Checks.{Lent}
-
-abbrev pub lentOf : List ℤ → List ℕ → List ℤ → List ℤ → List ℕ → List ℤ → List ℤ → List ℕ → Lent
-lentOf m gains entries y xi decision z theta = record { m = m; gains = gains; entries = entries; y = y; xi = xi; decision = decision; z = z; theta = theta }
 
 -- samples of 16 bits
 abbrev pub Sampled : List ℤ → Type 0

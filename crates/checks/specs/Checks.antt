@@ -13,7 +13,7 @@ use Rattle.state.specs.Answers.{examined}
 use Rattle.state.specs.declared.equaliser.Equaliser.{Equaliser}
 
 -- the lists that are lent: m, gains, training entries, then Y, ξ, decision, Z and θ
-pub record Lent : Type 0 where
+pub record Buffers : Type 0 where
   pub m : List ℤ
   pub gains : List ℕ
   pub entries : List ℤ
@@ -23,11 +23,15 @@ pub record Lent : Type 0 where
   pub z : List ℤ
   pub theta : List ℕ
 
-abbrev pub block : Lent → Block
+-- as they stand in a call
+abbrev pub buffersOf : List ℤ → List ℕ → List ℤ → List ℤ → List ℕ → List ℤ → List ℤ → List ℕ → Buffers
+buffersOf m gains entries y xi decision z theta = record { m = m; gains = gains; entries = entries; y = y; xi = xi; decision = decision; z = z; theta = theta }
+
+abbrev pub block : Buffers → Block
 block l = record { samples = l .m; gains = l .gains; entries = l .entries }
 
 -- 3: every list is N long
-abbrev pub lengthsFit : ℕ → Lent → Bool
+abbrev pub lengthsFit : ℕ → Buffers → Bool
 lengthsFit N l =
     eqb (length (l .m)) N && eqb (length (l .gains)) N && eqb (length (l .entries)) N && eqb (length (l .y)) N && eqb (length (l .xi)) N
     && eqb (length (l .decision)) N && eqb (length (l .z)) N && eqb (length (l .theta)) N
@@ -37,7 +41,7 @@ abbrev pub gainFits : ℕ → ℕ → Bool
 gainFits L g = leb L g && leb g gainLimit
 
 -- the checks before the block is run: 1, 2, 9, then 3, 4, 5
-unfoldable pub checkNumber : Equaliser → Lent → ℕ
+unfoldable pub checkNumber : Equaliser → Buffers → ℕ
 checkNumber e l =
     cond (eqb (examined e) 0)
     (cond (lengthsFit (e .n) l) (cond (all (gainFits (e .l)) (l .gains)) (cond (all (isEntry (e .r)) (l .entries)) 0 5) 4) 3)

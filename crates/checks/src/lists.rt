@@ -4,8 +4,8 @@ ghost use Prim.Native.Nat.{_≤_};
 ghost use Rattle.laws.specs.Lists.{all};
 ghost use Rattle.steps.specs.Limits.{symbolLimit};
 ghost use Rattle.steps.specs.Settings.{isEntry};
-ghost use Rattle.checks.specs.Checks.{gainFits, lengthsFit, checkNumber};
-ghost use Rattle.checks.specs.Calls.{lentOf, Sampled};
+ghost use Rattle.checks.specs.Checks.{gainFits, lengthsFit, checkNumber, buffersOf};
+ghost use Rattle.checks.specs.Calls.{Sampled};
 use state::equaliser::Equaliser;
 
 pub fn all_entries(xs: &[i8], r: u32) -> bool
@@ -52,7 +52,7 @@ pub fn lengths_fit(
     z: &[i32],
     theta: &[u8],
 ) -> bool
-    ensures { λ r. ⌜ r ≡ lengthsFit n (lentOf (now (m .entry)) (now (gains .entry)) (now (entries .entry)) (now (y .entry)) (now (xi .entry)) (now (decision .entry)) (now (z .entry)) (now (theta .entry))) ⌝ }
+    ensures { λ r. ⌜ r ≡ lengthsFit n (buffersOf (now (m .entry)) (now (gains .entry)) (now (entries .entry)) (now (y .entry)) (now (xi .entry)) (now (decision .entry)) (now (z .entry)) (now (theta .entry))) ⌝ }
 {
     (m.len() == n)
         & (gains.len() == n)
@@ -76,7 +76,7 @@ pub fn checked(
     z: &[i32],
     theta: &[u8],
 ) -> u8
-    ensures { λ r. ⌜ r ≡ checkNumber e (lentOf (now (m .entry)) (now (gains .entry)) (now (entries .entry)) (now (y .entry)) (now (xi .entry)) (now (decision .entry)) (now (z .entry)) (now (theta .entry))) ⌝ }
+    ensures { λ r. ⌜ r ≡ checkNumber e (buffersOf (now (m .entry)) (now (gains .entry)) (now (entries .entry)) (now (y .entry)) (now (xi .entry)) (now (decision .entry)) (now (z .entry)) (now (theta .entry))) ⌝ }
 {
     let number = state::sound::examined(e);
     if number != 0 {

@@ -8,7 +8,8 @@ use native.Mathlib.Decide.{decLt}
 use lib.Dec.{eqb}
 use lib.ListN.{length}
 use borrow.Author.Tests.{ne-eqb}
-use Rattle.trace_text.specs.Trace.{headerLength, traceLimit, byteAt, samplesIn, wellFormed}
+use Rattle.image.specs.Load.{byteAt}
+use Rattle.trace_text.specs.Trace.{traceHeaderLength, traceLimit, samplesIn, wellFormed}
 use Rattle.trace_text.proofs.ReadLaws.{well-short, well-large, well-tested}
 use Rattle.description.specs.Texts.{text}
 use Rattle.description.specs.Description.{malformedLine, causeLine, refusalLine}
@@ -27,13 +28,13 @@ abbrev colon : List ℕ → Type 0
 colon t = byteAt t 5 ≡ 58
 
 pub no-trace : (t : List ℕ) → colon t → wellFormed t ≡ false
-no-trace t e = go (decLt (length t) headerLength) (decLt traceLimit (length t))
+no-trace t e = go (decLt (length t) traceHeaderLength) (decLt traceLimit (length t))
   where
-    go : Dec (length t < headerLength) → Dec (traceLimit < length t) → wellFormed t ≡ false
+    go : Dec (length t < traceHeaderLength) → Dec (traceLimit < length t) → wellFormed t ≡ false
     go (yes h) k = well-short t h
     go (no h) (yes k) = well-large t k
     go (no h) (no k) =
-        well-tested t (omega arith) (omega arith) ∙ ap (λ (b : ℕ). eqb (length t) (headerLength + 4 * samplesIn t) && eqb b 0) e ∙ and-false (eqb (length t) (headerLength + 4 * samplesIn t))
+        well-tested t (omega arith) (omega arith) ∙ ap (λ (b : ℕ). eqb (length t) (traceHeaderLength + 4 * samplesIn t) && eqb b 0) e ∙ and-false (eqb (length t) (traceHeaderLength + 4 * samplesIn t))
 
 either : (b : Bool) (x y : List ℕ) → colon x → colon y → colon (cond b x y)
 either true x y h k = h

@@ -8,32 +8,32 @@ use lib.Dec.{leb, eqb}
 use lib.ListN.{length}
 use borrow.Author.Tests.{le-leb, lt-leb, leb-true, eqb-true}
 use Rattle.laws.specs.Lists.{and-left, and-right}
-use Rattle.trace_text.specs.Trace.{byteAt}
-use Rattle.description.specs.Description.{headerLength, descriptionLimit, descriptionEnd, wellDescribed}
+use Rattle.image.specs.Load.{byteAt}
+use Rattle.description.specs.Description.{descriptionHeaderLength, descriptionLimit, descriptionEnd, wellDescribed}
 
 module _ (t : List ℕ) where
-  pub well-short : length t < headerLength → wellDescribed t ≡ false
+  pub well-short : length t < descriptionHeaderLength → wellDescribed t ≡ false
   unfolding wellDescribed
-  well-short h = simp (lt-leb headerLength (length t) h)
+  well-short h = simp (lt-leb descriptionHeaderLength (length t) h)
 
   pub well-large : descriptionLimit < length t → wellDescribed t ≡ false
   unfolding wellDescribed
   well-large h =
-      let g : headerLength ≤ length t = omega arith in
-      simp (le-leb headerLength (length t) g, lt-leb (length t) descriptionLimit h)
+      let g : descriptionHeaderLength ≤ length t = omega arith in
+      simp (le-leb descriptionHeaderLength (length t) g, lt-leb (length t) descriptionLimit h)
 
-  module _ (h : headerLength ≤ length t) (k : length t ≤ descriptionLimit) where
+  module _ (h : descriptionHeaderLength ≤ length t) (k : length t ≤ descriptionLimit) where
     pub well-tested : wellDescribed t ≡ (eqb (length t) (descriptionEnd t) && eqb (byteAt t 5) 0)
     unfolding wellDescribed
-    well-tested = simp (le-leb headerLength (length t) h, le-leb (length t) descriptionLimit k)
+    well-tested = simp (le-leb descriptionHeaderLength (length t) h, le-leb (length t) descriptionLimit k)
 
   module _ (h : wellDescribed t ≡ true) where
-    lengths : (leb headerLength (length t) && leb (length t) descriptionLimit && eqb (length t) (descriptionEnd t)) ≡ true
+    lengths : (leb descriptionHeaderLength (length t) && leb (length t) descriptionLimit && eqb (length t) (descriptionEnd t)) ≡ true
     unfolding wellDescribed
     lengths = and-left _ (eqb (byteAt t 5) 0) h
 
     pub well-most : length t ≤ descriptionLimit
-    well-most = leb-true (length t) descriptionLimit (and-right (leb headerLength (length t)) _ (and-left _ _ lengths))
+    well-most = leb-true (length t) descriptionLimit (and-right (leb descriptionHeaderLength (length t)) _ (and-left _ _ lengths))
 
     pub well-long : length t ≡ descriptionEnd t
-    well-long = eqb-true (length t) (descriptionEnd t) (and-right (leb headerLength (length t) && leb (length t) descriptionLimit) _ lengths)
+    well-long = eqb-true (length t) (descriptionEnd t) (and-right (leb descriptionHeaderLength (length t) && leb (length t) descriptionLimit) _ lengths)

@@ -20,7 +20,7 @@ pub record Counted (t : List ℕ) (count n : ℕ) : Type 0 where
 
 -- where the trace of n symbols ends; 0 where it would be too long
 abbrev pub traceEnd : ℕ → ℕ
-traceEnd n = cond (leb (Trace.headerLength + 4 * n) traceLimit) (Trace.headerLength + 4 * n) 0
+traceEnd n = cond (leb (Trace.traceHeaderLength + 4 * n) traceLimit) (Trace.traceHeaderLength + 4 * n) 0
 
 -- a description with room for any trace
 pub record Describable (t out : List ℕ) : Type 0 where

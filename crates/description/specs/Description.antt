@@ -7,42 +7,43 @@ use lib.ListN.{length}
 use mir.Syntax.{w8, w16}
 use mir.Val.{toZ}
 use Rattle.block.specs.Block.{values}
-use Rattle.trace_text.specs.Trace.{byteAt, number16, number32, settingsIn}
+use Rattle.image.specs.Load.{byteAt}
+use Rattle.trace_text.specs.Trace.{unsigned16, unsigned32, settingsIn}
 use Rattle.cable_trace.specs.Cable.{Cable, traceLength, cableTrace, cause, cableNumber}
 use Rattle.description.specs.Texts.{text}
 
 -- bytes of a header, and the most of a description
-abbrev pub headerLength : ℕ
-headerLength = 20
+abbrev pub descriptionHeaderLength : ℕ
+descriptionHeaderLength = 20
 
 abbrev pub descriptionLimit : ℕ
 descriptionLimit = 65536
 
 -- p, q, N, r, L, a 0 byte, the values of the response, M, the symbols, and how many of these are training entries
 abbrev pub responseIn : List ℕ → ℕ
-responseIn t = number16 t 6
+responseIn t = unsigned16 t 6
 
 abbrev pub symbolsIn : List ℕ → ℕ
-symbolsIn t = number32 t 12
+symbolsIn t = unsigned32 t 12
 
 abbrev pub trainingIn : List ℕ → ℕ
-trainingIn t = number32 t 16
+trainingIn t = unsigned32 t 16
 
 -- where the symbols begin, and where the description ends
 abbrev pub symbolsPlace : List ℕ → ℕ
-symbolsPlace t = headerLength + 2 * responseIn t
+symbolsPlace t = descriptionHeaderLength + 2 * responseIn t
 
 abbrev pub descriptionEnd : List ℕ → ℕ
 descriptionEnd t = symbolsPlace t + symbolsIn t
 
 -- 8: the length is wrong or too large, or byte 5 is not 0
 unfoldable pub wellDescribed : List ℕ → Bool
-wellDescribed t = leb headerLength (length t) && leb (length t) descriptionLimit && eqb (length t) (descriptionEnd t) && eqb (byteAt t 5) 0
+wellDescribed t = leb descriptionHeaderLength (length t) && leb (length t) descriptionLimit && eqb (length t) (descriptionEnd t) && eqb (byteAt t 5) 0
 
 unfoldable pub cableIn : List ℕ → Cable
 cableIn t = record {
   settings = settingsIn t;
-  response = values (λ i. toZ w16 (number16 t (headerLength + 2 * i))) (responseIn t);
+  response = values (λ i. toZ w16 (unsigned16 t (descriptionHeaderLength + 2 * i))) (responseIn t);
   symbols = values (λ i. toZ w8 (byteAt t (symbolsPlace t + i))) (symbolsIn t);
   training = trainingIn t;
 }

@@ -1,5 +1,4 @@
 pub mod Texts
 pub mod Description
 pub mod Calls
-pub mod Answers
 pub mod Piped

@@ -1,6 +1,6 @@
 // What the program `cable` writes for a description.
-ghost use Rattle.description.specs.Answers.{Described};
-use trace_text::Written;
+ghost use Rattle.trace_text.specs.TextFront.{TextFront};
+ghost use Rattle.description.specs.Description.{described};
 use trace_text::limits::TRACE;
 
 pub mod limits;
@@ -8,24 +8,12 @@ pub mod line;
 pub mod read;
 pub mod write;
 
-// The trace of a description, or the line of a refusal, at the front of lent bytes that have room for any trace.
-pub fn described(t: &[u8], out: &mut [u8]) -> Written
-    ensures { λ r. ⌜ Described (now (t .entry)) (now (out .entry)) r (now (out .exit)) ⌝ }
+// The trace of a description, or the line of a refusal, at the front of lent bytes. Answers its length.
+pub fn described(t: &[u8], out: &mut [u8; TRACE]) -> usize
+    ensures { λ r. ⌜ TextFront (described (now (t .entry))) (now (out .entry)) r (now (out .exit)) ⌝ }
 {
-    if out.len() < TRACE {
-        return Written {
-            fits: false,
-            length: 0,
-        };
-    }
     if !read::well_described(t) {
-        return Written {
-            fits: true,
-            length: line::malformed(out),
-        };
+        return line::malformed(out);
     }
-    Written {
-        fits: true,
-        length: write::write(t, out),
-    }
+    write::write(t, out)
 }

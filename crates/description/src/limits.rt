@@ -1,7 +1,7 @@
 // The lengths of a description, in bytes.
 
 // What stands before the response.
-pub const HEADER: usize = 20;
+pub const DESCRIPTION_HEADER: usize = 20;
 
 // The longest description.
 pub const DESCRIPTION: usize = 65536;

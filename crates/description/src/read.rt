@@ -5,62 +5,63 @@ ghost use lib.ListN.{length};
 ghost use mir.Syntax.{w8, w16};
 ghost use mir.Val.{toZ};
 ghost use Rattle.block.specs.Block.{values};
-ghost use Rattle.trace_text.specs.Trace.{byteAt, number16, number32};
-ghost use Rattle.description.specs.Description.{headerLength, responseIn, symbolsIn, trainingIn, wellDescribed};
+ghost use Rattle.image.specs.Load.{byteAt};
+ghost use Rattle.trace_text.specs.Trace.{unsigned16, unsigned32};
+ghost use Rattle.description.specs.Description.{descriptionHeaderLength, responseIn, symbolsIn, trainingIn, wellDescribed};
 use super::limits::DESCRIPTION;
-use super::limits::HEADER;
+use super::limits::DESCRIPTION_HEADER;
 
 // How many values the response has, how many symbols there are, and how many of these are training entries.
 pub fn response_count(t: &[u8]) -> usize
-    requires { ⌜ headerLength ≤ length (now t) ⌝ }
+    requires { ⌜ descriptionHeaderLength ≤ length (now t) ⌝ }
     ensures { λ r. ⌜ r ≡ responseIn (now (t .entry)) ⌝ }
 {
-    image::bytes::number16(t[6], t[7]) as usize
+    image::bytes::unsigned16(t[6], t[7]) as usize
 }
 
 pub fn symbol_count(t: &[u8]) -> usize
-    requires { ⌜ headerLength ≤ length (now t) ⌝ }
+    requires { ⌜ descriptionHeaderLength ≤ length (now t) ⌝ }
     ensures { λ r. ⌜ r ≡ symbolsIn (now (t .entry)) ⌝ }
 {
-    image::bytes::number32(t[12], t[13], t[14], t[15]) as usize
+    image::bytes::unsigned32(t[12], t[13], t[14], t[15]) as usize
 }
 
 pub fn training_count(t: &[u8]) -> usize
-    requires { ⌜ headerLength ≤ length (now t) ⌝ }
+    requires { ⌜ descriptionHeaderLength ≤ length (now t) ⌝ }
     ensures { λ r. ⌜ r ≡ trainingIn (now (t .entry)) ⌝ }
 {
-    image::bytes::number32(t[16], t[17], t[18], t[19]) as usize
+    image::bytes::unsigned32(t[16], t[17], t[18], t[19]) as usize
 }
 
 // M.
 pub fn step(t: &[u8]) -> u32
-    requires { ⌜ headerLength ≤ length (now t) ⌝ }
-    ensures { λ r. ⌜ r ≡ number32 (now (t .entry)) 8 ⌝ }
+    requires { ⌜ descriptionHeaderLength ≤ length (now t) ⌝ }
+    ensures { λ r. ⌜ r ≡ unsigned32 (now (t .entry)) 8 ⌝ }
 {
-    image::bytes::number32(t[8], t[9], t[10], t[11])
+    image::bytes::unsigned32(t[8], t[9], t[10], t[11])
 }
 
 // Whether the length is right and byte 5 is 0.
 pub fn well_described(t: &[u8]) -> bool
     ensures { λ r. ⌜ r ≡ wellDescribed (now (t .entry)) ⌝ }
 {
-    if t.len() < HEADER {
+    if t.len() < DESCRIPTION_HEADER {
         false
     } else if DESCRIPTION < t.len() {
         false
     } else {
-        t.len() == HEADER + 2 * response_count(t) + symbol_count(t) && t[5] == 0
+        t.len() == DESCRIPTION_HEADER + 2 * response_count(t) + symbol_count(t) && t[5] == 0
     }
 }
 
 // The values of the response.
 pub fn response(t: &[u8], out: &mut [i16])
-    requires { ⌜ headerLength + 2 * length (now out) ≤ length (now t) ⌝ }
-    ensures { λ _. ⌜ now (out .exit) ≡ values (λ i. toZ w16 (number16 (now (t .entry)) (headerLength + 2 * i))) (length (now (out .entry))) ⌝ }
+    requires { ⌜ descriptionHeaderLength + 2 * length (now out) ≤ length (now t) ⌝ }
+    ensures { λ _. ⌜ now (out .exit) ≡ values (λ i. toZ w16 (unsigned16 (now (t .entry)) (descriptionHeaderLength + 2 * i))) (length (now (out .entry))) ⌝ }
 {
     let mut i: usize = 0;
     while i < out.len() {
-        let at = HEADER + 2 * i;
+        let at = DESCRIPTION_HEADER + 2 * i;
         out[i] = image::bytes::signed16(t[at], t[at + 1]);
         i += 1;
     }

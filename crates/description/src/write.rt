@@ -3,7 +3,7 @@ ghost use mathlib.Core.Path.{_≡_};
 ghost use mathlib.Core.Bool.{true};
 ghost use Prim.Native.Nat.{_≤_};
 ghost use lib.ListN.{length, take};
-ghost use Rattle.trace_text.specs.TextAt.{TextAt};
+ghost use Rattle.trace_text.specs.Calls.{TextAt};
 ghost use Rattle.cable_trace.specs.Answers.{Simulation};
 ghost use Rattle.description.specs.Description.{descriptionLimit, responseIn, symbolsIn, wellDescribed, cableIn, cableOutput};
 ghost use Rattle.description.specs.Calls.{responseRoom, traceEnd, Counted, Describable};
@@ -11,8 +11,8 @@ use super::limits::DESCRIPTION;
 use super::limits::RESPONSE;
 use super::read;
 use cable_trace::Simulated;
-use trace_text::limits::HEADER;
 use trace_text::limits::TRACE;
+use trace_text::limits::TRACE_HEADER;
 
 fn response_room() -> [i16; RESPONSE]
     ensures { λ r. ⌜ length r ≡ responseRoom ⌝ }
@@ -76,7 +76,7 @@ fn trace_end(n: usize) -> usize
     requires { ⌜ n ≤ descriptionLimit ⌝ }
     ensures { λ r. ⌜ r ≡ traceEnd n ⌝ }
 {
-    let end = HEADER + 4 * n;
+    let end = TRACE_HEADER + 4 * n;
     if end <= TRACE { end } else { 0 }
 }
 

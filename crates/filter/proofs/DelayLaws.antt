@@ -16,20 +16,20 @@ use Rattle.laws.specs.Sums.{Each, each-weaken}
 use Rattle.numbers.specs.BitLength.{bitLength}
 use Rattle.numbers.proofs.BitLengthLaws.{bit-length-le, bit-length-lt, bit-length-mono}
 use Rattle.steps.specs.Settings.{isEntry}
-use Rattle.steps.specs.Side.{longest, largest, magnitudes}
-use Rattle.steps.proofs.LargestLaws.{largest-magnitude, longest-is, magnitude-at}
+use Rattle.steps.specs.Fir.{largestBits, largest, magnitudes}
+use Rattle.steps.proofs.LargestLaws.{largest-magnitude, largest-bits-is, magnitude-at}
 use Rattle.steps.proofs.SymbolLaws.{entry-below}
-use Rattle.filter.specs.Calls.{LongestAt, nextDelay, SymbolBounds}
+use Rattle.filter.specs.Calls.{LargestBitsAt, nextDelay, SymbolBounds}
 
 -- a symbol of bit length r + 1 has the largest
-pub reached : {r delay : ℕ} {l : List ℤ} → SymbolBounds r delay l → delay < length l → r + 1 ≡ longest l
+pub reached : {r delay : ℕ} {l : List ℤ} → SymbolBounds r delay l → delay < length l → r + 1 ≡ largestBits l
 reached {r} {delay} {l} p h =
     omega (
       arith,
-      longest-is l,
+      largest-bits-is l,
       bit-length-le (largest (magnitudes l)) (r + 1) (largest-magnitude (λ (n : ℕ). n < 2 ^ (r + 1)) (positive (r + 1)) l below),
       bit-length-mono (magnitude-at l delay),
-      p .longest-at h,
+      p .largest-bits-at h,
     )
   where
     below : Each (λ (x : ℤ). natAbs x < 2 ^ (r + 1)) l
@@ -52,14 +52,14 @@ next-delay-most r delay v = go (ltb r (bitLength (natAbs v)))
     go true = omega arith
     go false = omega arith
 
-pub next-longest-at : (r delay : ℕ) (v : ℤ) (l : List ℤ) → LongestAt r delay l → LongestAt r (nextDelay r delay v) (v ∷ l)
+pub next-largest-bits-at : (r delay : ℕ) (v : ℤ) (l : List ℤ) → LargestBitsAt r delay l → LargestBitsAt r (nextDelay r delay v) (v ∷ l)
 unfolding nextDelay
-next-longest-at r delay v l p = go (ltb r (bitLength (natAbs v))) refl
+next-largest-bits-at r delay v l p = go (ltb r (bitLength (natAbs v))) refl
   where
-    go : (b : Bool) → ltb r (bitLength (natAbs v)) ≡ b → LongestAt r (cond b 0 (delay + 1)) (v ∷ l)
+    go : (b : Bool) → ltb r (bitLength (natAbs v)) ≡ b → LargestBitsAt r (cond b 0 (delay + 1)) (v ∷ l)
     go true e = λ h. ltb-true r (bitLength (natAbs v)) e
     go false e = rw (add-one delay) (λ h. p (omega arith))
 
 -- the first of them
-pub longest-at-take : (r delay q : ℕ) (l : List ℤ) → LongestAt r delay l → LongestAt r delay (take q l)
-longest-at-take r delay q l p h = rw (getD-take q l delay (pos 0) (omega (arith, length-take q l))) (p (omega (arith, length-take q l)))
+pub largest-bits-at-take : (r delay q : ℕ) (l : List ℤ) → LargestBitsAt r delay l → LargestBitsAt r delay (take q l)
+largest-bits-at-take r delay q l p h = rw (getD-take q l delay (pos 0) (omega (arith, length-take q l))) (p (omega (arith, length-take q l)))

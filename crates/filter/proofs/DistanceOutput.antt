@@ -73,17 +73,17 @@ max-below a b = go (decLe a b)
     go (no l) = omega (arith, same (max a b) a (max-eq-left (le-of-lt (lt-of-not-le l))), positive b)
 
 -- |y − y*| < 2^(ξ−30)
-pub output-distance : (F H : ℤ) (ψ g ν : ℕ) →
-    natAbs (raise (output F H g ν) (outputExponent ψ g ν + 30) -ℤ raise (raise F g +ℤ raise H (ν + 30)) ψ) < 2 ^ (outputExponent ψ g ν + 30)
-output-distance F H ψ g ν =
-    rw (output-form F H g ν)
-    (subst (λ (u : ℕ). natAbs ((cut F (ν + 30 - g) +ℤ cut H (g - (ν + 30))) *ℤ pos u -ℤ raise (raise F g +ℤ raise H (ν + 30)) ψ) < u)
-    (sym (split (outputExponent ψ g ν + 30) ψ (max g (ν + 30)) (output-exponent-form ψ g ν)))
-    (output-core F H (cut F (ν + 30 - g)) (cut H (g - (ν + 30))) (2 ^ g) (2 ^ (ν + 30)) (2 ^ (ν + 30 - g)) (2 ^ (g - (ν + 30))) (2 ^ ψ) (2 ^ max g (ν + 30))
-    (cut-error F (ν + 30 - g)) (cut-error H (g - (ν + 30)))
-    (split (max g (ν + 30)) (ν + 30 - g) g (omega arith))
-    (split (max g (ν + 30)) (g - (ν + 30)) (ν + 30) (omega arith))
-    (max-below g (ν + 30)) (positive ψ)))
+pub output-distance : (F H : ℤ) (ψ Γ ν : ℕ) →
+    natAbs (raise (output F H Γ ν) (outputExponent ψ Γ ν + 30) -ℤ raise (raise F Γ +ℤ raise H (ν + 30)) ψ) < 2 ^ (outputExponent ψ Γ ν + 30)
+output-distance F H ψ Γ ν =
+    rw (output-form F H Γ ν)
+    (subst (λ (u : ℕ). natAbs ((cut F (ν + 30 - Γ) +ℤ cut H (Γ - (ν + 30))) *ℤ pos u -ℤ raise (raise F Γ +ℤ raise H (ν + 30)) ψ) < u)
+    (sym (split (outputExponent ψ Γ ν + 30) ψ (max Γ (ν + 30)) (output-exponent-form ψ Γ ν)))
+    (output-core F H (cut F (ν + 30 - Γ)) (cut H (Γ - (ν + 30))) (2 ^ Γ) (2 ^ (ν + 30)) (2 ^ (ν + 30 - Γ)) (2 ^ (Γ - (ν + 30))) (2 ^ ψ) (2 ^ max Γ (ν + 30))
+    (cut-error F (ν + 30 - Γ)) (cut-error H (Γ - (ν + 30)))
+    (split (max Γ (ν + 30)) (ν + 30 - Γ) Γ (omega arith))
+    (split (max Γ (ν + 30)) (Γ - (ν + 30)) (ν + 30) (omega arith))
+    (max-below Γ (ν + 30)) (positive ψ)))
 
 -- Z and v − y*, where Y is less than one of its units off y
 pub error-distance : (v Y y : ℤ) (ξ κ : ℕ) → errorExponent ξ κ ≤ 30 → natAbs (raise Y (ξ + 30) -ℤ y) < 2 ^ (ξ + 30) →

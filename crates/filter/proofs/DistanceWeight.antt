@@ -11,10 +11,9 @@ use Rattle.laws.specs.Powers.{split, split3, rises}
 use Rattle.laws.specs.Ring.{ring, terms}
 use Rattle.numbers.specs.Cut.{cut, raise}
 use Rattle.numbers.proofs.CutLaws.{cut-error, raise-raise}
-use Rattle.steps.specs.Side.{adapted}
-use Rattle.filter.specs.Sample.{Outcome, keep, halve, double, settled, settledExponent}
-use Rattle.filter.specs.Exact.{Near, distance, unitExponent}
-use Rattle.steps.proofs.SideLaws.{halved-at, doubled-at}
+use Rattle.steps.specs.Fir.{adapted}
+use Rattle.filter.specs.Sample.{Outcome, keep, halve, double, normalised, normalisedExponent, Near, distance, unitExponent}
+use Rattle.steps.proofs.FirLaws.{halved-at, doubled-at}
 use Rattle.filter.proofs.OutcomeLaws.{Says}
 
 -- ---- over plain letters
@@ -100,7 +99,7 @@ weight-units w c J a Z y M b s t x h cut-c cut-J off-Z e l m = omega (
 abbrev pub Close : ℕ → ℤ → ℤ → Type 0
 Close ψ w e = natAbs (raise w (120 + ψ) -ℤ e) ≤ (2 ^ 30 + 5 * 2 ^ 15) * 2 ^ (90 + ψ)
 
--- one weight of a side, where Z is less than one of its units off the exact error y
+-- one weight of a filter, where Z is less than one of its units off the exact error y
 pub weight-distance : (w a Z y : ℤ) (M ψ θ s x t : ℕ) → t + (x + θ) ≡ 60 + ψ + s → natAbs a * 2 ^ s < 2 ^ 15 →
     natAbs (raise Z (θ + 30) -ℤ y) < 2 ^ (θ + 30) → M * (2 ^ x * 2 ^ θ) ≤ 2 ^ 62 * (2 ^ ψ * 2 ^ s) →
     Close ψ (adapted (raise (cut (pos M *ℤ Z) t) s) w a) (raise w (120 + ψ) +ℤ pos M *ℤ raise a x *ℤ y)
@@ -149,8 +148,8 @@ doubling w e ψ l h =
     rw (raise-raise w 1 (120 + (ψ - 1)) (120 + ψ) (omega arith))
     (omega (arith, split (120 + ψ) 30 (90 + ψ) (omega arith), rises {a = 120 + ψ} {b = 120 + unitExponent double ψ} (omega arith)))
 
-pub settled-near : (s : Outcome) (f b : List ℤ) (l : List ℤ) (n ψ : ℕ) (e : ℤ) → Says s ψ f b → Close ψ (getD l n (pos 0)) e →
-    Near (unitExponent s ψ) (settledExponent s ψ) (getD (settled s l) n (pos 0)) e
-settled-near keep f b l n ψ e c h = omega (arith, split (120 + ψ) 30 (90 + ψ) (omega arith))
-settled-near halve f b l n ψ e c h = subst (λ (w : ℤ). Near (suc ψ) (suc ψ) w e) (sym (halved-at l n)) (halving (getD l n (pos 0)) e ψ h)
-settled-near double f b l n ψ e c h = subst (λ (w : ℤ). Near (unitExponent double ψ) (ψ - 1) w e) (sym (doubled-at l n)) (doubling (getD l n (pos 0)) e ψ (c .0) h)
+pub normalised-near : (s : Outcome) (f b : List ℤ) (l : List ℤ) (n ψ : ℕ) (e : ℤ) → Says s ψ f b → Close ψ (getD l n (pos 0)) e →
+    Near (unitExponent s ψ) (normalisedExponent s ψ) (getD (normalised s l) n (pos 0)) e
+normalised-near keep f b l n ψ e c h = omega (arith, split (120 + ψ) 30 (90 + ψ) (omega arith))
+normalised-near halve f b l n ψ e c h = subst (λ (w : ℤ). Near (suc ψ) (suc ψ) w e) (sym (halved-at l n)) (halving (getD l n (pos 0)) e ψ h)
+normalised-near double f b l n ψ e c h = subst (λ (w : ℤ). Near (unitExponent double ψ) (ψ - 1) w e) (sym (doubled-at l n)) (doubling (getD l n (pos 0)) e ψ (c .0) h)

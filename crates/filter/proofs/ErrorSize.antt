@@ -14,27 +14,27 @@ use Rattle.steps.specs.Output.{output, outputExponent}
 use Rattle.steps.specs.Error.{error, errorExponent}
 use Rattle.steps.proofs.OutputLaws.{output-form, output-exponent-form, error-form, error-exponent-form}
 
--- a number cut by d places, at the scale that is d higher
+-- a number cut by d bits, at the scale that is d higher
 cut-up : (z : ℤ) (d a c : ℕ) → c ≡ d + a → natAbs (cut z d) * 2 ^ c ≤ natAbs z * 2 ^ a
 cut-up z d a c e = omega (arith, mul-le-mul-right (2 ^ a) (cut-scaled z d), ap (λ (n : ℕ). natAbs (cut z d) * n) (split c d a e))
 
 -- ---- the output
 
-output-parts : (F H : ℤ) (g ν : ℕ) → natAbs (output F H g ν) ≤ natAbs (cut F (ν + 30 - g)) + natAbs (cut H (g - (ν + 30)))
-output-parts F H g ν = rw (output-form F H g ν) (abs-add (cut F (ν + 30 - g)) (cut H (g - (ν + 30))))
+output-parts : (F H : ℤ) (Γ ν : ℕ) → natAbs (output F H Γ ν) ≤ natAbs (cut F (ν + 30 - Γ)) + natAbs (cut H (Γ - (ν + 30)))
+output-parts F H Γ ν = rw (output-form F H Γ ν) (abs-add (cut F (ν + 30 - Γ)) (cut H (Γ - (ν + 30))))
 
 -- a cut never grows a magnitude
-pub output-small : (F H : ℤ) (g ν : ℕ) → natAbs (output F H g ν) ≤ natAbs F + natAbs H
-output-small F H g ν = omega (arith, output-parts F H g ν, cut-le F (ν + 30 - g), cut-le H (g - (ν + 30)))
+pub output-small : (F H : ℤ) (Γ ν : ℕ) → natAbs (output F H Γ ν) ≤ natAbs F + natAbs H
+output-small F H Γ ν = omega (arith, output-parts F H Γ ν, cut-le F (ν + 30 - Γ), cut-le H (Γ - (ν + 30)))
 
 -- |Y|·2^(ξ+30) ≤ 2^ψ·(|F|·2^g + |H|·2^(ν+30))
-pub output-scaled : (F H : ℤ) (ψ g ν : ℕ) →
-    natAbs (output F H g ν) * 2 ^ (outputExponent ψ g ν + 30) ≤ 2 ^ ψ * (natAbs F * 2 ^ g + natAbs H * 2 ^ (ν + 30))
-output-scaled F H ψ g ν = joined (natAbs (cut F (ν + 30 - g))) (natAbs (cut H (g - (ν + 30)))) (2 ^ ψ) (2 ^ max g (ν + 30))
-    (output-parts F H g ν)
-    (cut-up F (ν + 30 - g) g (max g (ν + 30)) (sym (sub-add-eq-max (ν + 30) g ∙ max-comm (ν + 30) g)))
-    (cut-up H (g - (ν + 30)) (ν + 30) (max g (ν + 30)) (sym (sub-add-eq-max g (ν + 30))))
-    (split (outputExponent ψ g ν + 30) ψ (max g (ν + 30)) (output-exponent-form ψ g ν))
+pub output-scaled : (F H : ℤ) (ψ Γ ν : ℕ) →
+    natAbs (output F H Γ ν) * 2 ^ (outputExponent ψ Γ ν + 30) ≤ 2 ^ ψ * (natAbs F * 2 ^ Γ + natAbs H * 2 ^ (ν + 30))
+output-scaled F H ψ Γ ν = joined (natAbs (cut F (ν + 30 - Γ))) (natAbs (cut H (Γ - (ν + 30)))) (2 ^ ψ) (2 ^ max Γ (ν + 30))
+    (output-parts F H Γ ν)
+    (cut-up F (ν + 30 - Γ) Γ (max Γ (ν + 30)) (sym (sub-add-eq-max (ν + 30) Γ ∙ max-comm (ν + 30) Γ)))
+    (cut-up H (Γ - (ν + 30)) (ν + 30) (max Γ (ν + 30)) (sym (sub-add-eq-max Γ (ν + 30))))
+    (split (outputExponent ψ Γ ν + 30) ψ (max Γ (ν + 30)) (output-exponent-form ψ Γ ν))
   where
     joined : {y f h e : ℕ} (a b p c : ℕ) → y ≤ a + b → a * c ≤ f → b * c ≤ h → e ≡ p * c → y * e ≤ p * (f + h)
     joined {y = y} a b p c l m n e = omega (arith, mul-le-mul-right (p * c) l, mul-le-mul-left p m, mul-le-mul-left p n, ap (λ (x : ℕ). y * x) e)

@@ -1,13 +1,13 @@
 pub mod SampleForms
-pub mod SideBounds
+pub mod FirBounds
 pub mod OutcomeLaws
 pub mod ErrorSize
 pub mod StepAdmission
-pub mod SampleSides
+pub mod SampleFirs
 pub mod SampleBounds
 pub mod DistanceOutput
 pub mod DistanceWeight
-pub mod DistanceSide
+pub mod DistanceFir
 pub mod Distance
 pub mod SampleLaws
 pub mod DelayLaws

@@ -6,52 +6,52 @@ use lib.ListN.{length}
 use lib.IntN.{ℤ}
 use Rattle.steps.specs.Limits.{exponentLimit}
 use Rattle.steps.specs.Settings.{Settings, isEntry}
-use Rattle.steps.specs.Side.{push}
-use Rattle.steps.proofs.SideLaws.{adapt-length, push-length, push-each}
+use Rattle.steps.specs.Fir.{push}
+use Rattle.steps.proofs.FirLaws.{adapt-length, push-length, push-each}
 use Rattle.steps.proofs.SymbolLaws.{symbol-entry}
-use Rattle.filter.specs.Sample.{Taps, v, outcome, settled, settledExponent, newForward, newBack, next}
+use Rattle.filter.specs.Sample.{FilterState, v, outcome, normalised, normalisedExponent, newForward, newBack, next}
 use Rattle.filter.specs.Sound.{Fit}
-use Rattle.filter.proofs.SampleSides.{v-symbol}
+use Rattle.filter.proofs.SampleFirs.{v-symbol}
 use Rattle.filter.proofs.SampleBounds.{bounded}
-use Rattle.filter.proofs.OutcomeLaws.{settled-length}
+use Rattle.filter.proofs.OutcomeLaws.{normalised-length}
 
-module _ (k : Settings) (g : ℕ) (t : Taps) (entry : ℤ) where
-  pub next-forward : next k g t entry .forward ≡ settled (outcome k g t entry) (newForward k g t entry)
+module _ (k : Settings) (Γ : ℕ) (t : FilterState) (entry : ℤ) where
+  pub next-forward : next k Γ t entry .forward ≡ normalised (outcome k Γ t entry) (newForward k Γ t entry)
   unfolding next
   next-forward = refl
 
-  pub next-back : next k g t entry .back ≡ settled (outcome k g t entry) (newBack k g t entry)
+  pub next-back : next k Γ t entry .back ≡ normalised (outcome k Γ t entry) (newBack k Γ t entry)
   unfolding next
   next-back = refl
 
-  pub next-samples : next k g t entry .samples ≡ t .samples
+  pub next-samples : next k Γ t entry .samples ≡ t .samples
   unfolding next
   next-samples = refl
 
-  pub next-symbols : next k g t entry .symbols ≡ push (v k g t entry) (t .symbols)
+  pub next-symbols : next k Γ t entry .symbols ≡ push (v k Γ t entry) (t .symbols)
   unfolding next
   next-symbols = refl
 
-  pub next-ψ : next k g t entry .ψ ≡ settledExponent (outcome k g t entry) (t .ψ)
+  pub next-ψ : next k Γ t entry .ψ ≡ normalisedExponent (outcome k Γ t entry) (t .ψ)
   unfolding next
   next-ψ = refl
 
   -- ---- each list is as long as it was
 
-  pub next-forward-length : length (next k g t entry .forward) ≡ length (t .forward)
+  pub next-forward-length : length (next k Γ t entry .forward) ≡ length (t .forward)
   unfolding newForward
-  next-forward-length = ap length next-forward ∙ settled-length (outcome k g t entry) (newForward k g t entry) ∙ adapt-length _ (t .forward) _
+  next-forward-length = ap length next-forward ∙ normalised-length (outcome k Γ t entry) (newForward k Γ t entry) ∙ adapt-length _ (t .forward) _
 
-  pub next-back-length : length (next k g t entry .back) ≡ length (t .back)
+  pub next-back-length : length (next k Γ t entry .back) ≡ length (t .back)
   unfolding newBack
-  next-back-length = ap length next-back ∙ settled-length (outcome k g t entry) (newBack k g t entry) ∙ adapt-length _ (t .back) _
+  next-back-length = ap length next-back ∙ normalised-length (outcome k Γ t entry) (newBack k Γ t entry) ∙ adapt-length _ (t .back) _
 
-  pub next-symbols-length : length (next k g t entry .symbols) ≡ length (t .symbols)
-  next-symbols-length = ap length next-symbols ∙ push-length (v k g t entry) (t .symbols)
+  pub next-symbols-length : length (next k Γ t entry .symbols) ≡ length (t .symbols)
+  next-symbols-length = ap length next-symbols ∙ push-length (v k Γ t entry) (t .symbols)
 
   -- ---- it is sound while ψ keeps its limit
 
-  pub next-fit : Fit k g t → isEntry (k .r) entry ≡ true → next k g t entry .ψ ≤ exponentLimit → Fit k g (next k g t entry)
+  pub next-fit : Fit k Γ t → isEntry (k .r) entry ≡ true → next k Γ t entry .ψ ≤ exponentLimit → Fit k Γ (next k Γ t entry)
   next-fit f h l = record {
     within = f .within;
     admitted = f .admitted;
@@ -59,13 +59,13 @@ module _ (k : Settings) (g : ℕ) (t : Taps) (entry : ℤ) where
     back-long = next-back-length ∙ f .back-long;
     samples-long = ap length next-samples ∙ f .samples-long;
     symbols-long = next-symbols-length ∙ f .symbols-long;
-    forward-small = bounded k g t entry f h .next-forward;
-    back-small = bounded k g t entry f h .next-back;
+    forward-small = bounded k Γ t entry f h .next-forward;
+    back-small = bounded k Γ t entry f h .next-back;
     samples-small = rw next-samples (f .samples-small);
     symbols-are =
         rw next-symbols
-        (push-each (λ (z : ℤ). isEntry (k .r) z ≡ true) (v k g t entry) (t .symbols) (symbol-entry (k .r) (v k g t entry) (v-symbol k g t entry f h)) (f .symbols-are));
+        (push-each (λ (z : ℤ). isEntry (k .r) z ≡ true) (v k Γ t entry) (t .symbols) (symbol-entry (k .r) (v k Γ t entry) (v-symbol k Γ t entry f h)) (f .symbols-are));
     ψ-most = l;
-    g-least = f .g-least;
-    g-most = f .g-most;
+    Γ-least = f .Γ-least;
+    Γ-most = f .Γ-most;
   }

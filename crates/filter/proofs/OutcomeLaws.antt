@@ -14,10 +14,9 @@ use Rattle.numbers.specs.Cut.{cut, raise}
 use Rattle.numbers.proofs.CutLaws.{cut-lt, raise-abs, raise-raise}
 use Rattle.steps.specs.Limits.{exponentLimit, halvingLimit, doublingLimit}
 use Rattle.steps.specs.Settings.{Settings}
-use Rattle.steps.specs.Side.{Small, allBelow, allSmall, halved, doubled}
+use Rattle.steps.specs.Fir.{Small, allBelow, allSmall, halved, doubled}
 use Rattle.steps.proofs.LargestLaws.{all-below, below-all}
-use Rattle.filter.specs.Sample.{Taps, Outcome, keep, halve, double, canFall, outcomeOf, settled, settledExponent, newForward, newBack, outcome}
-use Rattle.filter.specs.Exact.{valuesOf, SameValues}
+use Rattle.filter.specs.Sample.{FilterState, Outcome, keep, halve, double, canFall, outcomeOf, normalised, normalisedExponent, newForward, newBack, outcome, valuesOf, SameValues}
 
 -- ---- what an outcome says of ψ and of the new weights
 
@@ -47,9 +46,9 @@ outcome-says ψ f b = go (allSmall f && allSmall b) refl (canFall ψ) refl (allB
     go true e true q false r = both halvingLimit e
     go true e false q d r = both halvingLimit e
 
-pub sample-says : (k : Settings) (g : ℕ) (t : Taps) (entry : ℤ) → Says (outcome k g t entry) (t .ψ) (newForward k g t entry) (newBack k g t entry)
+pub sample-says : (k : Settings) (Γ : ℕ) (t : FilterState) (entry : ℤ) → Says (outcome k Γ t entry) (t .ψ) (newForward k Γ t entry) (newBack k Γ t entry)
 unfolding outcome
-sample-says k g t entry = outcome-says (t .ψ) (newForward k g t entry) (newBack k g t entry)
+sample-says k Γ t entry = outcome-says (t .ψ) (newForward k Γ t entry) (newBack k Γ t entry)
 
 -- ---- the weights that are left are small
 
@@ -60,16 +59,16 @@ halved-small w h = each-map (λ (x : ℤ). natAbs x < 2 ^ 15) Small (λ (x : ℤ
 doubled-small : (w : List ℤ) → Each (λ (x : ℤ). natAbs x < doublingLimit) w → Each Small (doubled w)
 doubled-small w h = each-map (λ (x : ℤ). natAbs x < doublingLimit) Small (λ (x : ℤ). raise x 1) (λ x l. omega (arith, raise-abs x 1)) w h
 
-pub settled-small : (s : Outcome) (ψ : ℕ) (f b : List ℤ) → Says s ψ f b → Each (λ (x : ℤ). natAbs x < 2 ^ 15) f → Each (λ (x : ℤ). natAbs x < 2 ^ 15) b →
-    Each Small (settled s f) × Each Small (settled s b)
-settled-small keep ψ f b h g i = h
-settled-small halve ψ f b h g i = (halved-small f g, halved-small b i)
-settled-small double ψ f b h g i = (doubled-small f (h .1 .0), doubled-small b (h .1 .1))
+pub normalised-small : (s : Outcome) (ψ : ℕ) (f b : List ℤ) → Says s ψ f b → Each (λ (x : ℤ). natAbs x < 2 ^ 15) f → Each (λ (x : ℤ). natAbs x < 2 ^ 15) b →
+    Each Small (normalised s f) × Each Small (normalised s b)
+normalised-small keep ψ f b h Γ i = h
+normalised-small halve ψ f b h Γ i = (halved-small f Γ, halved-small b i)
+normalised-small double ψ f b h Γ i = (doubled-small f (h .1 .0), doubled-small b (h .1 .1))
 
-pub settled-length : (s : Outcome) (w : List ℤ) → length (settled s w) ≡ length w
-settled-length keep w = refl
-settled-length halve w = length-map w _
-settled-length double w = length-map w _
+pub normalised-length : (s : Outcome) (w : List ℤ) → length (normalised s w) ≡ length w
+normalised-length keep w = refl
+normalised-length halve w = length-map w _
+normalised-length double w = length-map w _
 
 -- ---- a doubled weight at the lower ψ means the same number
 
@@ -81,17 +80,17 @@ pub doubled-same : (ψ : ℕ) (f b : List ℤ) → 1 ≤ ψ → SameValues ψ f 
 doubled-same ψ f b h = record { ahead = doubled-values ψ f h; behind = doubled-values ψ b h }
 
 -- weights that are small already are kept or doubled
-pub small-same : (s : Outcome) (ψ : ℕ) (f b : List ℤ) → Says s ψ f b → Each Small f → Each Small b → SameValues ψ f b (settledExponent s ψ) (settled s f) (settled s b)
-small-same keep ψ f b h g i = record { ahead = refl; behind = refl }
-small-same halve ψ f b h g i = absurd (subst T (sym (ap₂ (λ (x y : Bool). x && y) (tests f g) (tests b i)) ∙ h) tt)
+pub small-same : (s : Outcome) (ψ : ℕ) (f b : List ℤ) → Says s ψ f b → Each Small f → Each Small b → SameValues ψ f b (normalisedExponent s ψ) (normalised s f) (normalised s b)
+small-same keep ψ f b h Γ i = record { ahead = refl; behind = refl }
+small-same halve ψ f b h Γ i = absurd (subst T (sym (ap₂ (λ (x y : Bool). x && y) (tests f Γ) (tests b i)) ∙ h) tt)
   where
     tests : (w : List ℤ) → Each Small w → allSmall w ≡ true
-    tests w g = below-all halvingLimit w g
-small-same double ψ f b h g i = doubled-same ψ f b (h .0)
+    tests w Γ = below-all halvingLimit w Γ
+small-same double ψ f b h Γ i = doubled-same ψ f b (h .0)
 
 -- ---- ψ passes its limit only by a halving from its limit
 
-pub passes : (s : Outcome) (ψ : ℕ) → ψ ≤ exponentLimit → exponentLimit < settledExponent s ψ → (s ≡ halve) × (ψ ≡ exponentLimit)
+pub passes : (s : Outcome) (ψ : ℕ) → ψ ≤ exponentLimit → exponentLimit < normalisedExponent s ψ → (s ≡ halve) × (ψ ≡ exponentLimit)
 passes keep ψ h l = absurd (omega arith)
 passes halve ψ h l = (refl, omega arith)
 passes double ψ h l = absurd (omega arith)

@@ -4,13 +4,13 @@ use Prim.Native.Nat.{ℕ, _+_, max}
 use lib.IntN.{ℤ}
 use Rattle.steps.specs.Settings.{Settings}
 use Rattle.steps.proofs.OutputLaws.{output-exponent-form, error-exponent-form}
-use Rattle.filter.specs.Sample.{Taps, ν, ξ, κ, θ}
+use Rattle.filter.specs.Sample.{FilterState, ν, ξ, κ, θ}
 
-module _ (k : Settings) (g : ℕ) (t : Taps) (entry : ℤ) where
-  pub ξ-form : ξ k g t entry + 30 ≡ t .ψ + max g (ν k g t entry + 30)
+module _ (k : Settings) (Γ : ℕ) (t : FilterState) (entry : ℤ) where
+  pub ξ-form : ξ k Γ t entry + 30 ≡ t .ψ + max Γ (ν k Γ t entry + 30)
   unfolding ξ
-  ξ-form = output-exponent-form (t .ψ) g (ν k g t entry)
+  ξ-form = output-exponent-form (t .ψ) Γ (ν k Γ t entry)
 
-  pub θ-form : θ k g t entry ≡ max (κ k g t entry) (ξ k g t entry)
+  pub θ-form : θ k Γ t entry ≡ max (κ k Γ t entry) (ξ k Γ t entry)
   unfolding θ
-  θ-form = error-exponent-form (ξ k g t entry) (κ k g t entry)
+  θ-form = error-exponent-form (ξ k Γ t entry) (κ k Γ t entry)

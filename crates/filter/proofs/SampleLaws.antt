@@ -12,16 +12,16 @@ use Rattle.steps.specs.Decision.{decide}
 use Rattle.steps.specs.Sound.{ErrorBounds}
 use Rattle.steps.proofs.SymbolLaws.{symbol-below, decide-symbol, chosen-symbol}
 use Rattle.steps.specs.Limits.{doublingLimit}
-use Rattle.steps.specs.Side.{allBelow, allSmall}
-use Rattle.filter.specs.Sample.{Taps, Outcome, keep, halve, double, canFall, outcomeOf, settled, settledExponent}
-use Rattle.filter.specs.Calls.{DecisionBounds, Settled-is, SampleResult-is, chosen, tapsOf}
+use Rattle.steps.specs.Fir.{allBelow, allSmall}
+use Rattle.filter.specs.Sample.{FilterState, Outcome, keep, halve, double, canFall, outcomeOf, normalised, normalisedExponent}
+use Rattle.filter.specs.Calls.{DecisionBounds, Normalised-is, SampleResult-is, chosen, filterStateOf}
 use Rattle.filter.specs.declared.sample.SampleResult.{SampleResult}
 
 -- ---- step 7
 
 -- the outcome s, from the tests that the code makes
-pub settled-as : (s : Outcome) {ψ ψ′ : ℕ} {f b f′ b′ : List ℤ} → outcomeOf ψ f b ≡ s → ψ′ ≡ settledExponent s ψ → f′ ≡ settled s f → b′ ≡ settled s b → Settled-is ψ f b ψ′ f′ b′
-settled-as s e h i j = record { exponent = rw e h; ahead = rw e i; behind = rw e j }
+pub normalised-as : (s : Outcome) {ψ ψ′ : ℕ} {f b f′ b′ : List ℤ} → outcomeOf ψ f b ≡ s → ψ′ ≡ normalisedExponent s ψ → f′ ≡ normalised s f → b′ ≡ normalised s b → Normalised-is ψ f b ψ′ f′ b′
+normalised-as s e h i j = record { exponent = rw e h; ahead = rw e i; behind = rw e j }
 
 module _ (ψ : ℕ) (f b : List ℤ) where
   pub halves : (allSmall f && allSmall b) ≡ false → outcomeOf ψ f b ≡ halve
@@ -60,8 +60,8 @@ error-bounds {r} {s} {ξ} {y} {entry} d = record {
 -- ---- steps 6 and 7
 
 -- what holds of the weights that were settled holds of weights equal to them
-pub settled-of : {ψ ψ′ : ℕ} {f b f₀ b₀ f′ b′ : List ℤ} → f ≡ f₀ → b ≡ b₀ → Settled-is ψ f b ψ′ f′ b′ → Settled-is ψ f₀ b₀ ψ′ f′ b′
-settled-of {ψ = ψ} {ψ′ = ψ′} {f′ = f′} {b′ = b′} e h s = subst₂ (λ (x y : List ℤ). Settled-is ψ x y ψ′ f′ b′) e h s
+pub normalised-of : {ψ ψ′ : ℕ} {f b f₀ b₀ f′ b′ : List ℤ} → f ≡ f₀ → b ≡ b₀ → Normalised-is ψ f b ψ′ f′ b′ → Normalised-is ψ f₀ b₀ ψ′ f′ b′
+normalised-of {ψ = ψ} {ψ′ = ψ′} {f′ = f′} {b′ = b′} e h s = subst₂ (λ (x y : List ℤ). Normalised-is ψ x y ψ′ f′ b′) e h s
 
 -- ---- the symbols, whose first place is for the new one
 
@@ -75,10 +75,10 @@ pub past-kept : (l : List ℤ) (v : ℤ) → take (length (set l 0 v) - 1) (drop
 past-kept l v = past (set l 0 v) ∙ drop-set-lt 1 l 0 v (omega arith)
 
 -- a step on equal windows, symbols and entries
-pub taken-of : {k : Settings} {g ψ : ℕ} {f b w w₀ y y₀ : List ℤ} {x x₀ : ℤ} {r : SampleResult} {f′ b′ y′ : List ℤ} → w ≡ w₀ → y ≡ y₀ → x ≡ x₀ →
-    SampleResult-is k g (tapsOf f b w y ψ) x r f′ b′ y′ → SampleResult-is k g (tapsOf f b w₀ y₀ ψ) x₀ r f′ b′ y′
+pub taken-of : {k : Settings} {Γ ψ : ℕ} {f b w w₀ y y₀ : List ℤ} {x x₀ : ℤ} {r : SampleResult} {f′ b′ y′ : List ℤ} → w ≡ w₀ → y ≡ y₀ → x ≡ x₀ →
+    SampleResult-is k Γ (filterStateOf f b w y ψ) x r f′ b′ y′ → SampleResult-is k Γ (filterStateOf f b w₀ y₀ ψ) x₀ r f′ b′ y′
 taken-of e d h t = rw (e, d, h) at t
 
 -- with equal symbols after it
-pub taken-put : {k : Settings} {g : ℕ} {t : Taps} {x : ℤ} {r : SampleResult} {f′ b′ y y′ : List ℤ} → y ≡ y′ → SampleResult-is k g t x r f′ b′ y → SampleResult-is k g t x r f′ b′ y′
-taken-put {k = k} {g = g} {t = t} {x = x} {r = r} {f′ = f′} {b′ = b′} e h = subst (λ (l : List ℤ). SampleResult-is k g t x r f′ b′ l) e h
+pub taken-put : {k : Settings} {Γ : ℕ} {t : FilterState} {x : ℤ} {r : SampleResult} {f′ b′ y y′ : List ℤ} → y ≡ y′ → SampleResult-is k Γ t x r f′ b′ y → SampleResult-is k Γ t x r f′ b′ y′
+taken-put {k = k} {Γ = Γ} {t = t} {x = x} {r = r} {f′ = f′} {b′ = b′} e h = subst (λ (l : List ℤ). SampleResult-is k Γ t x r f′ b′ l) e h

@@ -8,8 +8,9 @@ use Rattle.laws.specs.Integers.{abs-mul}
 use Rattle.laws.specs.Powers.{split, split3, below, cancel-le}
 use Rattle.numbers.proofs.CutLaws.{cut-scaled}
 use Rattle.steps.specs.Limits.{lengthLimit}
-use Rattle.steps.specs.Settings.{Settings, Admitted}
-use Rattle.steps.specs.Side.{Side, factor, factorPlaces}
+use Rattle.steps.specs.Settings.{Settings}
+use Rattle.steps.specs.Sound.{Admitted}
+use Rattle.steps.specs.Fir.{Fir, factor, factorShift}
 use Rattle.steps.proofs.Admission.{admission}
 
 -- ---- over letters: a is 2^r, l is 2^L, and Ψ, Θ, Ξ are the powers of ψ, θ, ξ
@@ -29,13 +30,13 @@ error-weighed z Θ v y Ξ Ψ f h l p q a e o fl hl vl one =
       mul-le-mul-right (2 ^ 61 * (a * l)) one,
     )
 
--- ---- J of a side
+-- ---- J of a filter
 
-pub factor-small : (k : Settings) (f : Side) (Z : ℤ) (ψ θ : ℕ) → Admitted k → f .exponent ≤ k .r + lengthLimit + f .scale → f .exponent + θ ≤ 60 + ψ + f .scale →
+pub factor-small : (k : Settings) (f : Fir) (Z : ℤ) (ψ θ : ℕ) → Admitted k → f .exponent ≤ k .r + lengthLimit + f .scale → f .exponent + θ ≤ 60 + ψ + f .scale →
     natAbs Z * 2 ^ θ * (2 ^ 30 * 2 ^ k .L) ≤ 2 ^ ψ * (2 ^ k .r * 2 ^ 58) * (8 * 2 ^ k .L + 4 * k .p + 4 * k .q * 2 ^ k .L) →
     natAbs (factor (k .M) Z ψ θ f) ≤ 2 ^ 29
-factor-small k f Z ψ θ d x h e = cancel-le (60 + ψ + f .scale) (core (natAbs (factor (k .M) Z ψ θ f)) (2 ^ factorPlaces ψ θ f)
-    (omega (arith, cut-scaled (pos (k .M) *ℤ Z) (factorPlaces ψ θ f), abs-mul (pos (k .M)) Z)) (admission k (f .exponent) (f .scale) ψ θ (natAbs Z) d x e)
+factor-small k f Z ψ θ d x h e = cancel-le (60 + ψ + f .scale) (core (natAbs (factor (k .M) Z ψ θ f)) (2 ^ factorShift ψ θ f)
+    (omega (arith, cut-scaled (pos (k .M) *ℤ Z) (factorShift ψ θ f), abs-mul (pos (k .M)) Z)) (admission k (f .exponent) (f .scale) ψ θ (natAbs Z) d x e)
     (below h) (split (f .exponent + θ) (f .exponent) θ refl) (split3 (60 + ψ + f .scale) 60 ψ (f .scale) (omega arith)))
   where
     core : {E P : ℕ} (j T : ℕ) → j * T ≤ k .M * natAbs Z → k .M * natAbs Z * (2 ^ f .exponent * 2 ^ θ) ≤ 2 ^ 89 * (2 ^ ψ * 2 ^ f .scale) →

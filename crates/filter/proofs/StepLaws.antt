@@ -10,55 +10,54 @@ use Rattle.numbers.specs.Cut.{raise}
 use Rattle.numbers.proofs.CutLaws.{raise-abs}
 use Rattle.steps.specs.Limits.{symbolLimit, outputExponentLimit}
 use Rattle.steps.specs.Settings.{Settings, scaleForward, scaleBack}
-use Rattle.steps.specs.Side.{Side}
-use Rattle.filter.specs.Sample.{Taps, ν, F, H, Y, ξ, decision, v, κ, Z, θ, J, forwardSide, backSide, newForward, newBack, outcome, next}
-use Rattle.steps.specs.Side.{longest}
+use Rattle.steps.specs.Fir.{Fir, largestBits}
+use Rattle.filter.specs.Sample.{FilterState, ν, F, H, Y, ξ, decision, v, κ, Z, θ, J, forwardFir, backFir, newForward, newBack, outcome, next}
 use Rattle.steps.specs.Sound.{Adaptable}
-use Rattle.filter.specs.Calls.{LongestAt, SymbolBounds, FilterBounds, Output-is, DecisionBounds, Decision-is, UpdateBounds, ChangeBounds, Changed-is, Ready, SampleResult-is, resultOf, updatedForward, updatedBack}
+use Rattle.filter.specs.Calls.{LargestBitsAt, SymbolBounds, FilterBounds, Output-is, DecisionBounds, Decision-is, UpdateBounds, ChangeBounds, Changed-is, Ready, SampleResult-is, resultOf, updatedForward, updatedBack}
 use Rattle.filter.specs.declared.sample.Output.{Output}
 use Rattle.filter.specs.declared.sample.Decision.{Decision}
 use Rattle.filter.specs.declared.sample.SampleResult.{SampleResult}
 use Rattle.steps.proofs.SymbolLaws.{symbol-below, decide-symbol}
 use Rattle.steps.proofs.DecisionLaws.{symbol-most}
-use Rattle.filter.proofs.SideBounds.{SideFit}
-use Rattle.filter.proofs.SampleSides as S
+use Rattle.filter.proofs.FirBounds.{FirFit}
+use Rattle.filter.proofs.SampleFirs as S
 use Rattle.filter.proofs.SampleBounds as B
-use Rattle.filter.proofs.SampleLaws.{settled-of}
+use Rattle.filter.proofs.SampleLaws.{normalised-of}
 
-module _ (k : Settings) (s sb g : ℕ) (t : Taps) (entry : ℤ) (r : Ready k s sb g t entry) where
+module _ (k : Settings) (s sb Γ : ℕ) (t : FilterState) (entry : ℤ) (r : Ready k s sb Γ t entry) where
   -- ---- steps 1 to 3
 
-  ν-of : sb + longest (t .symbols) ≡ ν k g t entry
+  ν-of : sb + largestBits (t .symbols) ≡ ν k Γ t entry
   unfolding ν
-  ν-of = ap (λ (n : ℕ). n + longest (t .symbols)) (r .back-scale)
+  ν-of = ap (λ (n : ℕ). n + largestBits (t .symbols)) (r .back-scale)
 
-  held : raise (dot (t .back) (t .symbols)) (15 - (sb + longest (t .symbols))) ≡ H k g t entry
-  held = ap (λ (n : ℕ). raise (dot (t .back) (t .symbols)) (15 - n)) ν-of ∙ sym (S.H-raised k g t entry (r .fit))
+  held : raise (dot (t .back) (t .symbols)) (15 - (sb + largestBits (t .symbols))) ≡ H k Γ t entry
+  held = ap (λ (n : ℕ). raise (dot (t .back) (t .symbols)) (15 - n)) ν-of ∙ sym (S.H-raised k Γ t entry (r .fit))
 
-  pub symbol-bounds : {delay : ℕ} → LongestAt (k .r) delay (t .symbols) → SymbolBounds (k .r) delay (t .symbols)
-  symbol-bounds h = record { r-most = r .fit .within .r-most; symbols-are = r .fit .symbols-are; longest-at = h }
+  pub symbol-bounds : {delay : ℕ} → LargestBitsAt (k .r) delay (t .symbols) → SymbolBounds (k .r) delay (t .symbols)
+  symbol-bounds h = record { r-most = r .fit .within .r-most; symbols-are = r .fit .symbols-are; largest-bits-at = h }
 
-  pub filter-bounds : FilterBounds sb g (t .ψ) (t .forward) (t .back) (t .samples) (t .symbols)
+  pub filter-bounds : FilterBounds sb Γ (t .ψ) (t .forward) (t .back) (t .samples) (t .symbols)
   unfolding F
   filter-bounds = record {
-    forward-sum = B.forward-summable k g t entry (r .fit);
-    back-sum = B.back-summable k g t entry (r .fit);
-    ν-most = rw ν-of (S.ν-most k g t entry (r .fit));
+    forward-sum = B.forward-summable k Γ t entry (r .fit);
+    back-sum = B.back-summable k Γ t entry (r .fit);
+    ν-most = rw ν-of (S.ν-most k Γ t entry (r .fit));
     output-bounds = rw ν-of (record {
-      f-small = B.F-small k g t entry (r .fit);
-      h-small = rw (← raise-abs, ← S.H-raised k g t entry (r .fit)) (B.H-small k g t entry (r .fit));
+      f-small = B.F-small k Γ t entry (r .fit);
+      h-small = rw (← raise-abs, ← S.H-raised k Γ t entry (r .fit)) (B.H-small k Γ t entry (r .fit));
       ψ-most = r .fit .ψ-most;
-      ν-most = S.ν-most k g t entry (r .fit);
-      g-most = omega (arith, r .fit .g-most, r .fit .within .r-most, S.scaleForward-most k g t entry (r .fit));
+      ν-most = S.ν-most k Γ t entry (r .fit);
+      Γ-most = omega (arith, r .fit .Γ-most, r .fit .within .r-most, S.scaleForward-most k Γ t entry (r .fit));
     });
   }
 
   pub record Output-as (h : Output) : Type 0 where
-    pub nu-as : h .nu ≡ ν k g t entry
-    pub y-as : h .y ≡ Y k g t entry
-    pub xi-as : h .xi ≡ ξ k g t entry
+    pub nu-as : h .nu ≡ ν k Γ t entry
+    pub y-as : h .y ≡ Y k Γ t entry
+    pub xi-as : h .xi ≡ ξ k Γ t entry
 
-  pub output-as : (h : Output) → Output-is sb g (t .ψ) (t .forward) (t .back) (t .samples) (t .symbols) h → Output-as h
+  pub output-as : (h : Output) → Output-is sb Γ (t .ψ) (t .forward) (t .back) (t .samples) (t .symbols) h → Output-as h
   unfolding Y ξ F
   output-as h p = record {
     nu-as = p .nu ∙ ν-of;
@@ -71,19 +70,19 @@ module _ (k : Settings) (s sb g : ℕ) (t : Taps) (entry : ℤ) (r : Ready k s s
   pub decision-bounds : (h : Output) → Output-as h → DecisionBounds (k .r) sb (h .y) (h .xi) entry
   decision-bounds h p = record {
     r-most = r .fit .within .r-most;
-    scale-least = rw (r .back-scale) (S.scaleBack-least k g t entry (r .fit));
-    scale-most = rw (r .back-scale) (S.scaleBack-most k g t entry (r .fit));
-    y-small = rw (p .y-as) (B.Y-small k g t entry (r .fit));
-    ξ-least = rw (p .xi-as) (S.ξ-least k g t entry (r .fit));
-    ξ-most = rw (p .xi-as) (omega (arith, S.ξ-most k g t entry (r .fit), r .fit .ψ-most));
+    scale-least = rw (r .back-scale) (S.scaleBack-least k Γ t entry (r .fit));
+    scale-most = rw (r .back-scale) (S.scaleBack-most k Γ t entry (r .fit));
+    y-small = rw (p .y-as) (B.Y-small k Γ t entry (r .fit));
+    ξ-least = rw (p .xi-as) (S.ξ-least k Γ t entry (r .fit));
+    ξ-most = rw (p .xi-as) (omega (arith, S.ξ-most k Γ t entry (r .fit), r .fit .ψ-most));
     entry-is = r .entry-is;
   }
 
   pub record Decision-as (j : Decision) : Type 0 where
-    pub decision-as : j .decision ≡ decision k g t entry
-    pub v-as : j .v ≡ v k g t entry
-    pub z-as : j .z ≡ Z k g t entry
-    pub theta-as : j .theta ≡ θ k g t entry
+    pub decision-as : j .decision ≡ decision k Γ t entry
+    pub v-as : j .v ≡ v k Γ t entry
+    pub z-as : j .z ≡ Z k Γ t entry
+    pub theta-as : j .theta ≡ θ k Γ t entry
 
   pub decision-as : (h : Output) (j : Decision) → Output-as h → Decision-is (k .r) sb (h .y) (h .xi) entry j → Decision-as j
   unfolding decision v κ Z θ
@@ -96,31 +95,31 @@ module _ (k : Settings) (s sb g : ℕ) (t : Taps) (entry : ℤ) (r : Ready k s s
 
   -- ---- steps 6 to 8
 
-  update-bounds : {n : ℕ} (f : Side) → SideFit (k .r) n f → (more : ℕ) → f .scale + more ≤ 15 → (w a : List ℤ) → Adaptable (J k g t entry f) (15 - (f .scale + more)) w a →
-      UpdateBounds (k .M) (Z k g t entry) (t .ψ) (θ k g t entry) (f .scale) (f .exponent) more w a
+  update-bounds : {n : ℕ} (f : Fir) → FirFit (k .r) n f → (more : ℕ) → f .scale + more ≤ 15 → (w a : List ℤ) → Adaptable (J k Γ t entry f) (15 - (f .scale + more)) w a →
+      UpdateBounds (k .M) (Z k Γ t entry) (t .ψ) (θ k Γ t entry) (f .scale) (f .exponent) more w a
   unfolding J
   update-bounds f fit more l w a h = record {
-    z-small = B.Z-small k g t entry (r .fit) (r .entry-is);
+    z-small = B.Z-small k Γ t entry (r .fit) (r .entry-is);
     ψ-most = r .fit .ψ-most;
     room = l;
-    places = omega (arith, B.places k g t entry (r .fit) (r .entry-is) f fit);
-    places-most = omega (arith, B.places-below k g t entry (r .fit) (r .entry-is) f fit);
+    shift = omega (arith, B.shift k Γ t entry (r .fit) (r .entry-is) f fit);
+    shift-most = omega (arith, B.shift-below k Γ t entry (r .fit) (r .entry-is) f fit);
     adaptable = h;
   }
 
-  ahead : UpdateBounds (k .M) (Z k g t entry) (t .ψ) (θ k g t entry) (scaleForward k) g 0 (t .forward) (t .samples)
+  ahead : UpdateBounds (k .M) (Z k Γ t entry) (t .ψ) (θ k Γ t entry) (scaleForward k) Γ 0 (t .forward) (t .samples)
   ahead =
-      update-bounds (forwardSide k g t entry) (S.forward-fit k g t entry (r .fit)) 0 (omega (arith, S.scaleForward-most k g t entry (r .fit))) (t .forward) (t .samples)
-      (rw add-zero (B.forward-adaptable k g t entry (r .fit) (r .entry-is)))
+      update-bounds (forwardFir k Γ t entry) (S.forward-fit k Γ t entry (r .fit)) 0 (omega (arith, S.scaleForward-most k Γ t entry (r .fit))) (t .forward) (t .samples)
+      (rw add-zero (B.forward-adaptable k Γ t entry (r .fit) (r .entry-is)))
 
-  behind : UpdateBounds (k .M) (Z k g t entry) (t .ψ) (θ k g t entry) (scaleBack k) (ν k g t entry + 30) (15 - ν k g t entry) (t .back) (t .symbols)
+  behind : UpdateBounds (k .M) (Z k Γ t entry) (t .ψ) (θ k Γ t entry) (scaleBack k) (ν k Γ t entry + 30) (15 - ν k Γ t entry) (t .back) (t .symbols)
   behind =
-      update-bounds (backSide k g t entry) (S.back-fit k g t entry (r .fit)) (15 - ν k g t entry) (S.symbol-scale-most k g t entry (r .fit)) (t .back) (t .symbols)
-      (B.back-adaptable k g t entry (r .fit) (r .entry-is))
+      update-bounds (backFir k Γ t entry) (S.back-fit k Γ t entry (r .fit)) (15 - ν k Γ t entry) (S.symbol-scale-most k Γ t entry (r .fit)) (t .back) (t .symbols)
+      (B.back-adaptable k Γ t entry (r .fit) (r .entry-is))
 
-  pub change-bounds : (h : Output) (j : Decision) → Output-as h → Decision-as j → ChangeBounds (k .M) s sb g (t .ψ) h j (t .forward) (t .back) (t .samples) (t .symbols)
+  pub change-bounds : (h : Output) (j : Decision) → Output-as h → Decision-as j → ChangeBounds (k .M) s sb Γ (t .ψ) h j (t .forward) (t .back) (t .samples) (t .symbols)
   change-bounds h j p q = record {
-    ν-most = rw (p .nu-as) (S.ν-most k g t entry (r .fit));
+    ν-most = rw (p .nu-as) (S.ν-most k Γ t entry (r .fit));
     ahead = rw (q .z-as, q .theta-as, r .forward-scale) ahead;
     behind = rw (q .z-as, q .theta-as, p .nu-as, r .back-scale) behind;
   }
@@ -128,30 +127,30 @@ module _ (k : Settings) (s sb g : ℕ) (t : Taps) (entry : ℤ) (r : Ready k s s
   pub handable : (h : Output) (j : Decision) → Output-as h → Decision-as j → (h .xi ≤ outputExponentLimit) × (j .theta ≤ outputExponentLimit) × (natAbs (j .decision) < 2 ^ (symbolLimit + 1))
   unfolding decision
   handable h j p q = (
-    rw (p .xi-as) (omega (arith, S.ξ-most k g t entry (r .fit), r .fit .ψ-most)),
-    rw (q .theta-as) (omega (arith, S.θ-most k g t entry (r .fit) (r .entry-is), r .fit .ψ-most)),
+    rw (p .xi-as) (omega (arith, S.ξ-most k Γ t entry (r .fit), r .fit .ψ-most)),
+    rw (q .theta-as) (omega (arith, S.θ-most k Γ t entry (r .fit) (r .entry-is), r .fit .ψ-most)),
     rw (q .decision-as) (omega (
       arith,
-      symbol-below (k .r) (decision k g t entry) (decide-symbol (k .r) (Y k g t entry) (ξ k g t entry)),
+      symbol-below (k .r) (decision k Γ t entry) (decide-symbol (k .r) (Y k Γ t entry) (ξ k Γ t entry)),
       symbol-most (k .r) (r .fit .within .r-most),
     )),
   )
 
-  forward-updated : (j : Decision) → Decision-as j → updatedForward (k .M) s g (t .ψ) j (t .forward) (t .samples) ≡ newForward k g t entry
+  forward-updated : (j : Decision) → Decision-as j → updatedForward (k .M) s Γ (t .ψ) j (t .forward) (t .samples) ≡ newForward k Γ t entry
   unfolding newForward J
   forward-updated j q = rw (q .z-as, q .theta-as, r .forward-scale, add-zero)
 
-  back-updated : (h : Output) (j : Decision) → Output-as h → Decision-as j → updatedBack (k .M) sb (h .nu) (t .ψ) j (t .back) (t .symbols) ≡ newBack k g t entry
+  back-updated : (h : Output) (j : Decision) → Output-as h → Decision-as j → updatedBack (k .M) sb (h .nu) (t .ψ) j (t .back) (t .symbols) ≡ newBack k Γ t entry
   unfolding J
-  back-updated h j p q = rw (q .z-as, q .theta-as, p .nu-as, r .back-scale) (sym (S.newBack-raised k g t entry (r .fit)))
+  back-updated h j p q = rw (q .z-as, q .theta-as, p .nu-as, r .back-scale) (sym (S.newBack-raised k Γ t entry (r .fit)))
 
   pub result-as : (h : Output) (j : Decision) → Output-as h → Decision-as j → (ψ′ : ℕ) (f′ b′ y y′ : List ℤ) →
-      Changed-is (k .M) s sb g (t .ψ) h j (t .forward) (t .back) (t .samples) y ψ′ f′ b′ → y ≡ t .symbols → y′ ≡ j .v ∷ t .symbols → (x : SampleResult) → x ≡ resultOf h j ψ′ →
-      SampleResult-is k g t entry x f′ b′ y′
+      Changed-is (k .M) s sb Γ (t .ψ) h j (t .forward) (t .back) (t .samples) y ψ′ f′ b′ → y ≡ t .symbols → y′ ≡ j .v ∷ t .symbols → (x : SampleResult) → x ≡ resultOf h j ψ′ →
+      SampleResult-is k Γ t entry x f′ b′ y′
   unfolding next outcome
   result-as h j p q ψ′ f′ b′ y y′ c l d x e =
       let behind = ap (updatedBack (k .M) sb (h .nu) (t .ψ) j (t .back)) l ∙ back-updated h j p q in
-      let w = settled-of (forward-updated j q) behind c in
+      let w = normalised-of (forward-updated j q) behind c in
       record {
         y = ap (λ (z : SampleResult). z .y) e ∙ p .y-as;
         xi = ap (λ (z : SampleResult). z .xi) e ∙ p .xi-as;

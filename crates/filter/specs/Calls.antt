@@ -11,12 +11,11 @@ use Rattle.numbers.specs.BitLength.{bitLength}
 use Rattle.numbers.specs.Cut.{cut, raise}
 use Rattle.steps.specs.Limits.{symbolLimit, exponentLimit, scaleLimit, dataExponentLimit, outputExponentLimit}
 use Rattle.steps.specs.Settings.{Settings, isEntry, scaleForward, scaleBack}
-use Rattle.steps.specs.Side.{adapt}
+use Rattle.steps.specs.Fir.{adapt, largestBits}
 use Rattle.steps.specs.Output.{output, outputExponent}
 use Rattle.steps.specs.Decision.{decide}
 use Rattle.steps.specs.Error.{error, errorExponent}
-use Rattle.filter.specs.Sample.{Taps, outcomeOf, settled, settledExponent, Y, ξ, decision, v, Z, θ, next}
-use Rattle.steps.specs.Side.{longest}
+use Rattle.filter.specs.Sample.{FilterState, outcomeOf, normalised, normalisedExponent, Y, ξ, decision, v, Z, θ, next}
 use Rattle.filter.specs.Sound.{Fit}
 use Rattle.steps.specs.Sound.{Summable, Adaptable, OutputBounds}
 use Rattle.filter.specs.declared.sample.Settings as Declared
@@ -27,14 +26,14 @@ use Rattle.filter.specs.declared.sample.SampleResult.{SampleResult}
 abbrev pub settingsOf : Declared.Settings → Settings
 settingsOf k = record { p = k .p; q = k .q; N = k .n; r = k .r; L = k .l; M = k .m }
 
-abbrev pub tapsOf : List ℤ → List ℤ → List ℤ → List ℤ → ℕ → Taps
-tapsOf forward back samples symbols ψ = record { forward = forward; back = back; samples = samples; symbols = symbols; ψ = ψ }
+abbrev pub filterStateOf : List ℤ → List ℤ → List ℤ → List ℤ → ℕ → FilterState
+filterStateOf forward back samples symbols ψ = record { forward = forward; back = back; samples = samples; symbols = symbols; ψ = ψ }
 
 -- ---- steps 1 to 3
 
 -- where the delay is a place, the symbol there has a bit length above r
-abbrev pub LongestAt : ℕ → ℕ → List ℤ → Type 0
-LongestAt r delay symbols = delay < length symbols → r < bitLength (natAbs (getD symbols delay (pos 0)))
+abbrev pub LargestBitsAt : ℕ → ℕ → List ℤ → Type 0
+LargestBitsAt r delay symbols = delay < length symbols → r < bitLength (natAbs (getD symbols delay (pos 0)))
 
 -- the delay after the symbol v
 unfoldable pub nextDelay : ℕ → ℕ → ℤ → ℕ
@@ -43,18 +42,18 @@ nextDelay r delay v = cond (ltb r (bitLength (natAbs v))) 0 (delay + 1)
 pub record SymbolBounds (r delay : ℕ) (symbols : List ℤ) : Type 0 where
   pub r-most : r ≤ symbolLimit
   pub symbols-are : Each (λ (v : ℤ). isEntry r v ≡ true) symbols
-  pub longest-at : LongestAt r delay symbols
+  pub largest-bits-at : LargestBitsAt r delay symbols
 
-pub record FilterBounds (sb g ψ : ℕ) (forward back samples symbols : List ℤ) : Type 0 where
+pub record FilterBounds (sb Γ ψ : ℕ) (forward back samples symbols : List ℤ) : Type 0 where
   pub forward-sum : Summable forward samples
   pub back-sum : Summable back symbols
-  pub ν-most : sb + longest symbols ≤ dataExponentLimit
-  pub output-bounds : OutputBounds (dot forward samples) (dot back symbols) g (sb + longest symbols) ψ
+  pub ν-most : sb + largestBits symbols ≤ dataExponentLimit
+  pub output-bounds : OutputBounds (dot forward samples) (dot back symbols) Γ (sb + largestBits symbols) ψ
 
-pub record Output-is (sb g ψ : ℕ) (forward back samples symbols : List ℤ) (h : Output) : Type 0 where
-  pub nu : h .nu ≡ sb + longest symbols
-  pub y : h .y ≡ output (dot forward samples) (raise (dot back symbols) (15 - (sb + longest symbols))) g (sb + longest symbols)
-  pub xi : h .xi ≡ outputExponent ψ g (sb + longest symbols)
+pub record Output-is (sb Γ ψ : ℕ) (forward back samples symbols : List ℤ) (h : Output) : Type 0 where
+  pub nu : h .nu ≡ sb + largestBits symbols
+  pub y : h .y ≡ output (dot forward samples) (raise (dot back symbols) (15 - (sb + largestBits symbols))) Γ (sb + largestBits symbols)
+  pub xi : h .xi ≡ outputExponent ψ Γ (sb + largestBits symbols)
 
 -- ---- steps 4 and 5
 
@@ -78,11 +77,11 @@ pub record Decision-is (r sb : ℕ) (y : ℤ) (ξ : ℕ) (entry : ℤ) (j : Deci
 
 -- ---- step 6
 
--- J of a side with this scale and exponent
+-- J of a filter with this scale and exponent
 abbrev pub factorOf : ℕ → ℤ → ℕ → ℕ → ℕ → ℕ → ℤ
 factorOf m z ψ θ scale exponent = cut (pos m *ℤ z) (60 + ψ + scale - (exponent + θ))
 
--- the new weights of a side whose data are raised by some places more
+-- the new weights of a filter whose data are raised by some bits more
 abbrev pub updated : ℕ → ℤ → ℕ → ℕ → ℕ → ℕ → ℕ → List ℤ → List ℤ → List ℤ
 updated m z ψ θ scale exponent more w a = adapt (raise (factorOf m z ψ θ scale exponent) (scale + more)) w a
 
@@ -90,54 +89,54 @@ pub record UpdateBounds (m : ℕ) (z : ℤ) (ψ θ scale exponent more : ℕ) (w
   pub z-small : natAbs z < 2 ^ 30
   pub ψ-most : ψ ≤ exponentLimit
   pub room : scale + more ≤ 15
-  pub places : exponent + θ ≤ 60 + ψ + scale
-  pub places-most : 60 + ψ + scale < exponent + θ + 64
+  pub shift : exponent + θ ≤ 60 + ψ + scale
+  pub shift-most : 60 + ψ + scale < exponent + θ + 64
   pub adaptable : Adaptable (factorOf m z ψ θ scale exponent) (15 - (scale + more)) w a
 
 -- ---- step 7
 
-pub record Settled-is (ψ : ℕ) (forward back : List ℤ) (ψ′ : ℕ) (forward′ back′ : List ℤ) : Type 0 where
-  pub exponent : ψ′ ≡ settledExponent (outcomeOf ψ forward back) ψ
-  pub ahead : forward′ ≡ settled (outcomeOf ψ forward back) forward
-  pub behind : back′ ≡ settled (outcomeOf ψ forward back) back
+pub record Normalised-is (ψ : ℕ) (forward back : List ℤ) (ψ′ : ℕ) (forward′ back′ : List ℤ) : Type 0 where
+  pub exponent : ψ′ ≡ normalisedExponent (outcomeOf ψ forward back) ψ
+  pub ahead : forward′ ≡ normalised (outcomeOf ψ forward back) forward
+  pub behind : back′ ≡ normalised (outcomeOf ψ forward back) back
 
 -- ---- steps 6 and 7
 
-pub record ChangeBounds (m s sb g ψ : ℕ) (h : Output) (j : Decision) (forward back samples symbols : List ℤ) : Type 0 where
+pub record ChangeBounds (m s sb Γ ψ : ℕ) (h : Output) (j : Decision) (forward back samples symbols : List ℤ) : Type 0 where
   pub ν-most : h .nu ≤ dataExponentLimit
-  pub ahead : UpdateBounds m (j .z) ψ (j .theta) s g 0 forward samples
+  pub ahead : UpdateBounds m (j .z) ψ (j .theta) s Γ 0 forward samples
   pub behind : UpdateBounds m (j .z) ψ (j .theta) sb (h .nu + 30) (15 - h .nu) back symbols
 
 -- the new weights before step 7
 abbrev pub updatedForward : ℕ → ℕ → ℕ → ℕ → Decision → List ℤ → List ℤ → List ℤ
-updatedForward m s g ψ j forward samples = updated m (j .z) ψ (j .theta) s g 0 forward samples
+updatedForward m s Γ ψ j forward samples = updated m (j .z) ψ (j .theta) s Γ 0 forward samples
 
 abbrev pub updatedBack : ℕ → ℕ → ℕ → ℕ → Decision → List ℤ → List ℤ → List ℤ
 updatedBack m sb ν ψ j back symbols = updated m (j .z) ψ (j .theta) sb (ν + 30) (15 - ν) back symbols
 
 abbrev pub Changed-is : ℕ → ℕ → ℕ → ℕ → ℕ → Output → Decision → List ℤ → List ℤ → List ℤ → List ℤ → ℕ → List ℤ → List ℤ → Type 0
-Changed-is m s sb g ψ h j forward back samples symbols ψ′ forward′ back′ =
-    Settled-is ψ (updatedForward m s g ψ j forward samples) (updatedBack m sb (h .nu) ψ j back symbols) ψ′ forward′ back′
+Changed-is m s sb Γ ψ h j forward back samples symbols ψ′ forward′ back′ =
+    Normalised-is ψ (updatedForward m s Γ ψ j forward samples) (updatedBack m sb (h .nu) ψ j back symbols) ψ′ forward′ back′
 
 -- ---- the sample as a whole
 
 abbrev pub resultOf : Output → Decision → ℕ → SampleResult
 resultOf h j ψ = record { y = h .y; xi = h .xi; decision = j .decision; z = j .z; theta = j .theta; psi = ψ }
 
-pub record Ready (k : Settings) (s sb g : ℕ) (t : Taps) (entry : ℤ) : Type 0 where
-  pub fit : Fit k g t
+pub record Ready (k : Settings) (s sb Γ : ℕ) (t : FilterState) (entry : ℤ) : Type 0 where
+  pub fit : Fit k Γ t
   pub entry-is : isEntry (k .r) entry ≡ true
   pub forward-scale : s ≡ scaleForward k
   pub back-scale : sb ≡ scaleBack k
 
 -- symbols has the new symbol before the old ones
-pub record SampleResult-is (k : Settings) (g : ℕ) (t : Taps) (entry : ℤ) (r : SampleResult) (forward back symbols : List ℤ) : Type 0 where
-  pub y : r .y ≡ Y k g t entry
-  pub xi : r .xi ≡ ξ k g t entry
-  pub decision-is : r .decision ≡ decision k g t entry
-  pub z : r .z ≡ Z k g t entry
-  pub theta : r .theta ≡ θ k g t entry
-  pub psi : r .psi ≡ next k g t entry .ψ
-  pub forward-is : forward ≡ next k g t entry .forward
-  pub back-is : back ≡ next k g t entry .back
-  pub symbols-are : symbols ≡ v k g t entry ∷ t .symbols
+pub record SampleResult-is (k : Settings) (Γ : ℕ) (t : FilterState) (entry : ℤ) (r : SampleResult) (forward back symbols : List ℤ) : Type 0 where
+  pub y : r .y ≡ Y k Γ t entry
+  pub xi : r .xi ≡ ξ k Γ t entry
+  pub decision-is : r .decision ≡ decision k Γ t entry
+  pub z : r .z ≡ Z k Γ t entry
+  pub theta : r .theta ≡ θ k Γ t entry
+  pub psi : r .psi ≡ next k Γ t entry .ψ
+  pub forward-is : forward ≡ next k Γ t entry .forward
+  pub back-is : back ≡ next k Γ t entry .back
+  pub symbols-are : symbols ≡ v k Γ t entry ∷ t .symbols

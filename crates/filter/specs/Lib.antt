@@ -1,4 +1,3 @@
 pub mod Sample
 pub mod Sound
-pub mod Exact
 pub mod Calls

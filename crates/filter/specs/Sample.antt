@@ -1,20 +1,23 @@
--- One sample. γ + 30 is g, a natural number.
+-- One sample: its steps, the exact LMS step, and what holds. Γ stands for γ + 30, a natural number.
+use mathlib.Core.Path.{_≡_}
 use mathlib.Core.Bool.{Bool, _&&_, cond}
 use mathlib.Core.List.{List, map}
-use Prim.Native.Nat.{ℕ, suc, _+_, _-_}
+use Prim.Native.Nat.{ℕ, suc, _+_, _*_, _-_, _^_, _≤_, _<_}
 use lib.Dec.{eqb, ltb}
-use lib.IntN.{ℤ, natAbs}
+use lib.ListN.{getD}
+use lib.IntN.{ℤ, pos, natAbs, _+ℤ_, _-ℤ_, _*ℤ_}
+use Rattle.laws.specs.Sums.{Each, dot}
 use Rattle.numbers.specs.BitLength.{bitLength}
 use Rattle.numbers.specs.Cut.{raise}
 use Rattle.steps.specs.Settings.{Settings, scaleForward, scaleBack}
-use Rattle.steps.specs.Limits.{doublingLimit}
-use Rattle.steps.specs.Side.{Side, sum, factor, newWeights, allBelow, allSmall, halved, doubled, push, longest}
+use Rattle.steps.specs.Limits.{doublingLimit, outputExponentLimit}
+use Rattle.steps.specs.Fir.{Fir, Small, sum, factor, newWeights, allBelow, allSmall, halved, doubled, push, largestBits}
 use Rattle.steps.specs.Output.{output, outputExponent}
 use Rattle.steps.specs.Decision.{decide}
 use Rattle.steps.specs.Error.{error, errorExponent}
 
 -- the weights of both filters, the p stored samples A and the last q symbols, newest first, and ψ
-pub record Taps : Type 0 where
+pub record FilterState : Type 0 where
   pub forward : List ℤ
   pub back : List ℤ
   pub samples : List ℤ
@@ -37,45 +40,80 @@ outcomeOf ψ forward back =
     (cond (canFall ψ && (allBelow doublingLimit forward && allBelow doublingLimit back)) double keep)
     halve
 
--- the weights of a side, and ψ
-abbrev pub settled : Outcome → List ℤ → List ℤ
-settled keep w = w
-settled halve w = halved w
-settled double w = doubled w
+-- the weights of a filter, and ψ
+abbrev pub normalised : Outcome → List ℤ → List ℤ
+normalised keep w = w
+normalised halve w = halved w
+normalised double w = doubled w
 
-abbrev pub settledExponent : Outcome → ℕ → ℕ
-settledExponent keep ψ = ψ
-settledExponent halve ψ = suc ψ
-settledExponent double ψ = ψ - 1
+abbrev pub normalisedExponent : Outcome → ℕ → ℕ
+normalisedExponent keep ψ = ψ
+normalisedExponent halve ψ = suc ψ
+normalisedExponent double ψ = ψ - 1
 
-module _ (k : Settings) (g : ℕ) (t : Taps) (entry : ℤ) where
+-- ---- the exact LMS step, as whole numbers
+
+-- y*, times 2^60: the unrounded sum of weight times data, W·2^(ψ−15)·A·2^(γ−15) and W·2^(ψ−15)·v
+abbrev pub exactOutput : ℕ → FilterState → ℤ
+exactOutput Γ t = raise (raise (dot (t .forward) (t .samples)) Γ +ℤ raise (dot (t .back) (t .symbols)) 45) (t .ψ)
+
+-- weight + μ·data·(v − y*), times 2^135: 30 for μ = M / 2^30, 45 for a datum d·2^(x−45), 60 for y, which is y*·2^60. A weight w·2^(ψ−15) becomes w·2^(120+ψ)
+abbrev pub exactWeight : ℕ → ℕ → ℤ → ℤ → ℤ → ℕ → ℤ → ℤ
+exactWeight M ψ y v d x w = raise w (120 + ψ) +ℤ pos M *ℤ raise d x *ℤ (raise v 60 -ℤ y)
+
+-- 1 + 1/1024 units, in 1024ths of a unit
+abbrev pub distance : ℕ
+distance = 1025
+
+-- the stored weight w at its ψ and the exact one, times 2^135 e, are at most 1 + 1/1024 units of 2^(u−15) apart: both sides times 1024·2^135
+abbrev pub Near : ℕ → ℕ → ℤ → ℤ → Type 0
+Near u ψ w e = natAbs (raise w (120 + ψ) -ℤ e) * 1024 ≤ distance * 2 ^ (120 + u)
+
+-- u is the new ψ, but the ψ before the sample where the weights are doubled
+abbrev pub unitExponent : Outcome → ℕ → ℕ
+unitExponent keep ψ = ψ
+unitExponent halve ψ = suc ψ
+unitExponent double ψ = ψ
+
+-- the values of weights, times 2^15: W·2^ψ
+abbrev pub valuesOf : ℕ → List ℤ → List ℤ
+valuesOf ψ w = map (λ (x : ℤ). raise x ψ) w
+
+-- the weights of both filters at ψ′ mean the same numbers as those at ψ
+pub record SameValues (ψ : ℕ) (forward back : List ℤ) (ψ′ : ℕ) (forward′ back′ : List ℤ) : Type 0 where
+  pub ahead : valuesOf ψ′ forward′ ≡ valuesOf ψ forward
+  pub behind : valuesOf ψ′ back′ ≡ valuesOf ψ back
+
+-- ---- a sample
+
+module _ (k : Settings) (Γ : ℕ) (t : FilterState) (entry : ℤ) where
   -- 1
   unfoldable pub ν : ℕ
-  ν = scaleBack k + longest (t .symbols)
+  ν = scaleBack k + largestBits (t .symbols)
 
   -- 1: a past symbol as it is held
   abbrev pub held : ℤ → ℤ
   held v = raise v (15 - ν)
 
-  abbrev pub forwardSide : Side
-  forwardSide = record { weights = t .forward; mantissas = t .samples; scale = scaleForward k; exponent = g }
+  abbrev pub forwardFir : Fir
+  forwardFir = record { weights = t .forward; mantissas = t .samples; scale = scaleForward k; exponent = Γ }
 
-  abbrev pub backSide : Side
-  backSide = record { weights = t .back; mantissas = map held (t .symbols); scale = scaleBack k; exponent = ν + 30 }
+  abbrev pub backFir : Fir
+  backFir = record { weights = t .back; mantissas = map held (t .symbols); scale = scaleBack k; exponent = ν + 30 }
 
   -- 2
   unfoldable pub F : ℤ
-  F = sum forwardSide
+  F = sum forwardFir
 
   unfoldable pub H : ℤ
-  H = sum backSide
+  H = sum backFir
 
   -- 3
   unfoldable pub Y : ℤ
-  Y = output F H g ν
+  Y = output F H Γ ν
 
   unfoldable pub ξ : ℕ
-  ξ = outputExponent (t .ψ) g ν
+  ξ = outputExponent (t .ψ) Γ ν
 
   -- 4
   unfoldable pub decision : ℤ
@@ -95,25 +133,73 @@ module _ (k : Settings) (g : ℕ) (t : Taps) (entry : ℤ) where
   θ = errorExponent ξ κ
 
   -- 6
-  unfoldable pub J : Side → ℤ
+  unfoldable pub J : Fir → ℤ
   J f = factor (k .M) Z (t .ψ) θ f
 
   unfoldable pub newForward : List ℤ
-  newForward = newWeights (J forwardSide) forwardSide
+  newForward = newWeights (J forwardFir) forwardFir
 
   unfoldable pub newBack : List ℤ
-  newBack = newWeights (J backSide) backSide
+  newBack = newWeights (J backFir) backFir
 
   -- 7
   unfoldable pub outcome : Outcome
   outcome = outcomeOf (t .ψ) newForward newBack
 
   -- 7 and 8
-  unfoldable pub next : Taps
+  unfoldable pub next : FilterState
   next = record {
-    forward = settled outcome newForward;
-    back = settled outcome newBack;
+    forward = normalised outcome newForward;
+    back = normalised outcome newBack;
     samples = t .samples;
     symbols = push v (t .symbols);
-    ψ = settledExponent outcome (t .ψ);
+    ψ = normalisedExponent outcome (t .ψ);
   }
+
+  -- ---- what holds
+
+  -- its numbers keep their bounds
+  pub record Bounded : Type 0 where
+    pub F-small : natAbs F < 2 ^ 28
+    pub H-small : natAbs H < 2 ^ 28
+    pub Y-small : natAbs Y < 2 ^ 29
+    pub Z-small : natAbs Z < 2 ^ 30
+    pub ξ-least : 1 ≤ ξ
+    pub ξ-most : ξ ≤ outputExponentLimit
+    pub θ-least : 1 ≤ θ
+    pub θ-most : θ ≤ outputExponentLimit
+    -- no difference of exponents is cut off at 0
+    pub ν-most : ν ≤ 15
+    pub forward-shift : Γ + θ ≤ 60 + t .ψ + scaleForward k
+    pub back-shift : ν + 30 + θ ≤ 60 + t .ψ + scaleBack k
+    pub new-forward : Each (λ (w : ℤ). natAbs w < 2 ^ 15) newForward
+    pub new-back : Each (λ (w : ℤ). natAbs w < 2 ^ 15) newBack
+    pub next-forward : Each Small (next .forward)
+    pub next-back : Each Small (next .back)
+
+  -- the exact new weight of a weight w whose datum is d·2^(x−45)
+  abbrev pub exactStep : ℤ → ℕ → ℤ → ℤ
+  exactStep d x w = exactWeight (k .M) (t .ψ) (exactOutput Γ t) v d x w
+
+  -- the stored new weight w is close to the exact one
+  abbrev pub NearStep : ℤ → ℤ → Type 0
+  NearStep w e = Near (unitExponent outcome (t .ψ)) (next .ψ) w e
+
+  -- its results are close to the exact ones
+  pub record Faithful : Type 0 where
+    -- |y − y*| < 2^(ξ−30), both sides times 2^60
+    pub output-near : natAbs (raise Y (ξ + 30) -ℤ exactOutput Γ t) < 2 ^ (ξ + 30)
+    -- each of the p and q weights: its datum is A·2^(γ−15), or a past symbol
+    pub forward-near : (n : ℕ) → n < k .p → NearStep (getD (next .forward) n (pos 0)) (exactStep (getD (t .samples) n (pos 0)) Γ (getD (t .forward) n (pos 0)))
+    pub back-near : (n : ℕ) → n < k .q → NearStep (getD (next .back) n (pos 0)) (exactStep (getD (t .symbols) n (pos 0)) 45 (getD (t .back) n (pos 0)))
+
+  -- what step 7 and the doubling after it leave, once: the new weights as they are; or the cut half of each; or twice each, with the same values
+  pub data Normalised : Type 0 where
+    kept : next .forward ≡ newForward → next .back ≡ newBack → next .ψ ≡ t .ψ → Normalised
+    halved-once : next .forward ≡ halved newForward → next .back ≡ halved newBack → next .ψ ≡ suc (t .ψ) → Normalised
+    doubled-once : next .forward ≡ doubled newForward → next .back ≡ doubled newBack → suc (next .ψ) ≡ t .ψ →
+        SameValues (t .ψ) newForward newBack (next .ψ) (next .forward) (next .back) → Normalised
+
+  -- with M = 0 no weight changes its value
+  abbrev pub Frozen : Type 0
+  Frozen = k .M ≡ 0 → SameValues (t .ψ) (t .forward) (t .back) (next .ψ) (next .forward) (next .back)

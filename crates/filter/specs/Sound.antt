@@ -6,12 +6,13 @@ use lib.ListN.{length}
 use lib.IntN.{ℤ, natAbs}
 use Rattle.laws.specs.Sums.{Each}
 use Rattle.steps.specs.Limits.{exponentLimit, lengthLimit}
-use Rattle.steps.specs.Settings.{Settings, Within, Admitted, isEntry, scaleForward}
-use Rattle.steps.specs.Side.{Small}
-use Rattle.filter.specs.Sample.{Taps}
+use Rattle.steps.specs.Settings.{Settings, isEntry, scaleForward}
+use Rattle.steps.specs.Sound.{Within, Admitted}
+use Rattle.steps.specs.Fir.{Small}
+use Rattle.filter.specs.Sample.{FilterState}
 
--- the soundness facts at a sample, with the exponent g = γ + 30 of the stored samples
-pub record Fit (k : Settings) (g : ℕ) (t : Taps) : Type 0 where
+-- the soundness facts at a sample, with the exponent Γ = γ + 30 of the stored samples
+pub record Fit (k : Settings) (Γ : ℕ) (t : FilterState) : Type 0 where
   pub within : Within k
   pub admitted : Admitted k
   pub forward-long : length (t .forward) ≡ k .p
@@ -23,5 +24,5 @@ pub record Fit (k : Settings) (g : ℕ) (t : Taps) : Type 0 where
   pub samples-small : Each (λ (a : ℤ). natAbs a * 2 ^ scaleForward k < 2 ^ 15) (t .samples)
   pub symbols-are : Each (λ (v : ℤ). isEntry (k .r) v ≡ true) (t .symbols)
   pub ψ-most : t .ψ ≤ exponentLimit
-  pub g-least : scaleForward k ≤ g
-  pub g-most : g + k .L ≤ k .r + lengthLimit + scaleForward k
+  pub Γ-least : scaleForward k ≤ Γ
+  pub Γ-most : Γ + k .L ≤ k .r + lengthLimit + scaleForward k

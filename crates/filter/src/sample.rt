@@ -7,10 +7,10 @@ ghost use lib.IntN.{ℤ, natAbs};
 ghost use lib.ListN.{drop};
 ghost use Rattle.laws.specs.Sums.{Each};
 ghost use Rattle.numbers.specs.Cut.{rescale};
-ghost use Rattle.steps.specs.Limits.{symbolLimit, exponentLimit, outputExponentLimit, lineLength};
-ghost use Rattle.steps.specs.Side.{longest, magnitudes, together};
-ghost use Rattle.steps.specs.Sound.{Storable};
-ghost use Rattle.filter.specs.Calls.{LongestAt, nextDelay, SymbolBounds, FilterBounds, Output-is, DecisionBounds, Decision-is, chosen, UpdateBounds, updated, Settled-is, ChangeBounds, Changed-is, resultOf, Ready, SampleResult-is, settingsOf, tapsOf};
+ghost use Rattle.steps.specs.Limits.{symbolLimit, exponentLimit, outputExponentLimit};
+ghost use Rattle.steps.specs.Sound.{lineLength, orAll, Storable};
+ghost use Rattle.steps.specs.Fir.{largestBits, magnitudes};
+ghost use Rattle.filter.specs.Calls.{LargestBitsAt, nextDelay, SymbolBounds, FilterBounds, Output-is, DecisionBounds, Decision-is, chosen, UpdateBounds, updated, Normalised-is, ChangeBounds, Changed-is, resultOf, Ready, SampleResult-is, settingsOf, filterStateOf};
 
 // The settings of a station.
 pub struct Settings {
@@ -62,12 +62,12 @@ pub fn next_delay(r: u32, delay: usize, v: i16) -> usize
 // Step 1: the largest bit length of the symbols, which needs no search where one of them is known to have it.
 fn reach(r: u32, delay: usize, symbols: &[i16]) -> u32
     requires { ⌜ SymbolBounds r delay (now symbols) ⌝ }
-    ensures { λ c. ⌜ c ≡ longest (now (symbols .entry)) ⌝ }
+    ensures { λ c. ⌜ c ≡ largestBits (now (symbols .entry)) ⌝ }
 {
     if delay < symbols.len() {
         r + 1
     } else {
-        steps::side::longest(symbols)
+        steps::fir::largest_bits(symbols)
     }
 }
 
@@ -76,20 +76,20 @@ pub fn filter_output(
     r: u32,
     delay: usize,
     sb: u32,
-    g: u32,
+    gamma30: u32,
     psi: u32,
     forward: &[i16],
     back: &[i16],
     samples: &[i16],
     symbols: &[i16],
 ) -> Output
-    requires { ⌜ FilterBounds sb g psi (now forward) (now back) (now samples) (now symbols) × SymbolBounds r delay (now symbols) ⌝ }
-    ensures { λ h. ⌜ Output-is sb g psi (now (forward .entry)) (now (back .entry)) (now (samples .entry)) (now (symbols .entry)) h ⌝ }
+    requires { ⌜ FilterBounds sb gamma30 psi (now forward) (now back) (now samples) (now symbols) × SymbolBounds r delay (now symbols) ⌝ }
+    ensures { λ h. ⌜ Output-is sb gamma30 psi (now (forward .entry)) (now (back .entry)) (now (samples .entry)) (now (symbols .entry)) h ⌝ }
 {
     let nu = sb + reach(r, delay, symbols);
-    let f = steps::side::sum(forward, samples);
-    let h = steps::side::sum(back, symbols);
-    let o = steps::output::output(f, h, g, nu, psi);
+    let f = steps::fir::sum(forward, samples);
+    let h = steps::fir::sum(back, symbols);
+    let o = steps::output::output(f, h, gamma30, nu, psi);
     Output {
         nu: nu,
         y: o.y,
@@ -120,7 +120,7 @@ pub fn decision_error(r: u32, sb: u32, y: i32, xi: u32, entry: i16) -> Decision
     }
 }
 
-// Step 6: the new weights of a side whose data are raised by some places more, and the bits of their magnitudes together.
+// Step 6: the new weights of a filter whose data are raised by some bits more, and the bits of their magnitudes together.
 pub fn update(
     w: &mut [i16],
     a: &[i16],
@@ -133,25 +133,25 @@ pub fn update(
     more: u32,
 ) -> u16
     requires { ⌜ UpdateBounds m z psi theta scale exponent more (now w) (now a) ⌝ }
-    ensures { λ r. ⌜ (now (w .exit) ≡ updated m z psi theta scale exponent more (now (w .entry)) (now (a .entry))) × (r ≡ together (magnitudes (now (w .exit)))) ⌝ }
+    ensures { λ r. ⌜ (now (w .exit) ≡ updated m z psi theta scale exponent more (now (w .entry)) (now (a .entry))) × (r ≡ orAll (magnitudes (now (w .exit)))) ⌝ }
 {
     let j = steps::factor::factor(m, z, 60 + psi + scale - (exponent + theta));
-    steps::side::adapt(w, a, j as i32, 15 - (scale + more))
+    steps::fir::adapt(w, a, j as i32, 15 - (scale + more))
 }
 
-// The weights of both sides at another exponent.
+// The weights of both filters at another exponent.
 fn rescale_both(forward: &mut [i16], back: &mut [i16], i: u32, j: u32)
     requires { ⌜ (Each (Storable i j) (now forward)) × (Each (Storable i j) (now back)) ⌝ }
     ensures { λ _. ⌜ (now (forward .exit) ≡ map (λ (a : ℤ). rescale a i j) (now (forward .entry))) × (now (back .exit) ≡ map (λ (a : ℤ). rescale a i j) (now (back .entry))) ⌝ }
 {
-    steps::side::rescale_all(forward, i, j);
-    steps::side::rescale_all(back, i, j);
+    steps::fir::rescale_all(forward, i, j);
+    steps::fir::rescale_all(back, i, j);
 }
 
 // Step 7 and what follows it: the new ψ, where seen has the bits of all new magnitudes together.
-pub fn settle(forward: &mut [i16], back: &mut [i16], seen: u16, psi: u32) -> u32
-    requires { ⌜ (psi ≤ exponentLimit) × (seen ≡ bitOr (together (magnitudes (now forward))) (together (magnitudes (now back)))) ⌝ }
-    ensures { λ r. ⌜ Settled-is psi (now (forward .entry)) (now (back .entry)) r (now (forward .exit)) (now (back .exit)) ⌝ }
+pub fn normalise(forward: &mut [i16], back: &mut [i16], seen: u16, psi: u32) -> u32
+    requires { ⌜ (psi ≤ exponentLimit) × (seen ≡ bitOr (orAll (magnitudes (now forward))) (orAll (magnitudes (now back)))) ⌝ }
+    ensures { λ r. ⌜ Normalised-is psi (now (forward .entry)) (now (back .entry)) r (now (forward .exit)) (now (back .exit)) ⌝ }
 {
     if steps::limits::HALVING <= seen {
         rescale_both(forward, back, 0, 1);
@@ -172,7 +172,7 @@ pub fn change(
     m: u32,
     s: u32,
     sb: u32,
-    g: u32,
+    gamma30: u32,
     psi: u32,
     h: Output,
     j: Decision,
@@ -181,19 +181,19 @@ pub fn change(
     samples: &[i16],
     symbols: &[i16],
 ) -> u32
-    requires { ⌜ ChangeBounds m s sb g psi h j (now forward) (now back) (now samples) (now symbols) ⌝ }
-    ensures { λ r. ⌜ Changed-is m s sb g psi h j (now (forward .entry)) (now (back .entry)) (now (samples .entry)) (now (symbols .entry)) r (now (forward .exit)) (now (back .exit)) ⌝ }
+    requires { ⌜ ChangeBounds m s sb gamma30 psi h j (now forward) (now back) (now samples) (now symbols) ⌝ }
+    ensures { λ r. ⌜ Changed-is m s sb gamma30 psi h j (now (forward .entry)) (now (back .entry)) (now (samples .entry)) (now (symbols .entry)) r (now (forward .exit)) (now (back .exit)) ⌝ }
 {
     let nu = h.nu;
     let z = j.z;
     let theta = j.theta;
-    let ahead = update(forward, samples, m, z, psi, theta, s, g, 0);
+    let ahead = update(forward, samples, m, z, psi, theta, s, gamma30, 0);
     let behind = update(back, symbols, m, z, psi, theta, sb, nu + 30, 15 - nu);
-    settle(forward, back, ahead | behind, psi)
+    normalise(forward, back, ahead | behind, psi)
 }
 
 // What is handed out, in its final widths.
-fn hand_out(h: Output, j: Decision, psi: u32) -> SampleResult
+fn result_of(h: Output, j: Decision, psi: u32) -> SampleResult
     requires { ⌜ (h .xi ≤ outputExponentLimit) × (j .theta ≤ outputExponentLimit) × (natAbs (j .decision) < 2 ^ (symbolLimit + 1)) ⌝ }
     ensures { λ r. ⌜ r ≡ resultOf h j psi ⌝ }
 {
@@ -212,7 +212,7 @@ pub fn step(
     k: Settings,
     s: u32,
     sb: u32,
-    g: u32,
+    gamma30: u32,
     psi: u32,
     delay: usize,
     entry: i16,
@@ -221,14 +221,14 @@ pub fn step(
     samples: &[i16],
     symbols: &mut [i16],
 ) -> SampleResult
-    requires { ⌜ Ready (settingsOf k) s sb g (tapsOf (now forward) (now back) (now samples) (drop 1 (now symbols)) psi) entry × LongestAt (k .r) delay (drop 1 (now symbols)) ⌝ }
-    ensures { λ r. ⌜ SampleResult-is (settingsOf k) g (tapsOf (now (forward .entry)) (now (back .entry)) (now (samples .entry)) (drop 1 (now (symbols .entry))) psi) entry r (now (forward .exit)) (now (back .exit)) (now (symbols .exit)) ⌝ }
+    requires { ⌜ Ready (settingsOf k) s sb gamma30 (filterStateOf (now forward) (now back) (now samples) (drop 1 (now symbols)) psi) entry × LargestBitsAt (k .r) delay (drop 1 (now symbols)) ⌝ }
+    ensures { λ r. ⌜ SampleResult-is (settingsOf k) gamma30 (filterStateOf (now (forward .entry)) (now (back .entry)) (now (samples .entry)) (drop 1 (now (symbols .entry))) psi) entry r (now (forward .exit)) (now (back .exit)) (now (symbols .exit)) ⌝ }
 {
     let h = filter_output(
         k.r,
         delay,
         sb,
-        g,
+        gamma30,
         psi,
         forward,
         back,
@@ -242,7 +242,7 @@ pub fn step(
         k.m,
         s,
         sb,
-        g,
+        gamma30,
         psi,
         h,
         j,
@@ -251,5 +251,5 @@ pub fn step(
         samples,
         &symbols[1..],
     );
-    hand_out(h, j, next)
+    result_of(h, j, next)
 }

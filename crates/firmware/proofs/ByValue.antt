@@ -36,7 +36,7 @@ use denote.Triple.Statement.{Contract, Triple}
 use denote.Triple.Call.{calls-at}
 use denote.Triple.Clauses.{Lasts}
 use Rattle.station.specs.Answers as answers
-use Rattle.checks.specs.Calls.{lentOf}
+use Rattle.checks.specs.Checks.{buffersOf}
 use Rattle.state.specs.declared.equaliser.Equaliser.{Equaliser}
 use Rattle.state.specs.declared.equaliser.Answer.{Answer}
 use Rattle.state.proofs.equaliser.Equaliser as S
@@ -106,7 +106,7 @@ module _ {M : Type 1} (𝓤 : URA M) (H : Heap 𝓤) (A : Atoms 𝓤) (W : Given
   abbrev pub Ran : Answer → Lasts by-value.ended κs (h, ss) → Type 0
   Ran r ws =
       answers.Run h
-      (lentOf (now (ss .0)) (now (ss .1 .0)) (now (ss .1 .1 .0)) (now (ss .1 .1 .1 .0)) (now (ss .1 .1 .1 .1 .0)) (now (ss .1 .1 .1 .1 .1 .0)) (now (ss .1 .1 .1 .1 .1 .1 .0)) (now (ss .1 .1 .1 .1 .1 .1 .1 .0)))
+      (buffersOf (now (ss .0)) (now (ss .1 .0)) (now (ss .1 .1 .0)) (now (ss .1 .1 .1 .0)) (now (ss .1 .1 .1 .1 .0)) (now (ss .1 .1 .1 .1 .1 .0)) (now (ss .1 .1 .1 .1 .1 .1 .0)) (now (ss .1 .1 .1 .1 .1 .1 .1 .0)))
       r (ws .1 .1 .1 .1 .0) (ws .1 .1 .1 .1 .1 .0) (ws .1 .1 .1 .1 .1 .1 .0) (ws .1 .1 .1 .1 .1 .1 .1 .0) (ws .1 .1 .1 .1 .1 .1 .1 .1 .0)
 
   abbrev pub last-lists : Lasts by-value.ended κs (h, ss) → Fml

@@ -1,4 +1,5 @@
 pub mod Thin
 pub mod ByValue
+pub mod Called
 pub mod Trials
 pub mod Swapped

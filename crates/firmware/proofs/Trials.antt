@@ -5,12 +5,15 @@ use Prim.Native.Nat.{ℕ}
 use Rattle.block.specs.Block.{Outputs}
 use Rattle.state.specs.declared.equaliser.Equaliser.{Equaliser}
 use Rattle.state.specs.declared.equaliser.Answer.{Answer}
-use Rattle.checks.specs.Checks.{Lent}
+use Rattle.checks.specs.Checks.{Buffers}
 use Rattle.station.specs.Claim.{Call, run, trial, save, load, left, Holds}
-use Rattle.firmware.specs.Trials.{InPlace, Trial, SameAsRun, Leaves, ran, tried, saved, loaded, Records, end, next, states, without, recordsWithout}
+use Rattle.firmware.specs.Held.{InPlace, Trial}
+use Rattle.firmware.specs.Called.{Called, recordsOf, states}
+use Rattle.firmware.specs.Trials.{SameAsRun, without, recordsWithout}
+use Rattle.firmware.proofs.Called.{records-are}
 
 -- for every record and all lent lists
-pub trial-is-run : (s : Equaliser) (l : Lent) (a : Answer) (s′ : Equaliser) (h : Outputs) (n : ℕ) (c : Equaliser) (k : Outputs) → Trial s l a s′ h → InPlace s l n c k → SameAsRun a h n c k
+pub trial-is-run : (s : Equaliser) (l : Buffers) (a : Answer) (s′ : Equaliser) (h : Outputs) (n : ℕ) (c : Equaliser) (k : Outputs) → Trial s l a s′ h → InPlace s l n c k → SameAsRun a h n c k
 trial-is-run s l a s′ h n c k (t, e) r = record {
   number = t .number ∙ sym (r .number);
   state = t .state ∙ sym (r .state);
@@ -21,18 +24,6 @@ trial-is-run s l a s′ h n c k (t, e) r = record {
   theta-same = t .theta-is ∙ sym (r .theta-is);
 }
 
--- the record after a call, by its contract, is the state that the claim goes on from
-leaves-left : (s : Equaliser) (c : Call) (s′ : Equaliser) → Leaves s c s′ → s′ ≡ left s c
-leaves-left s c s′ (ran l t n s″ h r) = r .state
-leaves-left s c s′ (tried l t a s″ h r) = r .1
-leaves-left s c s′ (saved buffer t a s″ after r) = r .1
-leaves-left s c s′ (loaded bytes t a r) = r .state
-
--- so the records of a list are the states of the claim
-pub records-are : (s : Equaliser) (cs : List Call) (ss : List Equaliser) → Records s cs ss → ss ≡ states s cs
-records-are s cs ss (end s₀) = refl
-records-are s cs ss (next s₀ s′ c cs′ ss′ m r) = ap (λ (l : List Equaliser). s₀ ∷ l) (records-are s′ cs′ ss′ r ∙ ap (λ (x : Equaliser). states x cs′) (leaves-left s₀ c s′ m))
-
 -- blocks, saves and loads get the states of the list without its trials, and the last state is the same
 pub states-without : (s : Equaliser) (cs : List Call) → recordsWithout cs (states s cs) ≡ states s (without cs)
 states-without s [] = refl
@@ -42,8 +33,8 @@ states-without s (save buffer t ∷ cs) = ap (λ (ss : List Equaliser). s ∷ ss
 states-without s (load bytes t ∷ cs) = ap (λ (ss : List Equaliser). s ∷ ss) (states-without (left s (load bytes t)) cs)
 
 -- the same of the records, by the contracts alone
-pub records-without : (s : Equaliser) (cs : List Call) (ss ss′ : List Equaliser) → Records s cs ss → Records s (without cs) ss′ → recordsWithout cs ss ≡ ss′
-records-without s cs ss ss′ r r′ = ap (recordsWithout cs) (records-are s cs ss r) ∙ states-without s cs ∙ sym (records-are s (without cs) ss′ r′)
+pub records-without : {s : Equaliser} {cs : List Call} (c : Called s cs) (c′ : Called s (without cs)) → recordsWithout cs (recordsOf c) ≡ recordsOf c′
+records-without {s} {cs} c c′ = ap (recordsWithout cs) (records-are c) ∙ states-without s cs ∙ sym (records-are c′)
 
 -- the claim over a list says all that it says of the list without its trials
 pub holds-without : (s : Equaliser) (cs : List Call) → Holds s cs → Holds s (without cs)

@@ -1,2 +1,4 @@
+pub mod Held
+pub mod Called
 pub mod Trials
 pub mod Swapped

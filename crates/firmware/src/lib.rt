@@ -1,10 +1,10 @@
 // The equaliser for firmware in C.
 ghost use Rattle.state.specs.Sizes.{given};
-ghost use Rattle.checks.specs.Calls.{lentOf};
+ghost use Rattle.checks.specs.Checks.{buffersOf};
 ghost use Rattle.state.specs.Answers.{SetUp};
-ghost use Rattle.block.specs.Calls.{outputsOf};
+ghost use Rattle.block.specs.Block.{outputsOf};
 ghost use Rattle.image.specs.Load.{Load};
-ghost use Rattle.firmware.specs.Trials.{InPlace, Trial, Saving};
+ghost use Rattle.firmware.specs.Held.{InPlace, Trial, Saving};
 use image::save::Saved;
 use state::equaliser::Answer;
 use state::equaliser::Equaliser;
@@ -46,7 +46,7 @@ pub extern "C" fn tigbulode_run(
     z: &mut [i32],
     theta: &mut [u8],
 ) -> u8
-    ensures { λ n. ⌜ InPlace (now (s .entry)) (lentOf (now (m .entry)) (now (gains .entry)) (now (entries .entry)) (now (y .entry)) (now (xi .entry)) (now (decision .entry)) (now (z .entry)) (now (theta .entry))) n (now (s .exit)) (outputsOf (now (y .exit)) (now (xi .exit)) (now (decision .exit)) (now (z .exit)) (now (theta .exit))) ⌝ }
+    ensures { λ n. ⌜ InPlace (now (s .entry)) (buffersOf (now (m .entry)) (now (gains .entry)) (now (entries .entry)) (now (y .entry)) (now (xi .entry)) (now (decision .entry)) (now (z .entry)) (now (theta .entry))) n (now (s .exit)) (outputsOf (now (y .exit)) (now (xi .exit)) (now (decision .exit)) (now (z .exit)) (now (theta .exit))) ⌝ }
 {
     let r = station::run::run(*s, m, gains, entries, y, xi, decision, z, theta);
     *s = r.state;
@@ -66,7 +66,7 @@ pub extern "C" fn tigbulode_trial(
     z: &mut [i32],
     theta: &mut [u8],
 ) -> Answer
-    ensures { λ a. ⌜ Trial (now (s .entry)) (lentOf (now (m .entry)) (now (gains .entry)) (now (entries .entry)) (now (y .entry)) (now (xi .entry)) (now (decision .entry)) (now (z .entry)) (now (theta .entry))) a (now (s .exit)) (outputsOf (now (y .exit)) (now (xi .exit)) (now (decision .exit)) (now (z .exit)) (now (theta .exit))) ⌝ }
+    ensures { λ a. ⌜ Trial (now (s .entry)) (buffersOf (now (m .entry)) (now (gains .entry)) (now (entries .entry)) (now (y .entry)) (now (xi .entry)) (now (decision .entry)) (now (z .entry)) (now (theta .entry))) a (now (s .exit)) (outputsOf (now (y .exit)) (now (xi .exit)) (now (decision .exit)) (now (z .exit)) (now (theta .exit))) ⌝ }
 {
     let r = station::run::run(*s, m, gains, entries, y, xi, decision, z, theta);
     r

@@ -9,9 +9,9 @@ use lib.IntN.{ℤ, pos}
 use mir.Syntax.{Width, w8, w16, w32, w64, w128}
 use mir.Val.{SFits, bits, ofZ, toZ}
 use mir.Facts.{toZ-ofZ, ofZ-toZ, fits-ofZ}
-use Rattle.laws.specs.Sums.{Each, each-take, each-drop}
+use Rattle.laws.specs.Sums.{Each, each-append, each-take, each-drop}
 use Rattle.image.specs.Image.{Byte, bytes, width, words}
-use Rattle.image.specs.Load.{number, wordsOf}
+use Rattle.image.specs.Load.{littleEndian, wordsOf}
 
 -- ---- a number and its bytes
 
@@ -29,16 +29,26 @@ pub four-bytes : (n : ℕ) → bytes 4 n ≡ n % 256 ∷ n / 256 % 256 ∷ n / 2
 unfolding bytes
 four-bytes n = refl
 
-pub number-bytes : (k n : ℕ) → n < 256 ^ k → number (bytes k n) ≡ n
-unfolding number bytes
-number-bytes zero n h = omega arith
-number-bytes (suc k) n h = omega (arith, number-bytes k (n / 256) (omega arith))
+pub bytes-each : (k n : ℕ) → Each Byte (bytes k n)
+unfolding bytes
+bytes-each zero n = tt
+bytes-each (suc k) n = (omega arith, bytes-each k (n / 256))
 
-pub bytes-number : (l : List ℕ) → Each Byte l → bytes (length l) (number l) ≡ l
-unfolding number bytes
-bytes-number [] h = refl
-bytes-number (b ∷ l) h =
-    ap₂ (λ (a : ℕ) (r : List ℕ). a ∷ r) (low b (number l) (h .0)) (ap (bytes (length l)) (high b (number l) (h .0)) ∙ bytes-number l (h .1))
+pub words-each : (w : Width) (l : List ℤ) → Each Byte (words w l)
+unfolding words
+words-each w [] = tt
+words-each w (z ∷ l) = each-append Byte (bytes (width w) (ofZ w z)) (words w l) (bytes-each (width w) (ofZ w z)) (words-each w l)
+
+pub little-endian-bytes : (k n : ℕ) → n < 256 ^ k → littleEndian (bytes k n) ≡ n
+unfolding littleEndian bytes
+little-endian-bytes zero n h = omega arith
+little-endian-bytes (suc k) n h = omega (arith, little-endian-bytes k (n / 256) (omega arith))
+
+pub bytes-little-endian : (l : List ℕ) → Each Byte l → bytes (length l) (littleEndian l) ≡ l
+unfolding littleEndian bytes
+bytes-little-endian [] h = refl
+bytes-little-endian (b ∷ l) h =
+    ap₂ (λ (a : ℕ) (r : List ℕ). a ∷ r) (low b (littleEndian l) (h .0)) (ap (bytes (length l)) (high b (littleEndian l) (h .0)) ∙ bytes-little-endian l (h .1))
   where
     low : (b n : ℕ) → b < 256 → (b + 256 * n) % 256 ≡ b
     low b n h = omega arith
@@ -46,10 +56,10 @@ bytes-number (b ∷ l) h =
     high : (b n : ℕ) → b < 256 → (b + 256 * n) / 256 ≡ n
     high b n h = omega arith
 
-number-below : (l : List ℕ) → Each Byte l → number l < 256 ^ length l
-unfolding number
-number-below [] h = omega arith
-number-below (b ∷ l) h = more b (number l) (length l) (h .0) (number-below l (h .1))
+little-endian-below : (l : List ℕ) → Each Byte l → littleEndian l < 256 ^ length l
+unfolding littleEndian
+little-endian-below [] h = omega arith
+little-endian-below (b ∷ l) h = more b (littleEndian l) (length l) (h .0) (little-endian-below l (h .1))
   where
     more : (b n k : ℕ) → b < 256 → n < 256 ^ k → b + 256 * n < 256 ^ suc k
     more b n k h j = omega arith
@@ -99,14 +109,14 @@ module _ (w : Width) where
   words-count (suc n) l = ap suc (words-count n (drop (width w) l))
 
   -- word i of n
-  pub word-at : (n i : ℕ) (l : List ℕ) → i < n → getD (wordsOf w n l) i (pos 0) ≡ toZ w (number (take (width w) (drop (width w * i) l)))
+  pub word-at : (n i : ℕ) (l : List ℕ) → i < n → getD (wordsOf w n l) i (pos 0) ≡ toZ w (littleEndian (take (width w) (drop (width w * i) l)))
   unfolding wordsOf
   word-at zero i l h = absurd (omega arith)
-  word-at (suc n) zero l h = let e : 0 ≡ width w * 0 = omega arith in ap (λ (j : ℕ). toZ w (number (take (width w) (drop j l)))) e
+  word-at (suc n) zero l h = let e : 0 ≡ width w * 0 = omega arith in ap (λ (j : ℕ). toZ w (littleEndian (take (width w) (drop j l)))) e
   word-at (suc n) (suc i) l h =
       let e : width w + width w * i ≡ width w * suc i = omega arith in
       word-at n i (drop (width w) l) (omega arith)
-      ∙ ap (λ (r : List ℕ). toZ w (number (take (width w) r))) (drop-drop (width w * i) (width w) l ∙ ap (λ (j : ℕ). drop j l) e)
+      ∙ ap (λ (r : List ℕ). toZ w (littleEndian (take (width w) r))) (drop-drop (width w * i) (width w) l ∙ ap (λ (j : ℕ). drop j l) e)
 
   pub words-back : (l : List ℤ) → Each (SFits w) l → wordsOf w (length l) (words w l) ≡ l
   unfolding words wordsOf
@@ -115,15 +125,15 @@ module _ (w : Width) where
       let b = bytes (width w) (ofZ w z) in
       let long = bytes-length (width w) (ofZ w z) in
       ap₂ (λ (a : ℤ) (r : List ℤ). a ∷ r)
-      (ap (λ (r : List ℕ). toZ w (number r)) (take-at b (words w l) (width w) long)
-      ∙ ap (toZ w) (number-bytes (width w) (ofZ w z) (rw (width-bits w) (fits-ofZ (h .0) .fits))) ∙ toZ-ofZ (h .0))
+      (ap (λ (r : List ℕ). toZ w (littleEndian r)) (take-at b (words w l) (width w) long)
+      ∙ ap (toZ w) (little-endian-bytes (width w) (ofZ w z) (rw (width-bits w) (fits-ofZ (h .0) .fits))) ∙ toZ-ofZ (h .0))
       (ap (wordsOf w (length l)) (drop-at b (words w l) (width w) long) ∙ words-back l (h .1))
 
-  word-back : (b : List ℕ) → length b ≡ width w → Each Byte b → bytes (width w) (ofZ w (toZ w (number b))) ≡ b
-  word-back b e h = ap (bytes (width w)) (ofZ-toZ {w = w} (record { fits = below })) ∙ ap (λ (k : ℕ). bytes k (number b)) (sym e) ∙ bytes-number b h
+  word-back : (b : List ℕ) → length b ≡ width w → Each Byte b → bytes (width w) (ofZ w (toZ w (littleEndian b))) ≡ b
+  word-back b e h = ap (bytes (width w)) (ofZ-toZ {w = w} (record { fits = below })) ∙ ap (λ (k : ℕ). bytes k (littleEndian b)) (sym e) ∙ bytes-little-endian b h
     where
-      below : number b < 2 ^ bits w
-      below = rw (sym (width-bits w), sym e) (number-below b h)
+      below : littleEndian b < 2 ^ bits w
+      below = rw (sym (width-bits w), sym e) (little-endian-below b h)
 
   -- for a list of n numbers
   pub words-forth : (n : ℕ) (l : List ℕ) → length l ≡ width w * n → Each Byte l → words w (wordsOf w n l) ≡ l

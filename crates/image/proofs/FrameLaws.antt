@@ -8,11 +8,11 @@ use lib.ListN.{length, take, drop}
 use lib.IntN.{ℤ}
 use mir.Syntax.{Width}
 use borrow.Author.Tests.{lt-leb, le-leb, eq-eqb, ne-eqb}
-use Rattle.steps.specs.Limits.{places}
+use Rattle.steps.specs.Limits.{slots}
 use Rattle.state.specs.Sizes.{sizesFit, given}
 use Rattle.state.specs.State.{settings, padded}
-use Rattle.image.specs.Image.{width, headerLength, weightWord, datumWord, dataPlace, endPlace}
-use Rattle.image.specs.Load.{number, wordsOf, byteAt, tapsIn, stateIn, frameNumber}
+use Rattle.image.specs.Image.{width, imageHeaderLength, weightWord, datumWord, dataPlace, endPlace}
+use Rattle.image.specs.Load.{littleEndian, wordsOf, byteAt, tapsIn, stateIn, frameNumber}
 use Rattle.state.specs.declared.equaliser.Equaliser.{Equaliser}
 use Rattle.state.proofs.SizesLaws.{fit-within}
 use Rattle.image.proofs.ByteLaws.{take-each}
@@ -21,23 +21,23 @@ use Rattle.image.proofs.LoadLaws.{frame-tests}
 -- ---- the number
 
 module _ (l : List ℕ) where
-  pub frame-short : length l < headerLength → 8 ≡ frameNumber l
+  pub frame-short : length l < imageHeaderLength → 8 ≡ frameNumber l
   unfolding frameNumber
-  frame-short h = simp (lt-leb headerLength (length l) h)
+  frame-short h = simp (lt-leb imageHeaderLength (length l) h)
 
-  module _ (h : headerLength ≤ length l) where
+  module _ (h : imageHeaderLength ≤ length l) where
     pub frame-sizes : sizesFit (given (byteAt l 0) (byteAt l 1) (byteAt l 2) (byteAt l 3) (byteAt l 4) 0) ≡ false → 1 ≡ frameNumber l
     unfolding frameNumber stateIn
-    frame-sizes f = rw (le-leb headerLength (length l) h, f)
+    frame-sizes f = rw (le-leb imageHeaderLength (length l) h, f)
 
     module _ (f : sizesFit (given (byteAt l 0) (byteAt l 1) (byteAt l 2) (byteAt l 3) (byteAt l 4) 0) ≡ true) where
       pub frame-exact : length l ≡ endPlace (tapsIn l) → 0 ≡ frameNumber l
       unfolding frameNumber stateIn
-      frame-exact e = rw (le-leb headerLength (length l) h, f, eq-eqb (length l) (endPlace (tapsIn l)) e)
+      frame-exact e = rw (le-leb imageHeaderLength (length l) h, f, eq-eqb (length l) (endPlace (tapsIn l)) e)
 
       pub frame-other : (length l ≡ endPlace (tapsIn l) → ⊥) → 8 ≡ frameNumber l
       unfolding frameNumber stateIn
-      frame-other e = rw (le-leb headerLength (length l) h, f, ne-eqb (length l) (endPlace (tapsIn l)) e)
+      frame-other e = rw (le-leb imageHeaderLength (length l) h, f, ne-eqb (length l) (endPlace (tapsIn l)) e)
 
 -- ---- bytes that pass
 
@@ -46,18 +46,18 @@ module _ (l : List ℕ) (h : frameNumber l ≡ 0) where
   unfolding stateIn
   framed-long = frame-tests l h .2
 
-  pub framed-few : tapsIn l ≤ places
+  pub framed-few : tapsIn l ≤ slots
   unfolding stateIn
   framed-few = let w = fit-within (settings (stateIn l)) (frame-tests l h .1) in omega (arith, w .p-most, w .q-most)
 
 -- ---- the state
 
-module _ (l : List ℕ) (h : headerLength ≤ length l) where
-  number-in : (m : ℕ) → m ≡ byteAt l 8 + 256 * byteAt l 9 + 65536 * (byteAt l 10 + 256 * byteAt l 11) → m ≡ number (take 4 (drop 8 l))
-  unfolding number
-  number-in m e = e ∙ four (byteAt l 8) (byteAt l 9) (byteAt l 10) (byteAt l 11) ∙ sym (ap number (take-each 4 8 l (omega arith)))
+module _ (l : List ℕ) (h : imageHeaderLength ≤ length l) where
+  little-endian-in : (m : ℕ) → m ≡ byteAt l 8 + 256 * byteAt l 9 + 65536 * (byteAt l 10 + 256 * byteAt l 11) → m ≡ littleEndian (take 4 (drop 8 l))
+  unfolding littleEndian
+  little-endian-in m e = e ∙ four (byteAt l 8) (byteAt l 9) (byteAt l 10) (byteAt l 11) ∙ sym (ap littleEndian (take-each 4 8 l (omega arith)))
     where
-      four : (a b c d : ℕ) → a + 256 * b + 65536 * (c + 256 * d) ≡ number (a ∷ b ∷ c ∷ d ∷ [])
+      four : (a b c d : ℕ) → a + 256 * b + 65536 * (c + 256 * d) ≡ littleEndian (a ∷ b ∷ c ∷ d ∷ [])
       four a b c d = omega arith
 
   words-at : (w : Width) (i j n : ℕ) (x : List ℤ) → j ≡ i + width w * n → x ≡ padded (wordsOf w n (take (j - i) (drop i l))) → x ≡ padded (wordsOf w n (take (width w * n) (drop i l)))
@@ -72,7 +72,7 @@ module _ (l : List ℕ) (h : headerLength ≤ length l) where
     l = byteAt l 4;
     psi = byteAt l 5;
     b = byteAt l 6;
-    big = byteAt l 7;
+    bmax = byteAt l 7;
     m = m;
     weights = w;
     past = d;
@@ -80,10 +80,10 @@ module _ (l : List ℕ) (h : headerLength ≤ length l) where
 
   -- each part of the state from its bytes
   pub state-made : (m : ℕ) (w d : List ℤ) → m ≡ byteAt l 8 + 256 * byteAt l 9 + 65536 * (byteAt l 10 + 256 * byteAt l 11) →
-      w ≡ padded (wordsOf weightWord (tapsIn l) (take (dataPlace (tapsIn l) - headerLength) (drop headerLength l))) →
+      w ≡ padded (wordsOf weightWord (tapsIn l) (take (dataPlace (tapsIn l) - imageHeaderLength) (drop imageHeaderLength l))) →
       d ≡ padded (wordsOf datumWord (tapsIn l) (take (endPlace (tapsIn l) - dataPlace (tapsIn l)) (drop (dataPlace (tapsIn l)) l))) →
       made m w d ≡ stateIn l
   unfolding stateIn
   state-made m w d e u v =
       let t = tapsIn l in
-      λ i. made (number-in m e i) (words-at weightWord headerLength (dataPlace t) t w refl u i) (words-at datumWord (dataPlace t) (endPlace t) t d refl v i)
+      λ i. made (little-endian-in m e i) (words-at weightWord imageHeaderLength (dataPlace t) t w refl u i) (words-at datumWord (dataPlace t) (endPlace t) t d refl v i)

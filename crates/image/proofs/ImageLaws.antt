@@ -6,19 +6,19 @@ use Prim.Native.Nat.{ℕ, suc, _+_, _*_, _-_, _/_, _%_, _≤_, _<_}
 use native.Mathlib.Omega.{arith}
 use native.Mathlib.Nat.{mod-eq-of-lt}
 use native.Mathlib.Numerals.{add-one}
-use lib.Dec.{leb, ltb→lt}
+use lib.Dec.{leb, eqb, ltb→lt}
 use lib.ListN.{length, getD, take, drop, set, length-append, length-set, drop-of-length-le}
 use lib.Seq.{sets, sets-eq, lt-length-sets, take-suc-set, take-all, take-at, drop-at, append-snoc}
 use lib.IntN.{ℤ, pos, negsuc, natAbs, _+ℤ_}
 use lib.Signed.{_≤ℤ_, _<ℤ_}
 use mir.Syntax.{w16}
 use mir.Val.{SFits, ofZ}
-use borrow.Author.Tests.{le-ltb, le-leb, lt-leb, eq-eqb, ne-eqb, eqb-false}
+use borrow.Author.Tests.{le-ltb, le-leb, lt-leb, eq-eqb, ne-eqb, eqb-true, eqb-false}
 use borrow.Rule.Slice.PartMut.{putMid, post-is}
-use Rattle.steps.specs.Limits.{places}
+use Rattle.steps.specs.Limits.{slots}
 use Rattle.state.specs.State.{settings, taps}
 use Rattle.state.specs.Answers.{examined}
-use Rattle.image.specs.Image.{bytes, width, words, header, headerLength, weightWord, datumWord, image, dataPlace, imageLength, saveNumber, Save}
+use Rattle.image.specs.Image.{bytes, width, words, header, imageHeaderLength, weightWord, datumWord, image, dataPlace, imageLength, saveNumber, Save}
 use Rattle.state.specs.declared.equaliser.Equaliser.{Equaliser}
 use Rattle.state.proofs.SizesLaws.{fit-within}
 use Rattle.state.proofs.SoundLaws.{examined-tests}
@@ -75,17 +75,17 @@ module _ {src : List ℤ} {i : ℕ} {out : List ℕ} (p : Put src i out) where
 
 -- ---- the header
 
-pub header-length : (e : Equaliser) → length (header e) ≡ headerLength
+pub header-length : (e : Equaliser) → length (header e) ≡ imageHeaderLength
 unfolding bytes
 header-length e = refl
 
 -- a place of the header while the bytes before it are stored
-pub header-room : (e : Equaliser) (out : List ℕ) (k : ℕ) → length out ≡ headerLength → k < headerLength → k < length (sets out 0 (take k (header e)))
+pub header-room : (e : Equaliser) (out : List ℕ) (k : ℕ) → length out ≡ imageHeaderLength → k < imageHeaderLength → k < length (sets out 0 (take k (header e)))
 header-room e out k h b = lt-length-sets out 0 (take k (header e)) (omega arith)
 
-pub header-put : (e : Equaliser) (out : List ℕ) → length out ≡ headerLength → sets out 0 (header e) ≡ header e
+pub header-put : (e : Equaliser) (out : List ℕ) → length out ≡ imageHeaderLength → sets out 0 (header e) ≡ header e
 unfolding bytes
-header-put e out h = sets-eq (header e) out 0 (omega arith) ∙ ap (λ (r : List ℕ). header e ++ r) (drop-of-length-le out {i = headerLength} (omega arith))
+header-put e out h = sets-eq (header e) out 0 (omega arith) ∙ ap (λ (r : List ℕ). header e ++ r) (drop-of-length-le out {i = imageHeaderLength} (omega arith))
 
 -- ---- the image
 
@@ -105,16 +105,16 @@ next-part p ys xs a e h k =
 
 -- the header and both lists of words at the front of a buffer
 pub image-put : (e : Equaliser) (before h u v : List ℕ) → taps e ≤ length (e .weights) → taps e ≤ length (e .past) → h ≡ header e → u ≡ words weightWord (take (taps e) (e .weights)) → v ≡ words datumWord (take (taps e) (e .past)) →
-    putMid (dataPlace (taps e)) (imageLength e - dataPlace (taps e)) (putMid headerLength (dataPlace (taps e) - headerLength) (h ++ drop headerLength before) u) v
+    putMid (dataPlace (taps e)) (imageLength e - dataPlace (taps e)) (putMid imageHeaderLength (dataPlace (taps e) - imageHeaderLength) (h ++ drop imageHeaderLength before) u) v
     ≡ image e ++ drop (imageLength e) before
 unfolding image
 image-put e before h u v w d hs us vs =
     let mid = dataPlace (taps e) in
-    ap (λ (l : List ℕ). putMid mid (imageLength e - mid) l v) (next-part h u before headerLength mid long-h (omega (arith, long-u)))
+    ap (λ (l : List ℕ). putMid mid (imageLength e - mid) l v) (next-part h u before imageHeaderLength mid long-h (omega (arith, long-u)))
     ∙ next-part (h ++ u) v before mid (imageLength e) (length-append h u ∙ omega (arith, long-h, long-u)) (omega (arith, long-v))
     ∙ ap (λ (l : List ℕ). l ++ drop (imageLength e) before) (append-assoc h u v ∙ all-is)
   where
-    long-h : length h ≡ headerLength
+    long-h : length h ≡ imageHeaderLength
     long-h = ap length hs ∙ header-length e
 
     long-u : length u ≡ width weightWord * taps e
@@ -128,7 +128,7 @@ image-put e before h u v w d hs us vs =
 
 -- ---- a state that may be saved
 
-pub taps-most : (e : Equaliser) → examined e ≡ 0 → taps e ≤ places
+pub taps-most : (e : Equaliser) → examined e ≡ 0 → taps e ≤ slots
 taps-most e h = let w = fit-within (settings e) (examined-tests e h .0) in omega (arith, w .p-most, w .q-most)
 
 -- what saving answers
@@ -155,12 +155,21 @@ module _ (e : Equaliser) (before : List ℕ) where
   unfolding saveNumber
   save-short h k = refused 7 (simp (eq-eqb (examined e) 0 h, lt-leb (imageLength e) (length before) k)) (eqb-false 7 0 refl)
 
-  accepted : examined e ≡ 0 → imageLength e ≤ length before → saveNumber e before ≡ 0
+  -- a save that is accepted, and the state that it accepted
+  pub save-fits : examined e ≡ 0 → imageLength e ≤ length before → saveNumber e before ≡ 0
   unfolding saveNumber
-  accepted h k = simp (eq-eqb (examined e) 0 h, le-leb (imageLength e) (length before) k)
+  save-fits h k = simp (eq-eqb (examined e) 0 h, le-leb (imageLength e) (length before) k)
+
+  pub save-examined : saveNumber e before ≡ 0 → examined e ≡ 0
+  unfolding saveNumber
+  save-examined h = go (eqb (examined e) 0) refl h
+    where
+      go : (b : Bool) → eqb (examined e) 0 ≡ b → cond b (cond (leb (imageLength e) (length before)) 0 7) (examined e) ≡ 0 → examined e ≡ 0
+      go true t q = eqb-true (examined e) 0 t
+      go false t q = q
 
   pub save-done : (n : ℕ) (after : List ℕ) → examined e ≡ 0 → imageLength e ≤ length before → n ≡ imageLength e → after ≡ image e ++ drop (imageLength e) before →
       Save e before (record { number = 0; length = n }) after
   save-done n after h k l c =
-      let t = accepted h k in
+      let t = save-fits h k in
       record { number = sym t; saved-length = simp t l; contents = simp t c }

@@ -19,7 +19,7 @@ module _ (l : List ℕ) where
   unfolding loadNumber
   number-state h = rw (eq-eqb (frameNumber l) 0 h)
 
-  state-refused : (loadNumber l ≡ 0 → ⊥) → loadState l ≡ refused
+  pub state-refused : (loadNumber l ≡ 0 → ⊥) → loadState l ≡ refused
   unfolding loadState
   state-refused h = rw (ne-eqb (loadNumber l) 0 h)
 

@@ -12,24 +12,25 @@ use mir.Syntax.{Width}
 use mir.Val.{SFits}
 use borrow.Author.Tests.{le-leb, eq-eqb, eqb-true, eqb-false, leb-true}
 use Rattle.laws.specs.Lists.{all}
-use Rattle.laws.specs.Sums.{Each, each-take, each-drop}
+use Rattle.laws.specs.Sums.{Each, each-append, each-take, each-drop}
 use Rattle.state.specs.Sizes.{sizesFit}
-use Rattle.steps.specs.Limits.{places}
-use Rattle.state.specs.State.{settings, taps, padded, isZero, refused}
+use Rattle.steps.specs.Limits.{slots}
+use Rattle.block.specs.Sound.{Sound}
+use Rattle.state.specs.State.{settings, memory, taps, padded, isZero, refused}
 use Rattle.state.specs.Answers.{examined}
-use Rattle.image.specs.Image.{Byte, bytes, width, words, header, headerLength, weightWord, datumWord, image, dataPlace, endPlace, imageLength}
-use Rattle.image.specs.Load.{number, wordsOf, tapsIn, weightBytes, pastBytes, stateIn, frameNumber, loadNumber, loadState}
+use Rattle.image.specs.Image.{Byte, bytes, width, words, header, imageHeaderLength, weightWord, datumWord, image, dataPlace, endPlace, imageLength, saveNumber, saveLength, saveBuffer}
+use Rattle.image.specs.Load.{littleEndian, wordsOf, tapsIn, weightBytes, pastBytes, stateIn, frameNumber, loadNumber, loadState}
 use Rattle.state.specs.declared.equaliser.Equaliser.{Equaliser}
-use Rattle.state.proofs.SoundLaws.{Accepted, refused-accepted, examined-tests}
+use Rattle.state.proofs.SoundLaws.{Accepted, accepted-sound, refused-accepted, examined-tests}
 use Rattle.image.proofs.StateBits.{spare-zero, step-bits, weights-bits, past-bits}
-use Rattle.image.proofs.ImageLaws.{taps-most, image-length}
-use Rattle.image.proofs.ByteLaws.{take-each, number-bytes, bytes-number, words-long, words-count, words-back, words-forth}
+use Rattle.image.proofs.ImageLaws.{taps-most, image-length, save-fits}
+use Rattle.image.proofs.ByteLaws.{bytes-each, words-each, take-each, little-endian-bytes, bytes-little-endian, words-long, words-count, words-back, words-forth}
 use Rattle.state.proofs.PaddedLaws.{padded-back, padded-long}
 
 -- ---- the tests of loading
 
 module _ (l : List ℕ) where
-  three : (a b c : Bool) → leb headerLength (length l) ≡ a → sizesFit (settings (stateIn l)) ≡ b → eqb (length l) (imageLength (stateIn l)) ≡ c →
+  three : (a b c : Bool) → leb imageHeaderLength (length l) ≡ a → sizesFit (settings (stateIn l)) ≡ b → eqb (length l) (imageLength (stateIn l)) ≡ c →
       frameNumber l ≡ 0 → (a ≡ true) × (b ≡ true) × (c ≡ true)
   unfolding frameNumber
   three true true true x y z h = (refl, refl, refl)
@@ -38,11 +39,11 @@ module _ (l : List ℕ) where
   three true false false x y z h = absurd (omega (arith, simp (x, y, z) at h))
   three false b c x y z h = absurd (omega (arith, simp x at h))
 
-  pub frame-tests : frameNumber l ≡ 0 → (headerLength ≤ length l) × (sizesFit (settings (stateIn l)) ≡ true) × (length l ≡ imageLength (stateIn l))
+  pub frame-tests : frameNumber l ≡ 0 → (imageHeaderLength ≤ length l) × (sizesFit (settings (stateIn l)) ≡ true) × (length l ≡ imageLength (stateIn l))
   frame-tests h =
       let s = stateIn l in
-      let t = three (leb headerLength (length l)) (sizesFit (settings s)) (eqb (length l) (imageLength s)) refl refl refl h in
-      (leb-true headerLength (length l) (t .0), t .1, eqb-true (length l) (imageLength s) (t .2))
+      let t = three (leb imageHeaderLength (length l)) (sizesFit (settings s)) (eqb (length l) (imageLength s)) refl refl refl h in
+      (leb-true imageHeaderLength (length l) (t .0), t .1, eqb-true (length l) (imageLength s) (t .2))
 
 both-zero : (f x : ℕ) (t : Bool) → eqb f 0 ≡ t → cond t x f ≡ 0 → (f ≡ 0) × (x ≡ 0)
 both-zero f x true e h = (eqb-true f 0 e, h)
@@ -54,7 +55,7 @@ load-tests l h = both-zero (frameNumber l) (examined (stateIn l)) (eqb (frameNum
 
 framed : (l : List ℕ) (e : Equaliser) → stateIn l ≡ e → length l ≡ imageLength e → sizesFit (settings e) ≡ true → frameNumber l ≡ 0
 unfolding frameNumber
-framed l e h k f = rw (h, k, le-leb headerLength (imageLength e) (omega arith), f, eq-eqb (imageLength e) (imageLength e) refl)
+framed l e h k f = rw (h, k, le-leb imageHeaderLength (imageLength e) (omega arith), f, eq-eqb (imageLength e) (imageLength e) refl)
 
 accepted : (l : List ℕ) (e : Equaliser) → stateIn l ≡ e → length l ≡ imageLength e → examined e ≡ 0 → loadNumber l ≡ 0
 unfolding loadNumber
@@ -69,8 +70,8 @@ module _ (e : Equaliser) (a : Accepted e) where
   past-within : taps e ≤ length (e .past)
   past-within = omega (arith, taps-most e (a .number), a .weights-long, a .past-long)
 
-  -- an array from the words of its first places
-  array-in : (w : Width) (l : List ℤ) → length l ≡ places → Each (SFits w) (take (taps e) l) → all isZero (drop (taps e) l) ≡ true → padded (wordsOf w (taps e) (words w (take (taps e) l))) ≡ l
+  -- an array from the words of its first slots
+  array-in : (w : Width) (l : List ℤ) → length l ≡ slots → Each (SFits w) (take (taps e) l) → all isZero (drop (taps e) l) ≡ true → padded (wordsOf w (taps e) (words w (take (taps e) l))) ≡ l
   array-in w l long fit spare =
       ap (λ (n : ℕ). padded (wordsOf w n (words w (take (taps e) l)))) (sym (length-take-le (taps e) l (omega (arith, taps-most e (a .number)))))
       ∙ ap padded (words-back w (take (taps e) l) fit)
@@ -89,12 +90,12 @@ module _ (e : Equaliser) (a : Accepted e) where
       let w = words weightWord (take (taps e) (e .weights)) in
       let d = words datumWord (take (taps e) (e .past)) in
       ap (λ (l : List ℕ). padded (wordsOf datumWord (taps e) (take (width datumWord * taps e) l)))
-      (sym (drop-drop (width weightWord * taps e) headerLength (image e)) ∙ drop-at w d (width weightWord * taps e) (words-long weightWord (taps e) (e .weights) weights-within))
+      (sym (drop-drop (width weightWord * taps e) imageHeaderLength (image e)) ∙ drop-at w d (width weightWord * taps e) (words-long weightWord (taps e) (e .weights) weights-within))
       ∙ ap (λ (l : List ℕ). padded (wordsOf datumWord (taps e) l)) (take-all (width datumWord * taps e) d (omega (arith, words-long datumWord (taps e) (e .past) past-within)))
       ∙ array-in datumWord (e .past) (a .past-long) (past-bits e a) (spare-zero e (a .number) .1)
 
-  step-in : number (bytes 4 (e .m)) ≡ e .m
-  step-in = number-bytes 4 (e .m) (step-bits e a)
+  step-in : littleEndian (bytes 4 (e .m)) ≡ e .m
+  step-in = little-endian-bytes 4 (e .m) (step-bits e a)
 
   state-in : stateIn (image e) ≡ e
   unfolding stateIn image bytes
@@ -106,31 +107,80 @@ module _ (e : Equaliser) (a : Accepted e) where
     l = e .l;
     psi = e .psi;
     b = e .b;
-    big = e .big;
+    bmax = e .bmax;
     m = step-in i;
     weights = weights-in i;
     past = past-in i;
   }
 
+  image-long : length (image e) ≡ imageLength e
+  image-long = image-length e weights-within past-within
+
   pub load-image : (loadNumber (image e) ≡ 0) × (loadState (image e) ≡ e)
   unfolding loadState
   load-image =
-      let n = accepted (image e) e state-in (image-length e weights-within past-within) (a .number) in
+      let n = accepted (image e) e state-in image-long (a .number) in
       (n, rw n state-in)
+
+  -- what an accepted save leaves: the image, as long as it says, and later bytes as they were
+  module _ (buffer : List ℕ) (ok : saveNumber e buffer ≡ 0) where
+    pub saved-front : take (saveLength e buffer) (saveBuffer e buffer) ≡ image e
+    saved-front = rw ok (take-at (image e) (drop (imageLength e) buffer) (imageLength e) image-long)
+
+    pub saved-rest : drop (saveLength e buffer) (saveBuffer e buffer) ≡ drop (saveLength e buffer) buffer
+    saved-rest = rw ok (drop-at (image e) (drop (imageLength e) buffer) (imageLength e) image-long)
+
+  -- an image is bytes
+  header-bytes : Each Byte (header e)
+  header-bytes = (p, (q, (n, (r, (l, (psi, (b, (bmax, bytes-each 4 (e .m)))))))))
+    where
+      s : Sound (settings e) (memory e)
+      s = accepted-sound a
+
+      p : Byte (e .p)
+      p = omega (arith, s .within .p-most)
+
+      q : Byte (e .q)
+      q = omega (arith, s .within .q-most)
+
+      n : Byte (e .n)
+      n = omega (arith, s .within .N-most)
+
+      r : Byte (e .r)
+      r = omega (arith, s .within .r-most)
+
+      l : Byte (e .l)
+      l = omega (arith, s .within .L-most)
+
+      psi : Byte (e .psi)
+      psi = omega (arith, s .ψ-most)
+
+      b : Byte (e .b)
+      b = omega (arith, s .b-most, s .B-most)
+
+      bmax : Byte (e .bmax)
+      bmax = omega (arith, s .B-most)
+
+  pub image-bytes : Each Byte (image e)
+  unfolding image
+  image-bytes =
+      each-append Byte (header e) (words weightWord (take (taps e) (e .weights)) ++ words datumWord (take (taps e) (e .past))) header-bytes
+      (each-append Byte (words weightWord (take (taps e) (e .weights))) (words datumWord (take (taps e) (e .past)))
+      (words-each weightWord (take (taps e) (e .weights))) (words-each datumWord (take (taps e) (e .past))))
 
 -- ---- accepted bytes are an image
 
-header-in : (l : List ℕ) → headerLength ≤ length l → Each Byte l → header (stateIn l) ≡ take headerLength l
+header-in : (l : List ℕ) → imageHeaderLength ≤ length l → Each Byte l → header (stateIn l) ≡ take imageHeaderLength l
 unfolding stateIn
 header-in l h b =
     let m = take 4 (drop 8 l) in
     ap₂ (λ (x y : List ℕ). x ++ y) (sym (take-each 8 0 l (omega arith)))
-    (ap (λ (k : ℕ). bytes k (number m)) (sym (length-take-le 4 (drop 8 l) (omega (arith, length-drop 8 l)))) ∙ bytes-number m (each-take Byte 4 (drop 8 l) (each-drop Byte 8 l b)))
+    (ap (λ (k : ℕ). bytes k (littleEndian m)) (sym (length-take-le 4 (drop 8 l) (omega (arith, length-drop 8 l)))) ∙ bytes-little-endian m (each-take Byte 4 (drop 8 l) (each-drop Byte 8 l b)))
     ∙ sym (take-add 8 4 l)
 
--- the bytes of n numbers, at the front of the places
+-- the bytes of n numbers, at the front of the slots
 part-in : (w : Width) (n : ℕ) (l : List ℕ) → length l ≡ width w * n → Each Byte l → words w (take n (padded (wordsOf w n l))) ≡ l
-part-in w n l e h = ap (words w) (take-at (wordsOf w n l) (replicate (places - length (wordsOf w n l)) (pos 0)) n (words-count w n l)) ∙ words-forth w n l e h
+part-in w n l e h = ap (words w) (take-at (wordsOf w n l) (replicate (slots - length (wordsOf w n l)) (pos 0)) n (words-count w n l)) ∙ words-forth w n l e h
 
 module _ (l : List ℕ) (b : Each Byte l) (ok : loadNumber l ≡ 0) where
   loaded-sound : examined (stateIn l) ≡ 0
@@ -140,28 +190,28 @@ module _ (l : List ℕ) (b : Each Byte l) (ok : loadNumber l ≡ 0) where
   unfolding stateIn
   long = frame-tests l (load-tests l ok .0) .2
 
-  few : tapsIn l ≤ places
+  few : tapsIn l ≤ slots
   unfolding stateIn
   few = taps-most (stateIn l) loaded-sound
 
   weights-size : length (weightBytes l) ≡ width weightWord * tapsIn l
-  weights-size = length-take-le (width weightWord * tapsIn l) (drop headerLength l) (omega (arith, length-drop headerLength l, long))
+  weights-size = length-take-le (width weightWord * tapsIn l) (drop imageHeaderLength l) (omega (arith, length-drop imageHeaderLength l, long))
 
   past-size : length (pastBytes l) ≡ width datumWord * tapsIn l
   past-size = length-take-le (width datumWord * tapsIn l) (drop (dataPlace (tapsIn l)) l) (omega (arith, length-drop (dataPlace (tapsIn l)) l, long))
 
   weights-are : Each Byte (weightBytes l)
-  weights-are = each-take Byte (width weightWord * tapsIn l) (drop headerLength l) (each-drop Byte headerLength l b)
+  weights-are = each-take Byte (width weightWord * tapsIn l) (drop imageHeaderLength l) (each-drop Byte imageHeaderLength l b)
 
   past-are : Each Byte (pastBytes l)
   past-are = each-take Byte (width datumWord * tapsIn l) (drop (dataPlace (tapsIn l)) l) (each-drop Byte (dataPlace (tapsIn l)) l b)
 
   -- both parts are all that follows the header
-  rest : weightBytes l ++ pastBytes l ≡ drop headerLength l
+  rest : weightBytes l ++ pastBytes l ≡ drop imageHeaderLength l
   rest =
       ap (λ (r : List ℕ). weightBytes l ++ r)
-      (take-all (width datumWord * tapsIn l) (drop (dataPlace (tapsIn l)) l) (omega (arith, length-drop (dataPlace (tapsIn l)) l, long)) ∙ sym (drop-drop (width weightWord * tapsIn l) headerLength l))
-      ∙ take-append-drop (width weightWord * tapsIn l) (drop headerLength l)
+      (take-all (width datumWord * tapsIn l) (drop (dataPlace (tapsIn l)) l) (omega (arith, length-drop (dataPlace (tapsIn l)) l, long)) ∙ sym (drop-drop (width weightWord * tapsIn l) imageHeaderLength l))
+      ∙ take-append-drop (width weightWord * tapsIn l) (drop imageHeaderLength l)
 
   loaded-accepted : Accepted (stateIn l)
   unfolding stateIn
@@ -176,7 +226,7 @@ module _ (l : List ℕ) (b : Each Byte l) (ok : loadNumber l ≡ 0) where
   image-in =
       ap₂ (λ (x y : List ℕ). x ++ y) (header-in l (frame-tests l (load-tests l ok .0) .0) b)
       (ap₂ (λ (x y : List ℕ). x ++ y) (part-in weightWord (tapsIn l) (weightBytes l) weights-size weights-are) (part-in datumWord (tapsIn l) (pastBytes l) past-size past-are) ∙ rest)
-      ∙ take-append-drop headerLength l
+      ∙ take-append-drop imageHeaderLength l
 
 -- whatever bytes are loaded
 pub load-accepted : (l : List ℕ) → Each Byte l → Accepted (loadState l)
@@ -191,3 +241,17 @@ load-accepted l b = go (eqb (loadNumber l) 0) refl
 pub image-loaded : (l : List ℕ) → Each Byte l → loadNumber l ≡ 0 → image (loadState l) ≡ l
 unfolding loadState
 image-loaded l b ok = rw ok (image-in l b ok)
+
+-- to any buffer that is long enough
+pub loaded-saved : (l : List ℕ) → Each Byte l → loadNumber l ≡ 0 → (before : List ℕ) → length l ≤ length before →
+    (saveNumber (loadState l) before ≡ 0) × (saveLength (loadState l) before ≡ length l) × (take (saveLength (loadState l) before) (saveBuffer (loadState l) before) ≡ l)
+loaded-saved l b ok before room = (number, rw number long, saved-front (loadState l) a before number ∙ image-loaded l b ok)
+  where
+    a : Accepted (loadState l)
+    a = load-accepted l b
+
+    long : imageLength (loadState l) ≡ length l
+    long = sym (image-long (loadState l) a) ∙ ap length (image-loaded l b ok)
+
+    number : saveNumber (loadState l) before ≡ 0
+    number = save-fits (loadState l) before (a .number) (omega (arith, long))

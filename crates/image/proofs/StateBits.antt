@@ -16,7 +16,7 @@ use Rattle.laws.specs.Powers.{split, rises, lower, cancel-le}
 use Rattle.laws.specs.Sums.{Each, each-append, each-weaken}
 use Rattle.steps.specs.Limits.{symbolLimit}
 use Rattle.steps.specs.Settings.{scaleForward, stepBound, isEntry}
-use Rattle.steps.specs.Side.{Small, allSmall}
+use Rattle.steps.specs.Fir.{Small, allSmall}
 use Rattle.block.specs.Sound.{Sound}
 use Rattle.steps.proofs.SymbolLaws.{entry-below}
 use Rattle.state.specs.State.{settings, memory, taps, forward, back, samples, filler, symbols, isZero}
@@ -76,6 +76,6 @@ module _ (e : Equaliser) (a : Accepted e) where
       subst (Each (SFits datumWord)) (sym (take-add (e .p) (e .q) (e .past) ∙ ap (λ (l : List ℤ). l ++ symbols e) front))
       (each-append (SFits datumWord) (samples e ++ filler e ∷ []) (symbols e)
       (each-append (SFits datumWord) (samples e) (filler e ∷ [])
-      (each-weaken _ (SFits datumWord) (λ a h. fits-abs a (stored-fits (natAbs a) (e .big) (scaleForward (settings e)) (e .b) (sound .b-most) h)) (samples e) (sound .samples-small))
+      (each-weaken _ (SFits datumWord) (λ a h. fits-abs a (stored-fits (natAbs a) (e .bmax) (scaleForward (settings e)) (e .b) (sound .b-most) h)) (samples e) (sound .samples-small))
       (fits-abs (filler e) (omega (arith, filler-zero)), tt))
       (each-weaken _ (SFits datumWord) (λ v h. fits-abs v (entry-fits (e .r) v (sound .within .r-most) h)) (symbols e) (sound .symbols-are)))

@@ -37,10 +37,10 @@ words w (z ∷ l) = bytes (width w) (ofZ w z) ++ words w l
 
 -- p, q, N, r, L, ψ, b, B and M
 abbrev pub header : Equaliser → List ℕ
-header e = e .p ∷ e .q ∷ e .n ∷ e .r ∷ e .l ∷ e .psi ∷ e .b ∷ e .big ∷ bytes 4 (e .m)
+header e = e .p ∷ e .q ∷ e .n ∷ e .r ∷ e .l ∷ e .psi ∷ e .b ∷ e .bmax ∷ bytes 4 (e .m)
 
-abbrev pub headerLength : ℕ
-headerLength = 12
+abbrev pub imageHeaderLength : ℕ
+imageHeaderLength = 12
 
 -- a weight has 16 bits, and so has a datum
 abbrev pub weightWord : Width
@@ -54,7 +54,7 @@ image e = header e ++ (words weightWord (take (taps e) (e .weights)) ++ words da
 
 -- where the data begin, and where an image ends, from the number of taps
 abbrev pub dataPlace : ℕ → ℕ
-dataPlace t = headerLength + width weightWord * t
+dataPlace t = imageHeaderLength + width weightWord * t
 
 abbrev pub endPlace : ℕ → ℕ
 endPlace t = dataPlace t + width datumWord * t
@@ -67,8 +67,15 @@ imageLength e = endPlace (taps e)
 unfoldable pub saveNumber : Equaliser → List ℕ → ℕ
 saveNumber e buffer = cond (eqb (examined e) 0) (cond (leb (imageLength e) (length buffer)) 0 7) (examined e)
 
+-- the length that it answers, and the buffer that it leaves
+abbrev pub saveLength : Equaliser → List ℕ → ℕ
+saveLength e buffer = cond (eqb (saveNumber e buffer) 0) (imageLength e) 0
+
+abbrev pub saveBuffer : Equaliser → List ℕ → List ℕ
+saveBuffer e buffer = cond (eqb (saveNumber e buffer) 0) (image e ++ drop (imageLength e) buffer) buffer
+
 -- the answer, and the lent buffer at the end
 pub record Save (e : Equaliser) (before : List ℕ) (s : Saved) (after : List ℕ) : Type 0 where
   pub number : s .number ≡ saveNumber e before
-  pub saved-length : s .length ≡ cond (eqb (saveNumber e before) 0) (imageLength e) 0
-  pub contents : after ≡ cond (eqb (saveNumber e before) 0) (image e ++ drop (imageLength e) before) before
+  pub saved-length : s .length ≡ saveLength e before
+  pub contents : after ≡ saveBuffer e before

@@ -11,20 +11,21 @@ use mir.Val.{toZ}
 use Rattle.state.specs.Sizes.{sizesFit}
 use Rattle.state.specs.State.{settings, padded, refused}
 use Rattle.state.specs.Answers.{examined}
-use Rattle.image.specs.Image.{width, headerLength, weightWord, datumWord, dataPlace, imageLength}
+use Rattle.image.specs.Image.{width, imageHeaderLength, weightWord, datumWord, dataPlace, imageLength}
 use Rattle.state.specs.declared.equaliser.Equaliser.{Equaliser}
 use Rattle.state.specs.declared.equaliser.Answer.{Answer}
 
 -- ---- numbers of bytes, lowest first
 
-unfoldable pub number : List ℕ → ℕ
-number [] = 0
-number (b ∷ l) = b + 256 * number l
+-- the lowest byte first
+unfoldable pub littleEndian : List ℕ → ℕ
+littleEndian [] = 0
+littleEndian (b ∷ l) = b + 256 * littleEndian l
 
 -- the first n signed numbers of one width
 unfoldable pub wordsOf : Width → ℕ → List ℕ → List ℤ
 wordsOf w zero l = []
-wordsOf w (suc n) l = toZ w (number (take (width w) l)) ∷ wordsOf w n (drop (width w) l)
+wordsOf w (suc n) l = toZ w (littleEndian (take (width w) l)) ∷ wordsOf w n (drop (width w) l)
 
 -- ---- the parts of an image
 
@@ -35,11 +36,12 @@ abbrev pub tapsIn : List ℕ → ℕ
 tapsIn l = byteAt l 0 + byteAt l 1
 
 abbrev pub weightBytes : List ℕ → List ℕ
-weightBytes l = take (width weightWord * tapsIn l) (drop headerLength l)
+weightBytes l = take (width weightWord * tapsIn l) (drop imageHeaderLength l)
 
 abbrev pub pastBytes : List ℕ → List ℕ
 pastBytes l = take (width datumWord * tapsIn l) (drop (dataPlace (tapsIn l)) l)
 
+-- the state that bytes hold
 unfoldable pub stateIn : List ℕ → Equaliser
 stateIn l = record {
   p = byteAt l 0;
@@ -49,8 +51,8 @@ stateIn l = record {
   l = byteAt l 4;
   psi = byteAt l 5;
   b = byteAt l 6;
-  big = byteAt l 7;
-  m = number (take 4 (drop 8 l));
+  bmax = byteAt l 7;
+  m = littleEndian (take 4 (drop 8 l));
   weights = padded (wordsOf weightWord (tapsIn l) (weightBytes l));
   past = padded (wordsOf datumWord (tapsIn l) (pastBytes l));
 }
@@ -60,7 +62,7 @@ stateIn l = record {
 -- the checks of the bytes alone: 8 below the header's length, 1 on the sizes, 8 if the length isn't exact
 unfoldable pub frameNumber : List ℕ → ℕ
 frameNumber l =
-    cond (leb headerLength (length l)) (cond (sizesFit (settings (stateIn l))) (cond (eqb (length l) (imageLength (stateIn l))) 0 8) 1) 8
+    cond (leb imageHeaderLength (length l)) (cond (sizesFit (settings (stateIn l))) (cond (eqb (length l) (imageLength (stateIn l))) 0 8) 1) 8
 
 -- then 2 and 9
 unfoldable pub loadNumber : List ℕ → ℕ

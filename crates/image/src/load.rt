@@ -3,22 +3,21 @@ ghost use mathlib.Core.Path.{_≡_};
 ghost use Prim.Native.Nat.{_+_, _*_, _≤_};
 ghost use lib.ListN.{length};
 ghost use mir.Syntax.{w16};
-ghost use Rattle.steps.specs.Limits.{places};
+ghost use Rattle.steps.specs.Limits.{slots};
 ghost use Rattle.state.specs.State.{padded};
 ghost use Rattle.image.specs.Image.{width, endPlace};
 ghost use Rattle.image.specs.Load.{wordsOf, tapsIn, stateIn, frameNumber, Load};
-use super::bytes::number32;
 use super::bytes::signed16;
+use super::bytes::unsigned32;
 use state::equaliser::Answer;
 use state::equaliser::Equaliser;
-use steps::limits::PLACES;
 
-// Signed numbers of two bytes each, at the front of the places.
-pub fn words_in(bytes: &[u8], n: usize) -> [i16; PLACES]
-    requires { ⌜ (length (now bytes) ≡ width w16 * n) × (n ≤ places) ⌝ }
+// Signed numbers of two bytes each, at the front of the slots.
+pub fn words_in(bytes: &[u8], n: usize) -> [i16; Equaliser::SLOTS]
+    requires { ⌜ (length (now bytes) ≡ width w16 * n) × (n ≤ slots) ⌝ }
     ensures { λ r. ⌜ r ≡ padded (wordsOf w16 n (now (bytes .entry))) ⌝ }
 {
-    let mut out = [0i16; PLACES];
+    let mut out = [0i16; Equaliser::SLOTS];
     let mut i: usize = 0;
     while i < n {
         out[i] = signed16(bytes[2 * i], bytes[2 * i + 1]);
@@ -47,7 +46,7 @@ pub fn frame_number(bytes: &[u8]) -> u8
 
 // The state in bytes of the right length.
 pub fn state_in(bytes: &[u8]) -> Equaliser
-    requires { ⌜ (length (now bytes) ≡ endPlace (tapsIn (now bytes))) × (tapsIn (now bytes) ≤ places) ⌝ }
+    requires { ⌜ (length (now bytes) ≡ endPlace (tapsIn (now bytes))) × (tapsIn (now bytes) ≤ slots) ⌝ }
     ensures { λ e. ⌜ e ≡ stateIn (now (bytes .entry)) ⌝ }
 {
     let taps = (bytes[0] as usize) + (bytes[1] as usize);
@@ -64,8 +63,8 @@ pub fn state_in(bytes: &[u8]) -> Equaliser
         l: bytes[4],
         psi: bytes[5],
         b: bytes[6],
-        big: bytes[7],
-        m: number32(bytes[8], bytes[9], bytes[10], bytes[11]),
+        bmax: bytes[7],
+        m: unsigned32(bytes[8], bytes[9], bytes[10], bytes[11]),
         weights: weights,
         past: past,
     }

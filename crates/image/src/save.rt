@@ -4,7 +4,7 @@ ghost use Prim.Native.Nat.{_*_};
 ghost use lib.ListN.{length};
 ghost use mir.Syntax.{w16};
 ghost use mir.Val.{ofZ};
-ghost use Rattle.image.specs.Image.{width, words, header, headerLength, Save};
+ghost use Rattle.image.specs.Image.{width, words, header, imageHeaderLength, Save};
 use state::equaliser::Equaliser;
 
 // A number beside the length of an image.
@@ -41,7 +41,7 @@ pub fn put_words(src: &[i16], out: &mut [u8])
 
 // What stands before the weights.
 pub fn put_header(e: Equaliser, out: &mut [u8])
-    requires { ⌜ length (now out) ≡ headerLength ⌝ }
+    requires { ⌜ length (now out) ≡ imageHeaderLength ⌝ }
     ensures { λ _. ⌜ now (out .exit) ≡ header e ⌝ }
 {
     let m = e.m;
@@ -55,7 +55,7 @@ pub fn put_header(e: Equaliser, out: &mut [u8])
     out[4] = e.l;
     out[5] = e.psi;
     out[6] = e.b;
-    out[7] = e.big;
+    out[7] = e.bmax;
     out[8] = (m % 256) as u8;
     out[9] = (m1 % 256) as u8;
     out[10] = (m2 % 256) as u8;

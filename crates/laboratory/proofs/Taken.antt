@@ -9,34 +9,37 @@ use lib.ListN.{length, getD}
 use Rattle.laws.specs.Lists.{all}
 use Rattle.laws.specs.Sums.{each-of}
 use Rattle.steps.specs.Limits.{outputExponentLimit}
-use Rattle.steps.specs.Side.{allBelow}
+use Rattle.steps.specs.Fir.{allBelow}
 use Rattle.steps.proofs.LargestLaws.{below-all}
-use Rattle.block.specs.Block.{handedY, handedξ, handedZ, handedθ}
-use Rattle.block.specs.Holds.{AtSample}
-use Rattle.block.proofs.BlockLeft.{handed-long}
+use Rattle.block.specs.Block.{Outputs, blockOutputs, blockY, blockξ, blockZ, blockθ, AtSample}
+use Rattle.block.proofs.BlockHolds.{OutputAt, output-at}
+use Rattle.block.proofs.BlockMemory.{block-long}
 use Rattle.state.specs.State.{settings, memory}
 use Rattle.state.specs.declared.equaliser.Equaliser.{Equaliser}
 use Rattle.state.proofs.SizesLaws.{fit-within}
-use Rattle.checks.specs.Checks.{Lent, block}
-use Rattle.station.specs.Answers.{runNumber, accepted}
+use Rattle.checks.specs.Checks.{Buffers, block}
+use Rattle.station.specs.Answers.{runNumber, runState, runOutputs}
 use Rattle.station.specs.Claim.{Call, run, trial, save, load, left, Start, WithinLimits, AcceptedBlock, RunHolds, CallHolds, Holds}
-use Rattle.station.proofs.AnswerLaws.{accepted-new}
+use Rattle.station.proofs.AnswerLaws.{outputs-new}
 use Rattle.station.proofs.Claim.{claim}
 use Rattle.readings.specs.Limits.{outputLimit, errorLimit}
-use Rattle.readings.specs.Readings.{Lists, exponentFits, readable}
-use Rattle.readings.specs.Calls.{listsOf, Exponent}
+use Rattle.readings.specs.Readings.{Lists, exponentFits, readable, listsOf}
+use Rattle.readings.specs.Calls.{Exponent}
 use Rattle.readings.proofs.ListLaws.{exponents-fit}
 use Rattle.readings.proofs.ReadableLaws.{Readable, readable-of, number-given, given}
 use Rattle.readings.proofs.ReadingsHold.{readings-hold}
 use Rattle.laboratory.specs.Taken.{Taken, BlockTaken, CallTaken, AllTaken}
 
 -- what an accepted block hands out
-abbrev out : Equaliser → Lent → Lists
-out s l = listsOf (handedY (settings s) (memory s) (block l)) (handedξ (settings s) (memory s) (block l)) (handedZ (settings s) (memory s) (block l)) (handedθ (settings s) (memory s) (block l))
+abbrev out : Equaliser → Buffers → Lists
+out s l = listsOf (blockY (settings s) (memory s) (block l)) (blockξ (settings s) (memory s) (block l)) (blockZ (settings s) (memory s) (block l)) (blockθ (settings s) (memory s) (block l))
 
-module _ (s : Equaliser) (g : WithinLimits s) (l : Lent) (h : AcceptedBlock s l) where
+module _ (s : Equaliser) (g : WithinLimits s) (l : Buffers) (h : AcceptedBlock s l (runState s l) (runOutputs s l)) where
   at : (n : ℕ) → n < s .n → AtSample (settings s) (memory s) (block l) n
   at n k = h .sample n k
+
+  out-at : (n : ℕ) → n < s .n → OutputAt (settings s) (memory s) (block l) n
+  out-at n k = output-at (settings s) (memory s) (block l) n k
 
   exponents : (xs : List ℕ) → length xs ≡ s .n → ((n : ℕ) → n < s .n → (1 ≤ getD xs n 0) × (getD xs n 0 ≤ outputExponentLimit)) → all exponentFits xs ≡ true
   exponents xs e f = exponents-fit xs (each-of Exponent 0 xs (λ n k. f n (omega arith)))
@@ -47,15 +50,15 @@ module _ (s : Equaliser) (g : WithinLimits s) (l : Lent) (h : AcceptedBlock s l)
   can-be-read : Readable (out s l) (s .n)
   can-be-read =
       let w = fit-within (settings s) (g .sizes) in
-      let long = handed-long (settings s) (memory s) (block l) in
+      let long = block-long (settings s) (memory s) (block l) in
       record {
         fill = record {
           long = record { some = w .N-least; few = w .N-most; y-long = long .y-long; xi-long = long .xi-long; z-long = long .z-long; theta-long = long .theta-long };
-          xi-fit = exponents (out s l .xi) (long .xi-long) (λ n k. let b = at n k in (omega (arith, b .given .ξ-is, b .bounded .ξ-least), omega (arith, b .given .ξ-is, b .bounded .ξ-most)));
-          theta-fit = exponents (out s l .theta) (long .theta-long) (λ n k. let b = at n k in (omega (arith, b .given .θ-is, b .bounded .θ-least), omega (arith, b .given .θ-is, b .bounded .θ-most)));
+          xi-fit = exponents (out s l .xi) (long .xi-long) (λ n k. let b = at n k in (omega (arith, out-at n k .ξ-is, b .bounded .ξ-least), omega (arith, out-at n k .ξ-is, b .bounded .ξ-most)));
+          theta-fit = exponents (out s l .theta) (long .theta-long) (λ n k. let b = at n k in (omega (arith, out-at n k .θ-is, b .bounded .θ-least), omega (arith, out-at n k .θ-is, b .bounded .θ-most)));
         };
-        z-small = all-small errorLimit (out s l .z) (long .z-long) (λ n k. let b = at n k in subst (λ (x : ℤ). natAbs x < 2 ^ 30) (sym (b .given .Z-is)) (b .bounded .Z-small));
-        y-small = all-small outputLimit (out s l .y) (long .y-long) (λ n k. let b = at n k in subst (λ (x : ℤ). natAbs x < 2 ^ 29) (sym (b .given .Y-is)) (b .bounded .Y-small));
+        z-small = all-small errorLimit (out s l .z) (long .z-long) (λ n k. let b = at n k in subst (λ (x : ℤ). natAbs x < 2 ^ 30) (sym (out-at n k .Z-is)) (b .bounded .Z-small));
+        y-small = all-small outputLimit (out s l .y) (long .y-long) (λ n k. let b = at n k in subst (λ (x : ℤ). natAbs x < 2 ^ 29) (sym (out-at n k .Y-is)) (b .bounded .Y-small));
       }
 
   taken : Taken (out s l .y) (out s l .xi) (out s l .z) (out s l .theta) (s .n)
@@ -68,16 +71,16 @@ module _ (s : Equaliser) (g : WithinLimits s) (l : Lent) (h : AcceptedBlock s l)
       }
 
 -- what the contract of an accepted block says of its lists
-block-taken : (s : Equaliser) → WithinLimits s → (l : Lent) → RunHolds s l → BlockTaken s l
+block-taken : (s : Equaliser) → WithinLimits s → (l : Buffers) → RunHolds s l (runNumber s l) (runState s l) (runOutputs s l) → BlockTaken s l
 block-taken s g l h a y xi decision z theta r e =
-    rw (chosen (out s l .y) (l .y) (r .y-is), chosen (out s l .xi) (l .xi) (r .xi-is), chosen (out s l .z) (l .z) (r .z-is), chosen (out s l .theta) (l .theta) (r .theta-is))
+    rw (r .y-is ∙ ap (λ (t : Outputs). t .y) o, r .xi-is ∙ ap (λ (t : Outputs). t .xi) o, r .z-is ∙ ap (λ (t : Outputs). t .z) o, r .theta-is ∙ ap (λ (t : Outputs). t .theta) o)
     (taken s g l (h .accepted ok))
   where
     ok : runNumber s l ≡ 0
     ok = sym (r .number) ∙ e
 
-    chosen : {A : Type 0} {x : A} (new old : A) → x ≡ accepted s l new old → x ≡ new
-    chosen new old f = f ∙ accepted-new s l new old ok
+    o : runOutputs s l ≡ blockOutputs (settings s) (memory s) (block l)
+    o = outputs-new s l ok
 
 call-taken : (s : Equaliser) → WithinLimits s → (c : Call) → CallHolds s c → CallTaken s c
 call-taken s g (run l t) h = block-taken s g l h

@@ -1,2 +1,3 @@
 pub mod Readings
 pub mod Taken
+pub mod Calls

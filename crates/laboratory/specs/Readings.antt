@@ -4,14 +4,12 @@ use mathlib.Core.List.{List}
 use lib.ListN.{length}
 use lib.Ieee.{Float}
 use Rattle.readings.specs.Readings.{Lists}
-use Rattle.readings.specs.Answers.{answerOf, outputOf, numberOf, floorOf, valueIn}
-use Rattle.readings.specs.declared.Answer.{Answer}
+use Rattle.readings.specs.Answers.{outputOf, readNumber, readFloor, readValue}
 use Rattle.laboratory.specs.declared.PowerAnswer.{PowerAnswer}
 
-abbrev pub answered : Answer → PowerAnswer
-answered a = record { number = numberOf a; «is_floor» = floorOf a; power = valueIn a }
-
--- an answer, and the lent readings before and after
+-- its number and values, and the lent readings before and after
 pub record ReadOut (l : Lists) (before : List (List Float)) (a : PowerAnswer) (after : List (List Float)) : Type 0 where
-  pub answer : a ≡ answered (answerOf l (length before))
+  pub number : a .number ≡ readNumber l (length before)
+  pub floor : a .«is_floor» ≡ readFloor l (length before)
+  pub power : a .power ≡ readValue l (length before)
   pub output : after ≡ outputOf l before

@@ -7,12 +7,11 @@ use lib.ListN.{length}
 use lib.Ieee.{Float}
 use Rattle.state.specs.declared.equaliser.Equaliser.{Equaliser}
 use Rattle.state.specs.declared.equaliser.Answer.{Answer}
-use Rattle.checks.specs.Checks.{Lent}
+use Rattle.checks.specs.Checks.{Buffers}
 use Rattle.station.specs.Answers.{Run}
 use Rattle.station.specs.Claim.{Call, run, trial, save, load, left}
-use Rattle.readings.specs.Readings.{readingsOf}
+use Rattle.readings.specs.Readings.{readingsOf, listsOf}
 use Rattle.readings.specs.Answers.{answerOf, outputOf, numberOf}
-use Rattle.readings.specs.Calls.{listsOf}
 use Rattle.readings.specs.Holds.{ReadingsHold}
 
 -- lists of n places are accepted with any n readings lent, and all that is said of readings holds of them
@@ -22,7 +21,7 @@ pub record Taken (y : List ℤ) (xi : List ℕ) (z : List ℤ) (theta : List ℕ
   pub holds : ReadingsHold (listsOf y xi z theta) n
 
 -- what a block on s hands out, by its contract
-abbrev pub BlockTaken : Equaliser → Lent → Type 0
+abbrev pub BlockTaken : Equaliser → Buffers → Type 0
 BlockTaken s l =
     (a : Answer) (y : List ℤ) (xi : List ℕ) (decision z : List ℤ) (theta : List ℕ) → Run s l a y xi decision z theta → a .number ≡ 0 → Taken y xi z theta (s .n)
 

@@ -1,10 +1,11 @@
 // The operations of the surface laboratory for C.
 ghost use mathlib.Core.Path.{_≡_};
 ghost use Rattle.cable_trace.specs.Answers.{cableOf, Output};
-ghost use Rattle.readings.specs.Calls.{listsOf};
-ghost use Rattle.laboratory.specs.Readings.{answered, ReadOut};
-use readings::Answer;
+ghost use Rattle.readings.specs.Readings.{listsOf};
+ghost use Rattle.laboratory.specs.Calls.{answered};
+ghost use Rattle.laboratory.specs.Readings.{ReadOut};
 use readings::Power;
+use readings::ReadAnswer;
 
 // The trace that a station receives over a cable, or the number of the refusal and the output as it was.
 #[no_mangle]
@@ -33,11 +34,11 @@ pub struct PowerAnswer {
     pub power: f64,
 }
 
-fn power_answer(a: Answer) -> PowerAnswer
+fn power_answer(a: ReadAnswer) -> PowerAnswer
     ensures { λ r. ⌜ r ≡ answered a ⌝ }
 {
     match a {
-        Answer::Given(p) => match p {
+        ReadAnswer::Given(p) => match p {
             Power::Mean(x) => PowerAnswer {
                 number: 0,
                 is_floor: 0,
@@ -49,7 +50,7 @@ fn power_answer(a: Answer) -> PowerAnswer
                 power: x,
             },
         },
-        Answer::Refused => PowerAnswer {
+        ReadAnswer::Refused => PowerAnswer {
             number: 11,
             is_floor: 0,
             power: 0.0,

@@ -3,7 +3,6 @@ use libc::STDOUT_FILENO;
 use numbers::bit_length::magnitude;
 use numbers::scale_count::scale_count;
 use state::equaliser::Equaliser;
-use steps::limits::PLACES;
 use vectors::sample::IMAGE;
 use vectors::sample::run_sample;
 
@@ -54,8 +53,8 @@ fn set_up(p: u8, q: u8, n: u8, r: u8, l: u8, m: u32) {
 
 // A state of one tap each, with its weights and its past symbol.
 fn state(r: u8, psi: u8, m: u32, forward: i16, back: i16, symbol: i16) -> Equaliser {
-    let mut weights = [0i16; PLACES];
-    let mut past = [0i16; PLACES];
+    let mut weights = [0i16; Equaliser::SLOTS];
+    let mut past = [0i16; Equaliser::SLOTS];
     weights[0] = forward;
     weights[1] = back;
     past[1] = symbol;
@@ -67,7 +66,7 @@ fn state(r: u8, psi: u8, m: u32, forward: i16, back: i16, symbol: i16) -> Equali
         l: 0,
         psi: psi,
         b: 0,
-        big: 0,
+        bmax: 0,
         m: m,
         weights: weights,
         past: past,

@@ -7,31 +7,31 @@ use mathlib.Core.Logic.{_⊎_, inl, inr}
 use lib.Arith.{half-le}
 use lib.Count.{leadingZeros, leading-length}
 use Rattle.laws.specs.Powers.{double, rises, exponent-lt}
-use Rattle.numbers.specs.BitLength.{digits, bitLength}
+use Rattle.numbers.specs.BitLength.{binaryDigits, bitLength}
 
-digits-above : (d n : ℕ) → n ≤ d → n < 2 ^ digits d n
-unfolding digits
+digits-above : (d n : ℕ) → n ≤ d → n < 2 ^ binaryDigits d n
+unfolding binaryDigits
 digits-above zero n h = omega arith
 digits-above (suc d) zero h = omega arith
 digits-above (suc d) (suc n) h =
-    omega (arith, digits-above d (suc n / 2) (half-le h), double (digits d (suc n / 2)))
+    omega (arith, digits-above d (suc n / 2) (half-le h), double (binaryDigits d (suc n / 2)))
 
-digits-least : (d n : ℕ) → n ≤ d → 0 < n → 2 ^ digits d n ≤ 2 * n
-unfolding digits
+digits-least : (d n : ℕ) → n ≤ d → 0 < n → 2 ^ binaryDigits d n ≤ 2 * n
+unfolding binaryDigits
 digits-least zero n h p = absurd (omega arith)
 digits-least (suc d) zero h p = absurd (omega arith)
 digits-least (suc d) (suc n) h p = go (λ q. digits-least d (suc n / 2) (half-le h) q) (eq-zero-or-pos (suc n / 2))
   where
-    none : (m : ℕ) → m ≡ 0 → 2 ^ digits d m ≡ 1
-    none m e = ap (λ (x : ℕ). 2 ^ digits d x) e ∙ ap (λ (x : ℕ). 2 ^ x) (empty d)
+    none : (m : ℕ) → m ≡ 0 → 2 ^ binaryDigits d m ≡ 1
+    none m e = ap (λ (x : ℕ). 2 ^ binaryDigits d x) e ∙ ap (λ (x : ℕ). 2 ^ x) (empty d)
       where
-        empty : (d : ℕ) → digits d 0 ≡ 0
+        empty : (d : ℕ) → binaryDigits d 0 ≡ 0
         empty zero = refl
         empty (suc d) = refl
 
-    go : (0 < suc n / 2 → 2 ^ digits d (suc n / 2) ≤ 2 * (suc n / 2)) → (suc n / 2 ≡ 0) ⊎ (0 < suc n / 2) → 2 ^ suc (digits d (suc n / 2)) ≤ 2 * suc n
-    go rest (inl e) = omega (arith, double (digits d (suc n / 2)), none (suc n / 2) e)
-    go rest (inr q) = omega (arith, double (digits d (suc n / 2)), rest q)
+    go : (0 < suc n / 2 → 2 ^ binaryDigits d (suc n / 2) ≤ 2 * (suc n / 2)) → (suc n / 2 ≡ 0) ⊎ (0 < suc n / 2) → 2 ^ suc (binaryDigits d (suc n / 2)) ≤ 2 * suc n
+    go rest (inl e) = omega (arith, double (binaryDigits d (suc n / 2)), none (suc n / 2) e)
+    go rest (inr q) = omega (arith, double (binaryDigits d (suc n / 2)), rest q)
 
 pub bit-length-above : (n : ℕ) → n < 2 ^ bitLength n
 unfolding bitLength

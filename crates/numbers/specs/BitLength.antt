@@ -2,12 +2,12 @@
 use Prim.Native.Nat.{ℕ, zero, suc, _/_}
 
 -- the digits of n, of which no more than d are looked at
-unfoldable pub digits : ℕ → ℕ → ℕ
-digits zero n = 0
-digits (suc d) zero = 0
-digits (suc d) (suc n) = suc (digits d (suc n / 2))
+unfoldable pub binaryDigits : ℕ → ℕ → ℕ
+binaryDigits zero n = 0
+binaryDigits (suc d) zero = 0
+binaryDigits (suc d) (suc n) = suc (binaryDigits d (suc n / 2))
 
--- a number has no more digits than its value
+-- all its digits: a number has no more of them than its value
 unfoldable pub bitLength : ℕ → ℕ
-unfolding digits
-bitLength n = digits n n
+unfolding binaryDigits
+bitLength n = binaryDigits n n

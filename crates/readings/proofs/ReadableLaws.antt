@@ -1,31 +1,35 @@
 -- What can be read, and the answer where it can and where it can't.
-use mathlib.Core.Path.{_≡_, refl, sym, ap}
+use mathlib.Core.Path.{_≡_, refl, sym, ap, _∙_}
 use mathlib.Core.Bool.{Bool, true, false, cond, _&&_, and-true, and-false}
 use mathlib.Core.List.{List}
 use Prim.Native.Nat.{ℕ}
 use lib.ListN.{length}
-use lib.Ieee.{Float}
+use lib.IntN.{pos}
+use lib.Ieee.{Float, fin}
 use borrow.Author.Tests.{leb-true, le-leb, eq-eqb}
 use Rattle.laws.specs.Lists.{and-left, and-right, all}
 use Rattle.laws.specs.Tests.{last-le, last-eq}
 use Rattle.steps.specs.Limits.{blockLimit}
-use Rattle.steps.specs.Side.{allBelow}
+use Rattle.steps.specs.Fir.{allBelow}
 use Rattle.readings.specs.Limits.{outputLimit, errorLimit}
-use Rattle.readings.specs.Readings.{Lists, exponentFits, lengthsFit, valuesFit, readable, readingsOf, amplitudes, powerOf}
-use Rattle.readings.specs.Answers.{answerOf, outputOf, numberOf, Read}
+use Rattle.readings.specs.Readings.{Lists, exponentFits, lengthsReadable, valuesReadable, readable, readingsOf, amplitudes, isUncut, squares, quotient, powerOf}
+use Rattle.readings.specs.Answers.{answerOf, outputOf, numberOf, floorOf, valueIn, readNumber, readFloor, readValue, Read}
 use Rattle.readings.specs.Calls.{Long, Fillable}
-use Rattle.readings.specs.declared.Answer.the-variants.{Given, Refused}
+use Rattle.readings.specs.declared.Power.the-variants.{Mean, Floor}
+use Rattle.readings.specs.declared.ReadAnswer.{ReadAnswer}
+use Rattle.readings.specs.declared.ReadAnswer.the-variants.{Given, Refused}
+use Rattle.readings.proofs.ListLaws.{amplitudes-length}
 
 module _ (l : Lists) (n : ℕ) where
-  pub readable-short : lengthsFit l n ≡ false → readable l n ≡ false
+  pub readable-short : lengthsReadable l n ≡ false → readable l n ≡ false
   unfolding readable
-  readable-short e = ap (λ (b : Bool). b && valuesFit l) e
+  readable-short e = ap (λ (b : Bool). b && valuesReadable l) e
 
-  pub readable-long : lengthsFit l n ≡ true → readable l n ≡ valuesFit l
+  pub readable-long : lengthsReadable l n ≡ true → readable l n ≡ valuesReadable l
   unfolding readable
-  readable-long e = ap (λ (b : Bool). b && valuesFit l) e
+  readable-long e = ap (λ (b : Bool). b && valuesReadable l) e
 
-  pub lengths-say : lengthsFit l n ≡ true → Long l n
+  pub lengths-say : lengthsReadable l n ≡ true → Long l n
   lengths-say h =
       let t = last-eq _ (length (l .theta)) n h in
       let z = last-eq _ (length (l .z)) n (t .0) in
@@ -55,11 +59,11 @@ module _ {l : Lists} {n : ℕ} where
       let x = all exponentFits (l .xi) in
       let t = all exponentFits (l .theta) in
       let y = allBelow outputLimit (l .y) in
-      let v = and-right (lengthsFit l n) (valuesFit l) h in
+      let v = and-right (lengthsReadable l n) (valuesReadable l) h in
       let w = and-left (z && x && t) y v in
       let u = and-left (z && x) t w in
       record {
-        fill = record { long = lengths-say l n (and-left (lengthsFit l n) (valuesFit l) h); xi-fit = and-right z x u; theta-fit = and-right (z && x) t w };
+        fill = record { long = lengths-say l n (and-left (lengthsReadable l n) (valuesReadable l) h); xi-fit = and-right z x u; theta-fit = and-right (z && x) t w };
         z-small = and-left z x u;
         y-small = and-right (z && x && t) y v;
       }
@@ -77,17 +81,54 @@ pub number-given : (l : Lists) (n : ℕ) → readable l n ≡ true → numberOf 
 unfolding answerOf
 number-given l n e = ap (λ (b : Bool). numberOf (cond b (Given (powerOf (amplitudes (l .z) (l .theta)))) Refused)) e
 
-module _ (l : Lists) (before : List (List Float)) where
-  pub refused : readable l (length before) ≡ false → Read l before Refused before
-  unfolding answerOf outputOf
-  refused e = record {
-    answer = sym (ap (λ (b : Bool). cond b (Given (powerOf (amplitudes (l .z) (l .theta)))) Refused) e);
-    output = sym (ap (λ (b : Bool). cond b (readingsOf l) before) e);
-  }
+power-floor : (a : List ℕ) → floorOf (Given (powerOf a)) ≡ cond (all isUncut a) 0 1
+unfolding powerOf
+power-floor a = go (all isUncut a)
+  where
+    go : (b : Bool) → floorOf (Given (cond b (Mean (quotient (squares a) (length a))) (Floor (quotient (squares a) (length a))))) ≡ cond b 0 1
+    go true = refl
+    go false = refl
 
-  pub given : readable l (length before) ≡ true → Read l before (Given (powerOf (amplitudes (l .z) (l .theta)))) (readingsOf l)
-  unfolding answerOf outputOf
-  given e = record {
-    answer = sym (ap (λ (b : Bool). cond b (Given (powerOf (amplitudes (l .z) (l .theta)))) Refused) e);
-    output = sym (ap (λ (b : Bool). cond b (readingsOf l) before) e);
-  }
+power-value : (a : List ℕ) → valueIn (Given (powerOf a)) ≡ quotient (squares a) (length a)
+unfolding powerOf
+power-value a = go (all isUncut a)
+  where
+    go : (b : Bool) → valueIn (Given (cond b (Mean (quotient (squares a) (length a))) (Floor (quotient (squares a) (length a))))) ≡ quotient (squares a) (length a)
+    go true = refl
+    go false = refl
+
+module _ (l : Lists) where
+  -- as many a as places
+  pub amplitudes-long : (n : ℕ) → readable l n ≡ true → length (amplitudes (l .z) (l .theta)) ≡ n
+  amplitudes-long n e = let f = readable-says e .fill .long in amplitudes-length (l .z) (l .theta) (f .theta-long ∙ sym (f .z-long)) ∙ f .z-long
+
+  -- the number and the values of an answer
+  answer-values : (n : ℕ) → (numberOf (answerOf l n) ≡ readNumber l n) × (floorOf (answerOf l n) ≡ readFloor l n) × (valueIn (answerOf l n) ≡ readValue l n)
+  unfolding answerOf
+  answer-values n = go (readable l n) refl
+    where
+      as′ : List ℕ
+      as′ = amplitudes (l .z) (l .theta)
+
+      go : (b : Bool) → readable l n ≡ b →
+          (numberOf (cond b (Given (powerOf as′)) Refused) ≡ cond b 0 11) × (floorOf (cond b (Given (powerOf as′)) Refused) ≡ cond b (cond (all isUncut as′) 0 1) 0)
+          × (valueIn (cond b (Given (powerOf as′)) Refused) ≡ cond b (quotient (squares as′) n) (fin false 0 (pos 0)))
+      go true e = (refl, power-floor as′, power-value as′ ∙ ap (quotient (squares as′)) (amplitudes-long n e))
+      go false e = (refl, refl, refl)
+
+  -- so the contract is met by an answer and an output
+  pub read : (before : List (List Float)) {a : ReadAnswer} {after : List (List Float)} → a ≡ answerOf l (length before) → after ≡ outputOf l before → Read l before a after
+  read before e o =
+      let v = answer-values (length before) in
+      record { answer = e; number = ap numberOf e ∙ v .0; floor = ap floorOf e ∙ v .1; value = ap valueIn e ∙ v .2; output = o }
+
+  module _ (before : List (List Float)) where
+    pub refused : readable l (length before) ≡ false → Read l before Refused before
+    unfolding answerOf outputOf
+    refused e =
+        read before (sym (ap (λ (b : Bool). cond b (Given (powerOf (amplitudes (l .z) (l .theta)))) Refused) e)) (sym (ap (λ (b : Bool). cond b (readingsOf l) before) e))
+
+    pub given : readable l (length before) ≡ true → Read l before (Given (powerOf (amplitudes (l .z) (l .theta)))) (readingsOf l)
+    unfolding answerOf outputOf
+    given e =
+        read before (sym (ap (λ (b : Bool). cond b (Given (powerOf (amplitudes (l .z) (l .theta)))) Refused) e)) (sym (ap (λ (b : Bool). cond b (readingsOf l) before) e))

@@ -15,7 +15,7 @@ use Rattle.laws.specs.Powers.{split, positive}
 use Rattle.laws.specs.Sums.{each-at}
 use Rattle.laws.specs.Tests.{each-tested, tested-each, refuted}
 use Rattle.steps.specs.Limits.{blockLimit}
-use Rattle.steps.specs.Side.{allBelow}
+use Rattle.steps.specs.Fir.{allBelow}
 use Rattle.steps.proofs.LargestLaws.{all-below}
 use Rattle.floats.specs.Floats.{negative, AtMost, Nearest}
 use Rattle.floats.specs.ValueLaws.{same-value, exact, whole-value, round-zero}

@@ -7,7 +7,7 @@ use lib.ListN.{getD}
 use lib.Ieee.{Float, binary64, round, toBits}
 use Rattle.readings.specs.Readings.{Lists, valueOf, pairs, readingsOf, amplitudes, squares, quotient, powerOf, readable}
 use Rattle.readings.specs.Answers.{answerOf, numberOf, floorOf, valueIn}
-use Rattle.readings.specs.declared.Answer.{Answer}
+use Rattle.readings.specs.declared.ReadAnswer.{ReadAnswer}
 
 pub record Case : Type 0 where
   pub gives : List ℕ
@@ -27,7 +27,7 @@ abbrev lists : List Sample → Lists
 lists s = record { y = map (λ (x : Sample). x .Y) s; xi = map (λ (x : Sample). x .ξ) s; z = map (λ (x : Sample). x .Z) s; theta = map (λ (x : Sample). x .θ) s }
 
 -- number, flag and power of an answer
-abbrev told : Answer → List ℕ
+abbrev told : ReadAnswer → List ℕ
 told a = numberOf a ∷ floorOf a ∷ bits (valueIn a) ∷ []
 
 -- the answer where so many readings are lent

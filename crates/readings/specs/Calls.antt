@@ -14,9 +14,6 @@ use Rattle.readings.specs.declared.errors.Sum.{Sum}
 use Rattle.readings.specs.declared.Power.{Power}
 use Rattle.readings.specs.declared.Power.the-variants.{Mean, Floor}
 
-abbrev pub listsOf : List ℤ → List ℕ → List ℤ → List ℕ → Lists
-listsOf y xi z theta = record { y = y; xi = xi; z = z; theta = theta }
-
 abbrev pub Exponent : ℕ → Type 0
 Exponent e = (1 ≤ e) × (e ≤ outputExponentLimit)
 

@@ -9,7 +9,7 @@ use lib.Ieee.{Float, binary64, round}
 use Rattle.laws.specs.Lists.{all}
 use Rattle.floats.specs.Floats.{negative}
 use Rattle.steps.specs.Limits.{blockLimit, outputExponentLimit}
-use Rattle.steps.specs.Side.{allBelow}
+use Rattle.steps.specs.Fir.{allBelow}
 use Rattle.readings.specs.Limits.{outputLimit, errorLimit, amplitudeLimit}
 use Rattle.readings.specs.declared.Reading.{Reading}
 use Rattle.readings.specs.declared.Power.{Power}
@@ -21,6 +21,9 @@ pub record Lists : Type 0 where
   pub xi : List ℕ
   pub z : List ℤ
   pub theta : List ℕ
+
+abbrev pub listsOf : List ℤ → List ℕ → List ℤ → List ℕ → Lists
+listsOf y xi z theta = record { y = y; xi = xi; z = z; theta = theta }
 
 -- ---- a reading
 
@@ -56,7 +59,7 @@ amplitudes [] θs = []
 amplitudes (Z ∷ Zs) [] = []
 amplitudes (Z ∷ Zs) (θ ∷ θs) = amplitude Z θ ∷ amplitudes Zs θs
 
--- or 65535 if that is smaller
+-- a as it is counted: 65535 if that is smaller
 abbrev pub counted : ℕ → ℕ
 counted a = min a amplitudeLimit
 
@@ -83,11 +86,11 @@ abbrev pub exponentFits : ℕ → Bool
 exponentFits e = leb 1 e && leb e outputExponentLimit
 
 -- every list is of one length n, from 1 to 128
-abbrev pub lengthsFit : Lists → ℕ → Bool
-lengthsFit l n = leb 1 n && leb n blockLimit && eqb (length (l .y)) n && eqb (length (l .xi)) n && eqb (length (l .z)) n && eqb (length (l .theta)) n
+abbrev pub lengthsReadable : Lists → ℕ → Bool
+lengthsReadable l n = leb 1 n && leb n blockLimit && eqb (length (l .y)) n && eqb (length (l .xi)) n && eqb (length (l .z)) n && eqb (length (l .theta)) n
 
-abbrev pub valuesFit : Lists → Bool
-valuesFit l = allBelow errorLimit (l .z) && all exponentFits (l .xi) && all exponentFits (l .theta) && allBelow outputLimit (l .y)
+abbrev pub valuesReadable : Lists → Bool
+valuesReadable l = allBelow errorLimit (l .z) && all exponentFits (l .xi) && all exponentFits (l .theta) && allBelow outputLimit (l .y)
 
 unfoldable pub readable : Lists → ℕ → Bool
-readable l n = lengthsFit l n && valuesFit l
+readable l n = lengthsReadable l n && valuesReadable l

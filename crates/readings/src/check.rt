@@ -3,10 +3,9 @@ ghost use mathlib.Core.Path.{_≡_};
 ghost use mathlib.Core.Bool.{_&&_};
 ghost use lib.ListN.{length};
 ghost use Rattle.laws.specs.Lists.{all};
-ghost use Rattle.steps.specs.Side.{allBelow};
+ghost use Rattle.steps.specs.Fir.{allBelow};
 ghost use Rattle.readings.specs.Limits.{outputLimit, errorLimit};
-ghost use Rattle.readings.specs.Readings.{exponentFits, lengthsFit, readable};
-ghost use Rattle.readings.specs.Calls.{listsOf};
+ghost use Rattle.readings.specs.Readings.{exponentFits, lengthsReadable, readable, listsOf};
 use super::limits;
 
 // |Y| and |Z|.
@@ -41,8 +40,8 @@ fn exponents_fit(xi: &[u8], theta: &[u8]) -> bool
     xi_fit & theta_fit
 }
 
-fn lengths_fit(y: &[i32], xi: &[u8], z: &[i32], theta: &[u8], n: usize) -> bool
-    ensures { λ r. ⌜ r ≡ lengthsFit (listsOf (now (y .entry)) (now (xi .entry)) (now (z .entry)) (now (theta .entry))) n ⌝ }
+fn lengths_readable(y: &[i32], xi: &[u8], z: &[i32], theta: &[u8], n: usize) -> bool
+    ensures { λ r. ⌜ r ≡ lengthsReadable (listsOf (now (y .entry)) (now (xi .entry)) (now (z .entry)) (now (theta .entry))) n ⌝ }
 {
     (1 <= n)
         & (n <= steps::limits::BLOCK)
@@ -56,7 +55,7 @@ fn lengths_fit(y: &[i32], xi: &[u8], z: &[i32], theta: &[u8], n: usize) -> bool
 pub fn readable(y: &[i32], xi: &[u8], z: &[i32], theta: &[u8], n: usize) -> bool
     ensures { λ r. ⌜ r ≡ readable (listsOf (now (y .entry)) (now (xi .entry)) (now (z .entry)) (now (theta .entry))) n ⌝ }
 {
-    if !lengths_fit(y, xi, z, theta, n) {
+    if !lengths_readable(y, xi, z, theta, n) {
         return false;
     }
     mantissas_fit(y, z) & exponents_fit(xi, theta)

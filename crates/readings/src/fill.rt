@@ -1,8 +1,8 @@
 // The readings and the errors of all samples, in one loop.
 ghost use mathlib.Core.Path.{_≡_};
 ghost use lib.ListN.{length};
-ghost use Rattle.readings.specs.Readings.{readingsOf};
-ghost use Rattle.readings.specs.Calls.{listsOf, Fillable, sumOf};
+ghost use Rattle.readings.specs.Readings.{readingsOf, listsOf};
+ghost use Rattle.readings.specs.Calls.{Fillable, sumOf};
 use super::errors::Sum;
 use super::errors::with_error;
 use super::value::powers;

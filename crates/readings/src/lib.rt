@@ -1,6 +1,6 @@
 // The readings of a block for plots: y and the error of each sample as an f64, and the error power.
 ghost use Rattle.readings.specs.Answers.{Read};
-ghost use Rattle.readings.specs.Calls.{listsOf};
+ghost use Rattle.readings.specs.Readings.{listsOf};
 
 pub mod check;
 pub mod errors;
@@ -20,19 +20,19 @@ pub enum Power {
     Floor(f64),
 }
 
-pub enum Answer {
+pub enum ReadAnswer {
     Given(Power),
     Refused,
 }
 
 // The readings of lists that a block handed out, each as y and the error, with the error power; or 11 and the output as it was.
-pub fn readings(y: &[i32], xi: &[u8], z: &[i32], theta: &[u8], out: &mut [[f64; 2]]) -> Answer
+pub fn readings(y: &[i32], xi: &[u8], z: &[i32], theta: &[u8], out: &mut [[f64; 2]]) -> ReadAnswer
     ensures { λ a. ⌜ Read (listsOf (now (y .entry)) (now (xi .entry)) (now (z .entry)) (now (theta .entry))) (now (out .entry)) a (now (out .exit)) ⌝ }
 {
     let n = out.len();
     if !check::readable(y, xi, z, theta, n) {
-        return Answer::Refused;
+        return ReadAnswer::Refused;
     }
     let s = fill::fill(y, xi, z, theta, out);
-    Answer::Given(errors::power(s, n))
+    ReadAnswer::Given(errors::power(s, n))
 }

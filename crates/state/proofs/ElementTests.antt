@@ -9,15 +9,15 @@ use lib.IntN.{ℤ, natAbs}
 use borrow.Author.Tests.{ltb-true, lt-ltb, lt-leb, eqb-true, eq-eqb, ne-eqb}
 use Rattle.laws.specs.Lists.{all}
 use Rattle.laws.specs.Powers.{positive, rises, lower, raise}
-use Rattle.steps.specs.Side.{longest}
-use Rattle.steps.proofs.LongestTests.{by-longest}
+use Rattle.steps.specs.Fir.{largestBits}
+use Rattle.steps.proofs.LargestBitsTests.{by-largest-bits}
 use Rattle.state.specs.State.{isZero, isStored}
 
-zero-longest : (xs : List ℤ) → leb (longest xs) 0 ≡ all isZero xs
-zero-longest xs = by-longest isZero 0 (λ z e. omega (arith, eqb-true (natAbs z) 0 e)) (λ z h. eq-eqb (natAbs z) 0 (omega arith)) xs
+zero-largest-bits : (xs : List ℤ) → leb (largestBits xs) 0 ≡ all isZero xs
+zero-largest-bits xs = by-largest-bits isZero 0 (λ z e. omega (arith, eqb-true (natAbs z) 0 e)) (λ z h. eq-eqb (natAbs z) 0 (omega arith)) xs
 
-pub zeros-pass : (xs : List ℤ) → eqb (longest xs) 0 ≡ all isZero xs
-zeros-pass xs = none (longest xs) ∙ zero-longest xs
+pub zeros-pass : (xs : List ℤ) → eqb (largestBits xs) 0 ≡ all isZero xs
+zeros-pass xs = none (largestBits xs) ∙ zero-largest-bits xs
   where
     none : (n : ℕ) → eqb n 0 ≡ leb n 0
     none zero = refl
@@ -25,13 +25,13 @@ zeros-pass xs = none (longest xs) ∙ zero-longest xs
 
 -- |A|·2^(B+s) < 2^(15+b) as a bound on |A|, or as A = 0 where B + s is no less than 15 + b
 module _ (s b B : ℕ) (xs : List ℤ) where
-  pub stored-longest : B + s ≤ 15 + b → leb (longest xs) (15 + b - (B + s)) ≡ all (isStored s b B) xs
-  stored-longest h =
+  pub stored-largest-bits : B + s ≤ 15 + b → leb (largestBits xs) (15 + b - (B + s)) ≡ all (isStored s b B) xs
+  stored-largest-bits h =
       let e : 15 + b ≡ 15 + b - (B + s) + (B + s) = omega arith in
-      by-longest (isStored s b B) (15 + b - (B + s)) (λ z t. lower (natAbs z) (15 + b) _ (B + s) e (ltb-true _ _ t)) (λ z k. lt-ltb _ _ (raise (natAbs z) (15 + b) _ (B + s) e k)) xs
+      by-largest-bits (isStored s b B) (15 + b - (B + s)) (λ z t. lower (natAbs z) (15 + b) _ (B + s) e (ltb-true _ _ t)) (λ z k. lt-ltb _ _ (raise (natAbs z) (15 + b) _ (B + s) e k)) xs
 
   pub stored-zero : 15 + b ≤ B + s → all isZero xs ≡ all (isStored s b B) xs
   stored-zero h =
-      sym (zero-longest xs)
-      ∙ by-longest (isStored s b B) 0 (λ z t. lower (natAbs z) (B + s) 0 (B + s) (omega arith) (lt-of-lt-of-le (ltb-true _ _ t) (rises h)))
+      sym (zero-largest-bits xs)
+      ∙ by-largest-bits (isStored s b B) 0 (λ z t. lower (natAbs z) (B + s) 0 (B + s) (omega arith) (lt-of-lt-of-le (ltb-true _ _ t) (rises h)))
       (λ z k. let e : natAbs z ≡ 0 = omega arith in lt-ltb (natAbs z * 2 ^ (B + s)) (2 ^ (15 + b)) (omega (arith, ap (λ (n : ℕ). n * 2 ^ (B + s)) e, positive (15 + b)))) xs

@@ -11,9 +11,9 @@ use borrow.Author.Tests.{le-leb, lt-ltb}
 use Rattle.laws.specs.Lists.{all}
 use Rattle.laws.specs.Tests.{both, tested-each, all-replicate}
 use Rattle.laws.specs.Sums.{each-append}
-use Rattle.steps.specs.Limits.{exponentLimit, halvingLimit, lengthLimit, places}
+use Rattle.steps.specs.Limits.{exponentLimit, halvingLimit, lengthLimit, slots}
 use Rattle.steps.specs.Settings.{Settings, scaleForward, isEntry}
-use Rattle.steps.specs.Side.{Small, allSmall, isBelow}
+use Rattle.steps.specs.Fir.{Small, allSmall, isBelow}
 use Rattle.block.specs.Block.{Memory}
 use Rattle.block.specs.Sound.{Sound}
 use Rattle.state.specs.Sizes.{sizesFit, admits}
@@ -36,7 +36,7 @@ whole : (l : List ℤ) (n : ℕ) → length l ≡ n → take n (padded l) ≡ l
 whole l n e = take-at l _ n e
 
 spare : (l : List ℤ) (n : ℕ) → length l ≡ n → all isZero (drop n (padded l)) ≡ true
-spare l n e = ap (all isZero) (drop-at l _ n e) ∙ all-replicate isZero (places - length l) (pos 0) refl
+spare l n e = ap (all isZero) (drop-at l _ n e) ∙ all-replicate isZero (slots - length l) (pos 0) refl
 
 pub settings-is : (k : Settings) (o : Memory) → settings (stateOf k o) ≡ k
 unfolding stateOf

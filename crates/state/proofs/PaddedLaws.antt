@@ -1,4 +1,4 @@
--- A list at the front of the places, and zeros after it.
+-- A list at the front of the slots, and zeros after it.
 use mathlib.Core.Path.{_≡_, refl, sym, ap, ap₂, _∙_}
 use mathlib.Core.Bool.{true}
 use mathlib.Core.List.{List, [], _∷_, _++_}
@@ -9,7 +9,7 @@ use lib.Seq.{length-take-le}
 use lib.IntN.{ℤ, pos, negsuc}
 use borrow.Author.Tests.{eqb-true}
 use Rattle.laws.specs.Lists.{all, and-left, and-right}
-use Rattle.steps.specs.Limits.{places}
+use Rattle.steps.specs.Limits.{slots}
 use Rattle.state.specs.State.{isZero, padded}
 
 is-zero : (z : ℤ) → isZero z ≡ true → pos 0 ≡ z
@@ -20,14 +20,14 @@ zeros : (l : List ℤ) → all isZero l ≡ true → replicate (length l) (pos 0
 zeros [] e = refl
 zeros (z ∷ l) e = ap₂ (λ (a : ℤ) (r : List ℤ). a ∷ r) (is-zero z (and-left (isZero z) (all isZero l) e)) (zeros l (and-right (isZero z) (all isZero l) e))
 
-pub padded-back : (n : ℕ) (l : List ℤ) → length l ≡ places → n ≤ places → all isZero (drop n l) ≡ true → padded (take n l) ≡ l
+pub padded-back : (n : ℕ) (l : List ℤ) → length l ≡ slots → n ≤ slots → all isZero (drop n l) ≡ true → padded (take n l) ≡ l
 padded-back n l e h z =
     ap (λ (k : ℕ). take n l ++ replicate k (pos 0)) rest
     ∙ ap (λ (r : List ℤ). take n l ++ r) (zeros (drop n l) z)
     ∙ take-append-drop n l
   where
-    rest : places - length (take n l) ≡ length (drop n l)
+    rest : slots - length (take n l) ≡ length (drop n l)
     rest = omega (arith, length-take-le n l (omega arith), length-drop n l)
 
-pub padded-long : (l : List ℤ) → length l ≤ places → length (padded l) ≡ places
-padded-long l h = length-append l (replicate (places - length l) (pos 0)) ∙ omega (arith, length-replicate (places - length l) (pos 0))
+pub padded-long : (l : List ℤ) → length l ≤ slots → length (padded l) ≡ slots
+padded-long l h = length-append l (replicate (slots - length l) (pos 0)) ∙ omega (arith, length-replicate (slots - length l) (pos 0))

@@ -9,7 +9,7 @@ use Rattle.state.specs.declared.equaliser.Equaliser.{Equaliser}
 
 abbrev pub equaliserOf : Settings → Memory → List ℤ → List ℤ → Equaliser
 equaliserOf k o weights past =
-    record { p = k .p; q = k .q; n = k .N; r = k .r; l = k .L; psi = o .ψ; b = o .b; big = o .B; m = k .M; weights = weights; past = past }
+    record { p = k .p; q = k .q; n = k .N; r = k .r; l = k .L; psi = o .ψ; b = o .b; bmax = o .B; m = k .M; weights = weights; past = past }
 
 pub state-of-parts : (k : Settings) (o : Memory) (weights past : List ℤ) → weights ≡ padded (o .forward ++ o .back) → past ≡ padded (o .samples ++ pos 0 ∷ o .symbols) →
     equaliserOf k o weights past ≡ stateOf k o

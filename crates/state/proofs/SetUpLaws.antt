@@ -5,7 +5,7 @@ use Prim.Native.Nat.{ℕ, _-_}
 use lib.Dec.{eqb}
 use borrow.Author.Tests.{eq-eqb, ne-eqb}
 use Rattle.laws.specs.Negated.{take-zeros}
-use Rattle.steps.specs.Limits.{places}
+use Rattle.steps.specs.Limits.{slots}
 use Rattle.steps.specs.Settings.{Settings}
 use Rattle.block.specs.Swapped.{swapped}
 use Rattle.state.specs.Sizes.{settingsNumber, given}
@@ -30,7 +30,7 @@ module _ (k : Settings) (n : ℕ) (s : Equaliser) (e : n ≡ settingsNumber k) w
 
 fresh-swapped : (k : Settings) → memory (fresh k) ≡ swapped (memory (fresh k))
 unfolding fresh
-fresh-swapped k = rw (← take-zeros (k .p) places, ← take-zeros (k .p - 1) places)
+fresh-swapped k = rw (← take-zeros (k .p) slots, ← take-zeros (k .p - 1) slots)
 
 pub set-up-swapped : (k : Settings) → memory (setUpState k) ≡ swapped (memory (setUpState k))
 unfolding refused

@@ -12,9 +12,10 @@ use lib.IntN.{ℤ, pos}
 use borrow.Author.Tests.{leb-true, le-leb, ltb-true, lt-ltb, eqb-true}
 use Rattle.laws.specs.Lists.{all, and-left, and-right}
 use Rattle.laws.specs.Tests.{both, last-le, each-tested, each-parts, all-take, all-drop, all-replicate}
-use Rattle.steps.specs.Limits.{exponentLimit, halvingLimit, lengthLimit, places}
-use Rattle.steps.specs.Settings.{Settings, Within, scaleForward, isEntry}
-use Rattle.steps.specs.Side.{Small, isBelow}
+use Rattle.steps.specs.Limits.{exponentLimit, halvingLimit, lengthLimit, slots}
+use Rattle.steps.specs.Settings.{Settings, scaleForward, isEntry}
+use Rattle.steps.specs.Sound.{Within}
+use Rattle.steps.specs.Fir.{Small, isBelow}
 use Rattle.steps.proofs.LargestLaws.{all-below}
 use Rattle.block.specs.Sound.{Sound}
 use Rattle.state.specs.Sizes.{sizesFit, admits, settingsNumber, given}
@@ -36,9 +37,9 @@ sound-tests e h =
 
 -- the four tests of the data
 pub past-tests : (e : Equaliser) → soundPast e ≡ true →
-    (all (isStored (scaleForward (settings e)) (e .b) (e .big)) (samples e) ≡ true) × (isZero (filler e) ≡ true) × (all (isEntry (e .r)) (symbols e) ≡ true) × (all isZero (drop (taps e) (e .past)) ≡ true)
+    (all (isStored (scaleForward (settings e)) (e .b) (e .bmax)) (samples e) ≡ true) × (isZero (filler e) ≡ true) × (all (isEntry (e .r)) (symbols e) ≡ true) × (all isZero (drop (taps e) (e .past)) ≡ true)
 past-tests e h =
-    let stored = all (isStored (scaleForward (settings e)) (e .b) (e .big)) (samples e) in
+    let stored = all (isStored (scaleForward (settings e)) (e .b) (e .bmax)) (samples e) in
     let entries = all (isEntry (e .r)) (symbols e) in
     let spare = all isZero (drop (taps e) (e .past)) in
     let three = and-left (stored && isZero (filler e) && entries) spare h in
@@ -50,22 +51,22 @@ past-tests e h =
     )
 
 -- ψ, b, and B with L
-pub exponents-bound : (e : Equaliser) → soundExponents e ≡ true → (e .psi ≤ exponentLimit) × (e .b ≤ e .big) × (e .big + e .l ≤ lengthLimit)
+pub exponents-bound : (e : Equaliser) → soundExponents e ≡ true → (e .psi ≤ exponentLimit) × (e .b ≤ e .bmax) × (e .bmax + e .l ≤ lengthLimit)
 exponents-bound e h =
-    let big = last-le _ (e .big + e .l) lengthLimit h in
-    let b = last-le _ (e .b) (e .big) (big .0) in
-    (leb-true (e .psi) exponentLimit (b .0), b .1, big .1)
+    let bmax = last-le _ (e .bmax + e .l) lengthLimit h in
+    let b = last-le _ (e .b) (e .bmax) (bmax .0) in
+    (leb-true (e .psi) exponentLimit (b .0), b .1, bmax .1)
 
 -- ---- what is sound
 
-module _ (e : Equaliser) (sizes : sizesFit (settings e) ≡ true) (weights : length (e .weights) ≡ places) (past : length (e .past) ≡ places) where
+module _ (e : Equaliser) (sizes : sizesFit (settings e) ≡ true) (weights : length (e .weights) ≡ slots) (past : length (e .past) ≡ slots) where
   within : Within (settings e)
   within = fit-within (settings e) sizes
 
-  front-long : (i : ℕ) (xs : List ℤ) → length xs ≡ places → i ≤ e .p → length (take i xs) ≡ i
+  front-long : (i : ℕ) (xs : List ℤ) → length xs ≡ slots → i ≤ e .p → length (take i xs) ≡ i
   front-long i xs l h = length-take-le i xs (omega (arith, within .p-most))
 
-  back-long : (xs : List ℤ) → length xs ≡ places → length (take (e .q) (drop (e .p) xs)) ≡ e .q
+  back-long : (xs : List ℤ) → length xs ≡ slots → length (take (e .q) (drop (e .p) xs)) ≡ e .q
   back-long xs l = length-take-le (e .q) (drop (e .p) xs) (omega (arith, length-drop (e .p) xs, within .p-most, within .q-most))
 
   pub sound-state : admits (settings e) ≡ true → isSound e ≡ true → Sound (settings e) (memory e)
@@ -126,10 +127,10 @@ pub examined-state : (e : Equaliser) → sizesFit (settings e) ≡ true → admi
 unfolding examined
 examined-state e f a = rw (f, a)
 
--- a state that no operation turns down, whose arrays have all their places
+-- a state that no operation turns down, whose arrays have all their slots
 pub record Accepted (e : Equaliser) : Type 0 where
-  pub weights-long : length (e .weights) ≡ places
-  pub past-long : length (e .past) ≡ places
+  pub weights-long : length (e .weights) ≡ slots
+  pub past-long : length (e .past) ≡ slots
   pub number : examined e ≡ 0
 
 pub accepted-sound : {e : Equaliser} → Accepted e → Sound (settings e) (memory e)
@@ -138,12 +139,12 @@ accepted-sound {e} a = let t = examined-tests e (a .number) in sound-state e (t 
 -- ---- a fresh state
 
 abbrev zeros : List ℤ
-zeros = replicate places (pos 0)
+zeros = replicate slots (pos 0)
 
 -- a test that 0 passes
 module _ (p : ℤ → Bool) (e : p (pos 0) ≡ true) where
   zeros-pass : all p zeros ≡ true
-  zeros-pass = all-replicate p places (pos 0) e
+  zeros-pass = all-replicate p slots (pos 0) e
 
   front-passes : (i : ℕ) → all p (take i zeros) ≡ true
   front-passes i = all-take p i zeros zeros-pass
@@ -165,7 +166,7 @@ fresh-past k w =
     both _ _
     (both _ _
     (both _ _ (front-passes (isStored (scaleForward k) 0 0) (lt-ltb (0 * 2 ^ (0 + scaleForward k)) (2 ^ 15) (omega arith)) (k .p - 1))
-    (ap isZero (getD-replicate places (k .p - 1) (pos 0) (pos 0) (omega (arith, w .p-most)))))
+    (ap isZero (getD-replicate slots (k .p - 1) (pos 0) (pos 0) (omega (arith, w .p-most)))))
     (all-take (isEntry (k .r)) (k .q) (drop (k .p) zeros) (rest-passes (isEntry (k .r)) refl (k .p))))
     (rest-passes isZero refl (k .p + k .q))
 
@@ -176,8 +177,8 @@ fresh-sound k w = both _ _ (both _ _ (fresh-exponents k w) (fresh-weights k)) (f
 fresh-accepted : (k : Settings) → sizesFit k ≡ true → admits k ≡ true → Accepted (fresh k)
 unfolding fresh
 fresh-accepted k f a = record {
-  weights-long = length-replicate places (pos 0);
-  past-long = length-replicate places (pos 0);
+  weights-long = length-replicate slots (pos 0);
+  past-long = length-replicate slots (pos 0);
   number = tests-examined (fresh k) f a (fresh-sound k (fit-within k f));
 }
 

@@ -5,6 +5,7 @@ use lib.Dec.{leb}
 use Rattle.steps.specs.Limits.{tapLimit, blockLimit, symbolLimit, gainLimit}
 use Rattle.steps.specs.Settings.{Settings, stepBound}
 
+-- 1: every size is within its limits
 abbrev pub sizesFit : Settings → Bool
 sizesFit k =
     leb 1 (k .p) && leb (k .p) tapLimit && leb 1 (k .q) && leb (k .q) tapLimit && leb 1 (k .N) && leb (k .p) (k .N + 1) && leb (k .N) blockLimit

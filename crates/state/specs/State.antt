@@ -6,9 +6,9 @@ use lib.Dec.{leb, ltb, eqb}
 use lib.ListN.{length, take, drop, getD, replicate}
 use lib.IntN.{ℤ, pos, natAbs}
 use Rattle.laws.specs.Lists.{all}
-use Rattle.steps.specs.Limits.{exponentLimit, lengthLimit, places}
+use Rattle.steps.specs.Limits.{exponentLimit, lengthLimit, slots}
 use Rattle.steps.specs.Settings.{Settings, scaleForward, isEntry}
-use Rattle.steps.specs.Side.{allSmall}
+use Rattle.steps.specs.Fir.{allSmall}
 use Rattle.block.specs.Block.{Memory}
 use Rattle.state.specs.declared.equaliser.Equaliser.{Equaliser}
 
@@ -39,7 +39,7 @@ symbols e = take (e .q) (drop (e .p) (e .past))
 
 -- what the last block left
 abbrev pub memory : Equaliser → Memory
-memory e = record { forward = forward e; back = back e; samples = samples e; symbols = symbols e; ψ = e .psi; b = e .b; B = e .big }
+memory e = record { forward = forward e; back = back e; samples = samples e; symbols = symbols e; ψ = e .psi; b = e .b; B = e .bmax }
 
 -- ---- soundness
 
@@ -51,24 +51,25 @@ abbrev pub isStored : ℕ → ℕ → ℕ → ℤ → Bool
 isStored s b B a = ltb (natAbs a * 2 ^ (B + s)) (2 ^ (15 + b))
 
 abbrev pub soundExponents : Equaliser → Bool
-soundExponents e = leb (e .psi) exponentLimit && leb (e .b) (e .big) && leb (e .big + e .l) lengthLimit
+soundExponents e = leb (e .psi) exponentLimit && leb (e .b) (e .bmax) && leb (e .bmax + e .l) lengthLimit
 
 abbrev pub soundWeights : Equaliser → Bool
 soundWeights e = allSmall (take (taps e) (e .weights)) && all isZero (drop (taps e) (e .weights))
 
 abbrev pub soundPast : Equaliser → Bool
 soundPast e =
-    all (isStored (scaleForward (settings e)) (e .b) (e .big)) (samples e) && isZero (filler e) && all (isEntry (e .r)) (symbols e)
+    all (isStored (scaleForward (settings e)) (e .b) (e .bmax)) (samples e) && isZero (filler e) && all (isEntry (e .r)) (symbols e)
     && all isZero (drop (taps e) (e .past))
 
+-- 9: exponents, weights and data are sound
 unfoldable pub isSound : Equaliser → Bool
 isSound e = soundExponents e && soundWeights e && soundPast e
 
 -- ---- states
 
--- a list at the front of the places, zeros after it
+-- a list at the front of the slots, zeros after it
 abbrev pub padded : List ℤ → List ℤ
-padded l = l ++ replicate (places - length l) (pos 0)
+padded l = l ++ replicate (slots - length l) (pos 0)
 
 -- the state with these settings and this memory
 unfoldable pub stateOf : Settings → Memory → Equaliser
@@ -80,7 +81,7 @@ stateOf k o = record {
   l = k .L;
   psi = o .ψ;
   b = o .b;
-  big = o .B;
+  bmax = o .B;
   m = k .M;
   weights = padded (o .forward ++ o .back);
   past = padded (o .samples ++ pos 0 ∷ o .symbols);
@@ -96,10 +97,10 @@ fresh k = record {
   l = k .L;
   psi = 0;
   b = 0;
-  big = 0;
+  bmax = 0;
   m = k .M;
-  weights = replicate places (pos 0);
-  past = replicate places (pos 0);
+  weights = replicate slots (pos 0);
+  past = replicate slots (pos 0);
 }
 
 -- the state of a refused set-up

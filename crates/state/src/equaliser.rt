@@ -14,10 +14,10 @@ pub struct Equaliser {
     pub l: u8,
     pub psi: u8,
     pub b: u8,
-    pub big: u8,
+    pub bmax: u8,
     pub m: u32,
-    pub weights: [i16; limits::PLACES],
-    pub past: [i16; limits::PLACES],
+    pub weights: [i16; Equaliser::SLOTS],
+    pub past: [i16; Equaliser::SLOTS],
 }
 
 // A number beside a state.
@@ -39,10 +39,10 @@ pub fn fresh(p: u8, q: u8, n: u8, r: u8, l: u8, m: u32) -> Equaliser
         l: l,
         psi: 0,
         b: 0,
-        big: 0,
+        bmax: 0,
         m: m,
-        weights: [0i16; limits::PLACES],
-        past: [0i16; limits::PLACES],
+        weights: [0i16; Equaliser::SLOTS],
+        past: [0i16; Equaliser::SLOTS],
     }
 }
 
@@ -58,6 +58,9 @@ impl Equaliser {
 
     pub const EXPONENT: u8 = limits::EXPONENT as u8;
 
+    // The slots of the weights, and of the data.
+    pub const SLOTS: usize = limits::SLOTS;
+
     // The bytes of an image: of what stands before the weights, of a weight, of a datum, and of the longest image.
     pub const HEADER: usize = 12;
 
@@ -66,7 +69,7 @@ impl Equaliser {
     pub const DATUM: usize = 2;
 
     pub const IMAGE: usize = Equaliser::HEADER
-        + (Equaliser::WEIGHT + Equaliser::DATUM) * limits::PLACES;
+        + (Equaliser::WEIGHT + Equaliser::DATUM) * Equaliser::SLOTS;
 
     // A fresh state, or the number of the refusal beside the smallest one.
     pub fn set_up(p: u8, q: u8, n: u8, r: u8, l: u8, m: u32) -> Answer

@@ -1,7 +1,7 @@
 // The sizes and the step admission.
 ghost use mathlib.Core.Path.{_≡_};
 ghost use Rattle.steps.specs.Limits.{blockLimit};
-ghost use Rattle.steps.specs.Settings.{Within};
+ghost use Rattle.steps.specs.Sound.{Within};
 ghost use Rattle.state.specs.Sizes.{sizesFit, admits, settingsNumber, given};
 use super::equaliser::Equaliser;
 

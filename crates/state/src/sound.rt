@@ -3,7 +3,8 @@ ghost use mathlib.Core.Path.{_≡_};
 ghost use Prim.Native.Nat.{_≤_};
 ghost use Rattle.laws.specs.Lists.{all};
 ghost use Rattle.steps.specs.Limits.{symbolLimit, scaleLimit};
-ghost use Rattle.steps.specs.Settings.{Within, isEntry};
+ghost use Rattle.steps.specs.Settings.{isEntry};
+ghost use Rattle.steps.specs.Sound.{Within};
 ghost use Rattle.state.specs.State.{isZero, isStored, soundExponents, soundWeights, soundPast, isSound, settings};
 ghost use Rattle.state.specs.Answers.{examined};
 use super::equaliser::Equaliser;
@@ -11,18 +12,18 @@ use super::equaliser::Equaliser;
 pub fn all_zero(xs: &[i16]) -> bool
     ensures { λ r. ⌜ r ≡ all isZero (now (xs .entry)) ⌝ }
 {
-    steps::side::longest(xs) == 0
+    steps::fir::largest_bits(xs) == 0
 }
 
 // |A|·2^(B+S) < 2^(15+b) for each: it goes by the largest bit length.
-pub fn all_stored(xs: &[i16], s: u32, b: u8, big: u8) -> bool
+pub fn all_stored(xs: &[i16], s: u32, b: u8, bmax: u8) -> bool
     requires { ⌜ s ≤ scaleLimit ⌝ }
-    ensures { λ r. ⌜ r ≡ all (isStored s b big) (now (xs .entry)) ⌝ }
+    ensures { λ r. ⌜ r ≡ all (isStored s b bmax) (now (xs .entry)) ⌝ }
 {
-    let scale = (big as u32) + s;
+    let scale = (bmax as u32) + s;
     let room = 15 + (b as u32);
     if scale < room {
-        steps::side::longest(xs) <= room - scale
+        steps::fir::largest_bits(xs) <= room - scale
     } else {
         all_zero(xs)
     }
@@ -54,8 +55,8 @@ fn sound_exponents(e: Equaliser) -> bool
     ensures { λ f. ⌜ f ≡ soundExponents e ⌝ }
 {
     (e.psi <= Equaliser::EXPONENT)
-        & (e.b <= e.big)
-        & ((e.big as u32) + (e.l as u32) <= steps::limits::LENGTH)
+        & (e.b <= e.bmax)
+        & ((e.bmax as u32) + (e.l as u32) <= steps::limits::LENGTH)
 }
 
 fn sound_weights(e: Equaliser) -> bool
@@ -64,7 +65,7 @@ fn sound_weights(e: Equaliser) -> bool
 {
     let weights = e.weights;
     let taps = (e.p as usize) + (e.q as usize);
-    steps::side::all_small(&weights[0..taps]) & all_zero(&weights[taps..])
+    steps::fir::all_small(&weights[0..taps]) & all_zero(&weights[taps..])
 }
 
 fn sound_past(e: Equaliser) -> bool
@@ -76,7 +77,7 @@ fn sound_past(e: Equaliser) -> bool
     let taps = p + (e.q as usize);
     let s = numbers::scale_count::scale_count(p);
     let last = p - 1;
-    all_stored(&past[0..last], s, e.b, e.big)
+    all_stored(&past[0..last], s, e.b, e.bmax)
         & (past[last] == 0)
         & all_symbols(&past[p..taps], e.r as u32)
         & all_zero(&past[taps..])

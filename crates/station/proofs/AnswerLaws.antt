@@ -5,90 +5,84 @@ use Prim.Native.Nat.{ℕ}
 use native.Mathlib.Omega.{arith}
 use lib.Dec.{eqb}
 use borrow.Author.Tests.{ne-eqb, eq-eqb, eqb-true, eqb-false}
-use Rattle.block.specs.Block.{Outputs, goes, handedAll}
-use Rattle.block.proofs.BlockLeft.{same-outputs}
+use Rattle.block.specs.Block.{Outputs, ψFits, blockOutputs}
+use Rattle.block.proofs.BlockMemory.{same-outputs}
 use Rattle.state.specs.State.{settings, memory}
-use Rattle.station.specs.Answers.{runNumber, runState, accepted, lentOutputs, runOutputs, Run}
-use Rattle.station.specs.Calls.{goesOn, RunChecked, handedOr}
+use Rattle.station.specs.Answers.{runNumber, runState, ifAccepted, outputsBefore, runOutputs, Run}
+use Rattle.station.specs.Calls.{ψFitsBlock, RunChecked, outputsOr}
 use Rattle.state.specs.declared.equaliser.Answer.{Answer}
-use Rattle.checks.specs.Checks.{Lent, block, checkNumber}
+use Rattle.checks.specs.Checks.{Buffers, block, checkNumber}
 use Rattle.state.specs.declared.equaliser.Equaliser.{Equaliser}
 
 -- what is chosen where a block is accepted, and where it isn't
-module _ {A : Type 0} (e : Equaliser) (l : Lent) (new old : A) where
-  pub accepted-new : runNumber e l ≡ 0 → accepted e l new old ≡ new
+module _ {A : Type 0} (e : Equaliser) (l : Buffers) (new old : A) where
+  pub accepted-new : runNumber e l ≡ 0 → ifAccepted e l new old ≡ new
   accepted-new ok = ap (λ (b : Bool). cond b new old) (eq-eqb (runNumber e l) 0 ok)
 
-  pub accepted-old : (runNumber e l ≡ 0 → ⊥) → accepted e l new old ≡ old
+  pub accepted-old : (runNumber e l ≡ 0 → ⊥) → ifAccepted e l new old ≡ old
   accepted-old f = ap (λ (b : Bool). cond b new old) (ne-eqb (runNumber e l) 0 f)
 
 -- the five lists of an accepted block, of one that isn't, and of whatever the contract allows
-module _ (e : Equaliser) (l : Lent) where
-  pub outputs-new : runNumber e l ≡ 0 → runOutputs e l ≡ handedAll (settings e) (memory e) (block l)
-  outputs-new ok = same-outputs (accepted-new e l _ _ ok) (accepted-new e l _ _ ok) (accepted-new e l _ _ ok) (accepted-new e l _ _ ok) (accepted-new e l _ _ ok)
+module _ (e : Equaliser) (l : Buffers) where
+  pub outputs-new : runNumber e l ≡ 0 → runOutputs e l ≡ blockOutputs (settings e) (memory e) (block l)
+  outputs-new ok = accepted-new e l _ _ ok
 
-  pub outputs-old : (runNumber e l ≡ 0 → ⊥) → runOutputs e l ≡ lentOutputs l
-  outputs-old f = same-outputs (accepted-old e l _ _ f) (accepted-old e l _ _ f) (accepted-old e l _ _ f) (accepted-old e l _ _ f) (accepted-old e l _ _ f)
+  pub outputs-old : (runNumber e l ≡ 0 → ⊥) → runOutputs e l ≡ outputsBefore l
+  outputs-old f = accepted-old e l _ _ f
 
-pub outputs-are : {e : Equaliser} {l : Lent} {a : Answer} {h : Outputs} → Run e l a (h .y) (h .xi) (h .decision) (h .z) (h .theta) → h ≡ runOutputs e l
+pub outputs-are : {e : Equaliser} {l : Buffers} {a : Answer} {h : Outputs} → Run e l a (h .y) (h .xi) (h .decision) (h .z) (h .theta) → h ≡ runOutputs e l
 outputs-are r = same-outputs (r .y-is) (r .xi-is) (r .decision-is) (r .z-is) (r .theta-is)
 
-pub run-tests : (e : Equaliser) (l : Lent) → runNumber e l ≡ 0 → (checkNumber e l ≡ 0) × (goes (settings e) (memory e) (block l) (e .n) ≡ true)
+pub run-tests : (e : Equaliser) (l : Buffers) → runNumber e l ≡ 0 → (checkNumber e l ≡ 0) × (ψFits (settings e) (memory e) (block l) (e .n) ≡ true)
 unfolding runNumber
-run-tests e l h = go (checkNumber e l) (eqb (checkNumber e l) 0) (goes (settings e) (memory e) (block l) (e .n)) refl h
+run-tests e l h = go (checkNumber e l) (eqb (checkNumber e l) 0) (ψFits (settings e) (memory e) (block l) (e .n)) refl h
   where
     go : (n : ℕ) (t a : Bool) → eqb n 0 ≡ t → cond t (cond a 0 6) n ≡ 0 → (n ≡ 0) × (a ≡ true)
     go n true true f h = (eqb-true n 0 f, refl)
     go n true false f h = absurd (omega arith)
     go n false a f h = absurd (eqb-false n 0 f h)
 
-module _ (e : Equaliser) (l : Lent) where
+module _ (e : Equaliser) (l : Buffers) where
   -- ---- the number
 
   pub check-fails : (n : ℕ) → n ≡ checkNumber e l → (n ≡ 0 → ⊥) → n ≡ runNumber e l
   unfolding runNumber
   check-fails n h f = simp (ne-eqb (checkNumber e l) 0 (λ z. f (h ∙ z))) h
 
+  -- ---- the contract, from the number, the state and the five lists
+
+  pub run-is : {a : Answer} {h : Outputs} → a .number ≡ runNumber e l → a .state ≡ runState e l → h ≡ runOutputs e l → Run e l a (h .y) (h .xi) (h .decision) (h .z) (h .theta)
+  run-is n s o = record {
+    number = n;
+    state = s;
+    y-is = ap (λ (t : Outputs). t .y) o;
+    xi-is = ap (λ (t : Outputs). t .xi) o;
+    decision-is = ap (λ (t : Outputs). t .decision) o;
+    z-is = ap (λ (t : Outputs). t .z) o;
+    theta-is = ap (λ (t : Outputs). t .theta) o;
+  }
+
   -- ---- everything as it was
 
   pub refused : (n : ℕ) → n ≡ runNumber e l → (n ≡ 0 → ⊥) → Run e l (record { number = n; state = e }) (l .y) (l .xi) (l .decision) (l .z) (l .theta)
   unfolding runState
-  refused n h f = record {
-    number = h;
-    state = was _ e;
-    y-is = was _ (l .y);
-    xi-is = was _ (l .xi);
-    decision-is = was _ (l .decision);
-    z-is = was _ (l .z);
-    theta-is = was _ (l .theta);
-  }
-    where
-      was : {A : Type 0} (new old : A) → old ≡ accepted e l new old
-      was new old = sym (accepted-old e l new old (λ z. f (h ∙ z)))
+  refused n h f = let g : runNumber e l ≡ 0 → ⊥ = λ z. f (h ∙ z) in run-is {h = outputsBefore l} h (sym (accepted-old e l _ e g)) (sym (outputs-old e l g))
 
   -- ---- a block that passed the checks
 
   module _ (c : checkNumber e l ≡ 0) where
-    pub number-is : cond (goesOn e (block l)) 0 6 ≡ runNumber e l
+    pub number-is : cond (ψFitsBlock e (block l)) 0 6 ≡ runNumber e l
     unfolding runNumber
     number-is = simp c
 
-    pub goes-accepted : {A : Type 0} (new old : A) → cond (goesOn e (block l)) new old ≡ accepted e l new old
-    goes-accepted new old = rw (sym number-is) (go (goesOn e (block l)))
+    pub ψ-fits-accepted : {A : Type 0} (new old : A) → cond (ψFitsBlock e (block l)) new old ≡ ifAccepted e l new old
+    ψ-fits-accepted new old = rw (sym number-is) (go (ψFitsBlock e (block l)))
       where
         go : (b : Bool) → cond b new old ≡ cond (eqb (cond b 0 6) 0) new old
         go true = refl
         go false = refl
 
-    pub answered : {areas areas′ : Outputs} {a : Answer} {l′ : Outputs} → RunChecked e (block l) areas a areas′ → l′ ≡ handedOr e (block l) (lentOutputs l) →
+    pub answered : {areas areas′ : Outputs} {a : Answer} {l′ : Outputs} → RunChecked e (block l) areas a areas′ → l′ ≡ outputsOr e (block l) (outputsBefore l) →
         Run e l a (l′ .y) (l′ .xi) (l′ .decision) (l′ .z) (l′ .theta)
     unfolding runState
-    answered h o = record {
-      number = h .number ∙ number-is;
-      state = h .state ∙ goes-accepted _ e;
-      y-is = ap (λ (t : Outputs). t .y) o ∙ goes-accepted _ (l .y);
-      xi-is = ap (λ (t : Outputs). t .xi) o ∙ goes-accepted _ (l .xi);
-      decision-is = ap (λ (t : Outputs). t .decision) o ∙ goes-accepted _ (l .decision);
-      z-is = ap (λ (t : Outputs). t .z) o ∙ goes-accepted _ (l .z);
-      theta-is = ap (λ (t : Outputs). t .theta) o ∙ goes-accepted _ (l .theta);
-    }
+    answered h o = run-is (h .number ∙ number-is) (h .state ∙ ψ-fits-accepted _ e) (o ∙ ψ-fits-accepted _ (outputsBefore l))

@@ -13,19 +13,19 @@ use Rattle.laws.specs.Integers.{abs-zero}
 use Rattle.laws.specs.Lists.{and-left, and-right, all}
 use Rattle.steps.specs.Limits.{blockLimit, exponentLimit}
 use Rattle.steps.specs.Settings.{Settings, scaleForward, isEntry}
-use Rattle.block.specs.Block.{Block, Memory, Outputs, left}
+use Rattle.block.specs.Block.{Block, Memory, Outputs, nextMemory}
 use Rattle.block.specs.Sound.{Sound}
 use Rattle.block.specs.Calls.{memoryOf, OutputsLong, Runnable, BlockResult-is}
 use Rattle.block.specs.declared.run.BlockResult.{BlockResult}
-use Rattle.block.proofs.BlockSound.{left-sound}
-use Rattle.block.proofs.BlockLeft.{goes-is, left-is, handed-all}
+use Rattle.block.proofs.BlockSound.{next-memory-sound}
+use Rattle.block.proofs.BlockMemory.{ψ-fits-is, next-memory-is, block-all}
 use Rattle.state.specs.State.{settings, memory, taps, samples, symbols, filler, isZero, isStored, padded, stateOf}
 use Rattle.checks.specs.Calls.{Checked}
 use Rattle.state.specs.declared.equaliser.Equaliser.{Equaliser}
 use Rattle.state.specs.declared.equaliser.Answer.{Answer}
 use Rattle.state.proofs.SoundLaws.{sound-tests}
 use Rattle.state.proofs.PartsLaws.{state-of-parts}
-use Rattle.station.specs.Calls.{Parts, ResultBytes, nextOf, goesOn, RunChecked, handedOr}
+use Rattle.station.specs.Calls.{Parts, ResultBytes, nextOf, ψFitsBlock, RunChecked, outputsOr}
 
 -- ---- parts of a list
 
@@ -88,7 +88,7 @@ module _ (e : Equaliser) (i : Block) (h : Checked e i) where
 
   filler-zero : filler e ≡ pos 0
   filler-zero =
-      let stored = all (isStored (scaleForward (settings e)) (e .b) (e .big)) (samples e) in
+      let stored = all (isStored (scaleForward (settings e)) (e .b) (e .bmax)) (samples e) in
       let entries = all (isEntry (e .r)) (symbols e) in
       let t = and-left (stored && isZero (filler e) && entries) (all isZero (drop (taps e) (e .past))) (sound-tests e (h .sound-state) .2) in
       abs-zero (filler e) (eqb-true (natAbs (filler e)) 0 (and-right stored (isZero (filler e)) (and-left (stored && isZero (filler e)) entries t)))
@@ -123,11 +123,11 @@ module _ {e : Equaliser} {i : Block} {ahead behind window recent : List ℤ} {l 
   window-samples : take (length window - 1) window ≡ samples e
   window-samples = ap (λ (l : List ℤ). take (length l - 1) l) (h .window-is) ∙ but-last (samples e) (pos 0)
 
-  memory-is : memoryOf ahead behind window recent (e .psi) (e .b) (e .big) ≡ memory e
+  memory-is : memoryOf ahead behind window recent (e .psi) (e .b) (e .bmax) ≡ memory e
   memory-is = rw (h .forward-is, h .back-is, window-samples, h .symbols-are)
 
   module _ {k : Settings} (q : k ≡ settings e) where
-    pub runnable : Runnable k (memoryOf ahead behind window recent (e .psi) (e .b) (e .big)) i window l
+    pub runnable : Runnable k (memoryOf ahead behind window recent (e .psi) (e .b) (e .bmax)) i window l
     runnable = rw (q, memory-is) (record {
       sound = h .checked .sound;
       acceptable = h .checked .acceptable;
@@ -137,7 +137,7 @@ module _ {e : Equaliser} {i : Block} {ahead behind window recent : List ℤ} {l 
 
     -- what it leaves, on the memory of the state
     pub result-is : {r : BlockResult} {forward back samples symbols : List ℤ} {l′ : Outputs} →
-        BlockResult-is k (memoryOf ahead behind window recent (e .psi) (e .b) (e .big)) i l r forward back samples symbols l′ →
+        BlockResult-is k (memoryOf ahead behind window recent (e .psi) (e .b) (e .bmax)) i l r forward back samples symbols l′ →
         BlockResult-is (settings e) (memory e) i l r forward back samples symbols l′
     result-is p = rw (q, memory-is) at p
 
@@ -148,22 +148,22 @@ module _ {e : Equaliser} {i : Block} {l : Outputs} {r : BlockResult} {ahead behi
   -- ψ passed its limit
   pub stopped : exponentLimit < r .psi → RunChecked e i l (record { number = 6; state = e }) l′
   stopped m =
-      let g = goes-is h (c .sound) ∙ lt-leb _ _ m in
-      record { number = ap (λ (b : Bool). cond b 0 6) (sym g); state = ap (λ (b : Bool). cond b (stateOf (settings e) (left (settings e) (memory e) i)) e) (sym g); outputs-are = h .outputs-are }
+      let g = ψ-fits-is h (c .sound) ∙ lt-leb _ _ m in
+      record { number = ap (λ (b : Bool). cond b 0 6) (sym g); state = ap (λ (b : Bool). cond b (stateOf (settings e) (nextMemory (settings e) (memory e) i)) e) (sym g); outputs-are = h .outputs-are }
 
   -- ψ kept its limit
   module _ (m : r .psi ≤ exponentLimit) where
-    goes-on : goesOn e i ≡ true
-    goes-on = goes-is h (c .sound) ∙ le-leb _ _ m
+    ψ-fits-on : ψFitsBlock e i ≡ true
+    ψ-fits-on = ψ-fits-is h (c .sound) ∙ le-leb _ _ m
 
     abbrev next-memory : Memory
-    next-memory = record { forward = ahead; back = behind; samples = take (e .p - 1) window; symbols = recent; ψ = r .psi; b = r .b; B = r .big }
+    next-memory = record { forward = ahead; back = behind; samples = take (e .p - 1) window; symbols = recent; ψ = r .psi; b = r .b; B = r .bmax }
 
     -- its numbers fit their bytes
     pub result-bytes : ResultBytes r
     result-bytes =
-        let s = subst (Sound (settings e)) (left-is h goes-on) (left-sound (settings e) (memory e) i (c .sound) (c .acceptable) goes-on) in
-        record { psi = omega arith; b = omega (arith, s .b-most, s .B-most); big = omega (arith, s .B-most) }
+        let s = subst (Sound (settings e)) (next-memory-is h ψ-fits-on) (next-memory-sound (settings e) (memory e) i (c .sound) (c .acceptable) ψ-fits-on) in
+        record { psi = omega arith; b = omega (arith, s .b-most, s .B-most); bmax = omega (arith, s .B-most) }
 
     -- another last element of the window
     past-is : length window ≡ e .p → set window (length window - 1) (pos 0) ++ recent ≡ take (e .p - 1) window ++ pos 0 ∷ recent
@@ -172,9 +172,9 @@ module _ {e : Equaliser} {i : Block} {l : Outputs} {r : BlockResult} {ahead behi
     pub finished : {s : Equaliser} {ws ds : List ℤ} → s ≡ nextOf e r ws ds → ws ≡ padded (ahead ++ behind) → ds ≡ padded (set window (length window - 1) (pos 0) ++ recent) →
         length window ≡ e .p → RunChecked e i l (record { number = 0; state = s }) l′
     finished {ws = ws} {ds = ds} es ew ed n = record {
-      number = ap (λ (b : Bool). cond b 0 6) (sym goes-on);
-      state = es ∙ state-of-parts (settings e) next-memory ws ds ew (ed ∙ ap padded (past-is n)) ∙ ap (stateOf (settings e)) (sym (left-is h goes-on))
-          ∙ ap (λ (b : Bool). cond b (stateOf (settings e) (left (settings e) (memory e) i)) e) (sym goes-on);
+      number = ap (λ (b : Bool). cond b 0 6) (sym ψ-fits-on);
+      state = es ∙ state-of-parts (settings e) next-memory ws ds ew (ed ∙ ap padded (past-is n)) ∙ ap (stateOf (settings e)) (sym (next-memory-is h ψ-fits-on))
+          ∙ ap (λ (b : Bool). cond b (stateOf (settings e) (nextMemory (settings e) (memory e) i)) e) (sym ψ-fits-on);
       outputs-are = h .outputs-are;
     }
 
@@ -182,17 +182,17 @@ module _ {e : Equaliser} {i : Block} {l : Outputs} {r : BlockResult} {ahead behi
 
 module _ {e : Equaliser} {i : Block} {l : Outputs} {a : Answer} {l′ : Outputs} (h : RunChecked e i l a l′) (given : Outputs) where
   -- nothing, beside 6
-  pub handed-none : (a .number ≡ 0 → ⊥) → given ≡ handedOr e i given
-  handed-none f = go (goesOn e i) refl (h .number)
+  pub block-none : (a .number ≡ 0 → ⊥) → given ≡ outputsOr e i given
+  block-none f = go (ψFitsBlock e i) refl (h .number)
     where
-      go : (b : Bool) → goesOn e i ≡ b → a .number ≡ cond b 0 6 → given ≡ handedOr e i given
+      go : (b : Bool) → ψFitsBlock e i ≡ b → a .number ≡ cond b 0 6 → given ≡ outputsOr e i given
       go true g n = absurd (f n)
       go false g n = rw g
 
   -- everything, beside 0
-  pub handed-new : a .number ≡ 0 → OutputsLong (settings e) l → l′ ≡ handedOr e i given
-  handed-new z q = go (goesOn e i) refl (h .number)
+  pub block-new : a .number ≡ 0 → OutputsLong (settings e) l → l′ ≡ outputsOr e i given
+  block-new z q = go (ψFitsBlock e i) refl (h .number)
     where
-      go : (b : Bool) → goesOn e i ≡ b → a .number ≡ cond b 0 6 → l′ ≡ handedOr e i given
-      go true g n = rw g (h .outputs-are ∙ handed-all (settings e) (memory e) i g l q)
+      go : (b : Bool) → ψFitsBlock e i ≡ b → a .number ≡ cond b 0 6 → l′ ≡ outputsOr e i given
+      go true g n = rw g (h .outputs-are ∙ block-all (settings e) (memory e) i g l q)
       go false g n = absurd (omega arith)

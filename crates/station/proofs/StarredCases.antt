@@ -1,21 +1,20 @@
 -- The starred cases beside the limits: a table of what the definitions give and what the specification (docs/EQUALISER.md) says.
 use mathlib.Core.Path.{_≡_, refl}
 use mathlib.Core.List.{List, [], _∷_, _++_, map}
-use Prim.Native.Nat.{ℕ, zero, suc, _-_}
+use Prim.Native.Nat.{ℕ, zero, suc, _/_, _%_, _^_}
 use lib.ListN.{replicate}
-use lib.IntN.{ℤ, pos, negsuc}
+use lib.IntN.{ℤ, pos, negsuc, _-ℤ_}
 use Rattle.laws.specs.Sums.{dot}
 use Rattle.numbers.specs.ScaleCount.{scaleCount}
 use Rattle.numbers.specs.BitLength.{bitLength}
 use Rattle.numbers.specs.Cut.{cut}
 use Rattle.steps.specs.Settings.{Settings, stepBound}
-use Rattle.steps.specs.Side.{largest, adapt}
+use Rattle.steps.specs.Fir.{largest, adapt, largestBits}
 use Rattle.steps.specs.Output.{output, outputExponent}
 use Rattle.steps.specs.Decision.{decide}
 use Rattle.steps.specs.Error.{error, errorExponent}
-use Rattle.filter.specs.Sample.{outcomeOf, settled, settledExponent, ν, F, H, Y, ξ, decision, v, κ, Z, θ, J, newForward, newBack, outcome, next}
-use Rattle.steps.specs.Side.{longest}
-use Rattle.block.specs.Block.{Block, Memory, receivedAll, newb, newB, g, stored, old, start, after, at, left}
+use Rattle.filter.specs.Sample.{outcomeOf, normalised, normalisedExponent, ν, F, H, Y, ξ, decision, v, κ, Z, θ, J, newForward, newBack, outcome, next}
+use Rattle.block.specs.Block.{Block, Memory, receivedAll, newb, newB, Γ, stored, old, start, after, at, nextMemory}
 use Rattle.state.specs.Sizes.{settingsNumber, given}
 use Rattle.state.specs.State.{memory, fresh}
 
@@ -46,16 +45,16 @@ silence = record { samples = replicate 5 (pos 0); gains = replicate 5 0; entries
 
 -- all definitions, opened
 steps : Unit {0}
-unfolding scaleCount bitLength cut dot largest adapt longest output outputExponent decide error errorExponent ν F H Y ξ decision v κ Z θ J outcomeOf newForward newBack outcome next receivedAll newb newB g stored old start after at left settingsNumber fresh smallest one begun still low silence
+unfolding scaleCount bitLength cut dot largest adapt largestBits output outputExponent decide error errorExponent ν F H Y ξ decision v κ Z θ J outcomeOf newForward newBack outcome next receivedAll newb newB Γ stored old start after at nextMemory settingsNumber fresh smallest one begun still low silence
 steps = tt
 
 trained : Memory
 unfolding steps
-trained = left smallest begun (one (pos 16384) (pos 1))
+trained = nextMemory smallest begun (one (pos 16384) (pos 1))
 
 decided : Memory
 unfolding steps trained
-decided = left smallest trained (one (pos 16384) (pos 0))
+decided = nextMemory smallest trained (one (pos 16384) (pos 0))
 
 weights : Memory → List ℤ
 weights o = o .forward ++ o .back
@@ -63,12 +62,12 @@ weights o = o .forward ++ o .back
 -- a first block of one sample, trained on 1: b, ξ and the weights that it leaves. Those of −32768 and of 32767 are no swapped pair, so −32768 is left out there
 first : ℤ → List ℤ
 first m =
-    let o = left smallest begun (one m (pos 1)) in
-    pos (o .b) ∷ pos (ξ smallest (g smallest begun (one m (pos 1))) (at smallest begun (one m (pos 1)) 0) (pos 1)) ∷ weights o
+    let o = nextMemory smallest begun (one m (pos 1)) in
+    pos (o .b) ∷ pos (ξ smallest (Γ smallest begun (one m (pos 1))) (at smallest begun (one m (pos 1)) 0) (pos 1)) ∷ weights o
 
 -- step 7, and what follows it, on new weights of both filters at ψ: the weights that are left, then ψ
-settles : ℕ → List ℤ → List ℤ → List ℤ
-settles ψ f b = let s = outcomeOf ψ f b in settled s f ++ settled s b ++ (pos (settledExponent s ψ) ∷ [])
+normalises : ℕ → List ℤ → List ℤ → List ℤ
+normalises ψ f b = let s = outcomeOf ψ f b in normalised s f ++ normalised s b ++ (pos (normalisedExponent s ψ) ∷ [])
 
 -- ψ after each of n samples of silence in one block, where all weights are 0 and ψ is 3
 falling : ℕ → List ℤ
@@ -77,6 +76,10 @@ falling (suc n) = falling n ++ (pos (after still low silence (suc n) .ψ) ∷ []
 
 answers : ℕ → ℕ → ℕ → ℕ → ℕ → List ℤ
 answers p N r L M = pos (settingsNumber (given p p N r L M)) ∷ []
+
+-- D·2^L over 2^L: the whole part of D, and what remains
+D : Settings → List ℤ
+D k = pos (stepBound k / 2 ^ k .L) ∷ pos (stepBound k % 2 ^ k .L) ∷ []
 
 -- the scale counts of k and of the numbers after it, n in all
 scales : ℕ → ℕ → List ℤ
@@ -90,12 +93,12 @@ unfolding steps
 cases =
     record { gives = answers 1 1 0 0 67108864; says = pos 0 ∷ [] }
     ∷ record { gives = answers 1 1 0 0 67108865; says = pos 2 ∷ [] }
-    ∷ record { gives = pos (stepBound (given 3 3 2 2 1 0)) ∷ []; says = pos 832 ∷ [] }
+    ∷ record { gives = D (given 3 3 2 2 1 0); says = pos 416 ∷ pos 0 ∷ [] }
     ∷ record { gives = answers 3 2 2 1 2581110; says = pos 0 ∷ [] }
     ∷ record { gives = answers 3 2 2 1 2581111; says = pos 2 ∷ [] }
     ∷ record { gives = pos (newb smallest begun (one (negsuc 32767) (pos 0))) ∷ []; says = pos 31 ∷ [] }
     ∷ record { gives = stored smallest begun (one (negsuc 32767) (pos 0)); says = negsuc 8191 ∷ [] }
-    ∷ record { gives = pos (g smallest begun (one (negsuc 32767) (pos 0)) - 30) ∷ []; says = pos 2 ∷ [] }
+    ∷ record { gives = (pos (Γ smallest begun (one (negsuc 32767) (pos 0))) -ℤ pos 30) ∷ []; says = pos 2 ∷ [] }
     ∷ record { gives = first (negsuc 32767); says = pos 31 ∷ pos 2 ∷ negsuc 2047 ∷ pos 0 ∷ [] }
     ∷ record { gives = first (pos 32767); says = pos 30 ∷ pos 1 ∷ pos 2047 ∷ pos 0 ∷ [] }
     ∷ record { gives = cut (negsuc 2) 1 ∷ []; says = negsuc 0 ∷ [] }
@@ -103,20 +106,20 @@ cases =
     ∷ record { gives = scales 1 16; says = map pos (1 ∷ 2 ∷ 3 ∷ 3 ∷ 4 ∷ 4 ∷ 4 ∷ 4 ∷ 5 ∷ 5 ∷ 5 ∷ 5 ∷ 5 ∷ 5 ∷ 5 ∷ 5 ∷ []) }
     ∷ record { gives = scales 17 16; says = replicate 16 (pos 6) }
     ∷ record { gives = scales 33 32; says = replicate 32 (pos 7) }
-    ∷ record { gives = settles 0 (pos 16383 ∷ []) (negsuc 2 ∷ []); says = pos 16383 ∷ negsuc 2 ∷ pos 0 ∷ [] }
-    ∷ record { gives = settles 0 (pos 16384 ∷ []) (negsuc 2 ∷ []); says = pos 8192 ∷ negsuc 0 ∷ pos 1 ∷ [] }
-    ∷ record { gives = settles 0 (negsuc 16384 ∷ []) (pos 0 ∷ []); says = negsuc 8191 ∷ pos 0 ∷ pos 1 ∷ [] }
-    ∷ record { gives = settles 1 (pos 4095 ∷ pos 4095 ∷ []) (pos 4095 ∷ []); says = pos 8190 ∷ pos 8190 ∷ pos 8190 ∷ pos 0 ∷ [] }
-    ∷ record { gives = settles 1 (pos 4095 ∷ pos 4096 ∷ []) (pos 4095 ∷ []); says = pos 4095 ∷ pos 4096 ∷ pos 4095 ∷ pos 1 ∷ [] }
-    ∷ record { gives = settles 1 (pos 4095 ∷ []) (pos 4095 ∷ negsuc 4095 ∷ []); says = pos 4095 ∷ pos 4095 ∷ negsuc 4095 ∷ pos 1 ∷ [] }
-    ∷ record { gives = settles 1 (negsuc 4095 ∷ []) (pos 4095 ∷ []); says = negsuc 4095 ∷ pos 4095 ∷ pos 1 ∷ [] }
-    ∷ record { gives = settles 1 (pos 4095 ∷ []) (pos 4096 ∷ []); says = pos 4095 ∷ pos 4096 ∷ pos 1 ∷ [] }
-    ∷ record { gives = settles 0 (pos 4095 ∷ []) (negsuc 4094 ∷ []); says = pos 4095 ∷ negsuc 4094 ∷ pos 0 ∷ [] }
-    ∷ record { gives = settles 5 (pos 16384 ∷ []) (pos 4095 ∷ []); says = pos 8192 ∷ pos 2047 ∷ pos 6 ∷ [] }
+    ∷ record { gives = normalises 0 (pos 16383 ∷ []) (negsuc 2 ∷ []); says = pos 16383 ∷ negsuc 2 ∷ pos 0 ∷ [] }
+    ∷ record { gives = normalises 0 (pos 16384 ∷ []) (negsuc 2 ∷ []); says = pos 8192 ∷ negsuc 0 ∷ pos 1 ∷ [] }
+    ∷ record { gives = normalises 0 (negsuc 16384 ∷ []) (pos 0 ∷ []); says = negsuc 8191 ∷ pos 0 ∷ pos 1 ∷ [] }
+    ∷ record { gives = normalises 1 (pos 4095 ∷ pos 4095 ∷ []) (pos 4095 ∷ []); says = pos 8190 ∷ pos 8190 ∷ pos 8190 ∷ pos 0 ∷ [] }
+    ∷ record { gives = normalises 1 (pos 4095 ∷ pos 4096 ∷ []) (pos 4095 ∷ []); says = pos 4095 ∷ pos 4096 ∷ pos 4095 ∷ pos 1 ∷ [] }
+    ∷ record { gives = normalises 1 (pos 4095 ∷ []) (pos 4095 ∷ negsuc 4095 ∷ []); says = pos 4095 ∷ pos 4095 ∷ negsuc 4095 ∷ pos 1 ∷ [] }
+    ∷ record { gives = normalises 1 (negsuc 4095 ∷ []) (pos 4095 ∷ []); says = negsuc 4095 ∷ pos 4095 ∷ pos 1 ∷ [] }
+    ∷ record { gives = normalises 1 (pos 4095 ∷ []) (pos 4096 ∷ []); says = pos 4095 ∷ pos 4096 ∷ pos 1 ∷ [] }
+    ∷ record { gives = normalises 0 (pos 4095 ∷ []) (negsuc 4094 ∷ []); says = pos 4095 ∷ negsuc 4094 ∷ pos 0 ∷ [] }
+    ∷ record { gives = normalises 5 (pos 16384 ∷ []) (pos 4095 ∷ []); says = pos 8192 ∷ pos 2047 ∷ pos 6 ∷ [] }
     ∷ record { gives = falling 5; says = pos 2 ∷ pos 1 ∷ pos 0 ∷ pos 0 ∷ pos 0 ∷ [] }
     ∷ record { gives = weights trained; says = pos 1024 ∷ pos 0 ∷ [] }
     ∷ record { gives = weights decided; says = pos 2032 ∷ pos 2016 ∷ [] } ∷ []
 
 pub starred : map (λ (c : Case). c .gives) cases ≡ map (λ (c : Case). c .says) cases
-unfolding cases steps trained decided weights first settles falling answers scales
+unfolding cases steps trained decided weights first normalises falling answers D scales
 starred = refl

@@ -13,32 +13,33 @@ use borrow.Author.Tests.{eqb-true, eqb-false, leb-true, leb-false}
 use Rattle.laws.specs.Negated.{negated, negated-negated}
 use Rattle.laws.specs.Sums.{Each}
 use Rattle.steps.specs.Settings.{Settings}
-use Rattle.block.specs.Block.{Block, Memory, goes, handedAll}
+use Rattle.block.specs.Block.{Block, Memory, ψFits, blockOutputs}
 use Rattle.block.specs.Block as Block
-use Rattle.block.specs.Swapped.{swapped, swappedBlock}
-use Rattle.block.proofs.SwappedLaws.{goes-same, handed-same, left-swapped, swapped-back, swapped-sound}
+use Rattle.block.specs.Swapped.{swapped}
+use Rattle.block.specs.Calls.{swappedBlock}
+use Rattle.block.proofs.SwappedLaws.{ψ-fits-same, block-same, next-memory-swapped, swapped-back, swapped-sound}
 use Rattle.state.specs.State.{settings, memory}
 use Rattle.state.specs.Answers.{setUpState}
 use Rattle.state.specs.declared.equaliser.Equaliser.{Equaliser}
 use Rattle.state.proofs.SoundLaws.{examined-same, set-up-accepted}
 use Rattle.state.proofs.SetUpLaws.{set-up-swapped}
 use Rattle.state.proofs.KeptLaws.{settings-is, memory-is, kept-accepted}
-use Rattle.checks.specs.Checks.{Lent, block, lengthsFit, checkNumber}
+use Rattle.checks.specs.Checks.{Buffers, block, lengthsFit, checkNumber}
 use Rattle.checks.proofs.CheckLaws.{check-same, check-tests}
 use Rattle.station.specs.Answers.{runNumber, runState, runOutputs}
 use Rattle.station.specs.Claim.{Typed, WithinLimits}
-use Rattle.station.specs.Swapped.{SoundState, SwappedPair, SwappedLists, LentToBoth, NotLowest, partner, partnerLists, SameRuns, SwappedAlways}
+use Rattle.station.specs.Swapped.{SoundState, SwappedPair, SwappedLists, BuffersOfBoth, NotLowest, partner, partnerLists, SameRuns, SwappedAlways}
 use Rattle.station.proofs.AnswerLaws.{outputs-new, outputs-old, run-tests}
-use Rattle.station.proofs.Claim.{accepted-within, refused-same, run-within, next-settings, next-memory}
+use Rattle.station.proofs.Claim.{accepted-within, within-bounds, refused-same, run-within, next-settings, next-memory}
 
 sound-within : {s : Equaliser} → WithinLimits s → SoundState s
 sound-within g = record { sound = g .sound; weights-long = g .weights-long; past-long = g .past-long }
 
 -- a sound state that a block is accepted on
-within : (s : Equaliser) → SoundState s → (l : Lent) → runNumber s l ≡ 0 → WithinLimits s
+within : (s : Equaliser) → SoundState s → (l : Buffers) → runNumber s l ≡ 0 → WithinLimits s
 within s g l ok = accepted-within (record { weights-long = g .weights-long; past-long = g .past-long; number = check-tests s l (run-tests s l ok .0) .0 })
 
-module _ (s s′ : Equaliser) (p : SwappedPair s s′) (l l′ : Lent) (b : SwappedLists l l′) where
+module _ (s s′ : Equaliser) (p : SwappedPair s s′) (l l′ : Buffers) (b : SwappedLists l l′) where
   -- ---- what a block goes by
 
   block-swapped : block l′ ≡ swappedBlock (block l)
@@ -58,8 +59,8 @@ module _ (s s′ : Equaliser) (p : SwappedPair s s′) (l l′ : Lent) (b : Swap
   checks-same =
       check-same s s′ l l′ (p .settings-same) (examined-same s s′ (p .settings-same) (p .state .sound) (p .state′ .sound)) lengths-same (b .gains-same) (b .entries-same)
 
-  going-same : goes (settings s′) (memory s′) (block l′) (s′ .n) ≡ goes (settings s) (memory s) (block l) (s .n)
-  going-same = on-both (λ k o i. goes k o i (k .N)) ∙ goes-same (settings s) (memory s) (block l) (s .n)
+  going-same : ψFits (settings s′) (memory s′) (block l′) (s′ .n) ≡ ψFits (settings s) (memory s) (block l) (s .n)
+  going-same = on-both (λ k o i. ψFits k o i (k .N)) ∙ ψ-fits-same (settings s) (memory s) (block l) (s .n)
 
   number-same : runNumber s′ l′ ≡ runNumber s l
   unfolding runNumber
@@ -68,7 +69,7 @@ module _ (s s′ : Equaliser) (p : SwappedPair s s′) (l l′ : Lent) (b : Swap
   -- ---- the lists
 
   outputs-same : runNumber s l ≡ 0 → runOutputs s′ l′ ≡ runOutputs s l
-  outputs-same ok = outputs-new s′ l′ (number-same ∙ ok) ∙ on-both handedAll ∙ handed-same (settings s) (memory s) (block l) ∙ sym (outputs-new s l ok)
+  outputs-same ok = outputs-new s′ l′ (number-same ∙ ok) ∙ on-both blockOutputs ∙ block-same (settings s) (memory s) (block l) ∙ sym (outputs-new s l ok)
 
   pub same-runs : SameRuns s l s′ l′
   same-runs = record {
@@ -86,7 +87,7 @@ module _ (s s′ : Equaliser) (p : SwappedPair s s′) (l l′ : Lent) (b : Swap
       state′ = sound-within (run-within s′ g′ l′ t′);
       settings-same = next-settings s′ g′ l′ t′ ok′ ∙ p .settings-same ∙ sym (next-settings s g l t ok);
       memory-swapped =
-          next-memory s′ g′ l′ t′ ok′ ∙ on-both Block.left ∙ left-swapped (settings s) (memory s) (block l) ∙ ap swapped (sym (next-memory s g l t ok));
+          next-memory s′ g′ l′ t′ ok′ ∙ on-both Block.nextMemory ∙ next-memory-swapped (settings s) (memory s) (block l) ∙ ap swapped (sym (next-memory s g l t ok));
     }
       where
         ok′ : runNumber s′ l′ ≡ 0
@@ -107,7 +108,7 @@ module _ (s s′ : Equaliser) (p : SwappedPair s s′) (l l′ : Lent) (b : Swap
             let f = eqb-false (runNumber s l) 0 e in
             rw (refused-same s l f, refused-same s′ l′ (λ z. f (sym number-same ∙ z))) p
 
-pub swapped-always : (s s′ : Equaliser) → SwappedPair s s′ → (bs : List LentToBoth) → SwappedAlways s s′ bs
+pub swapped-always : (s s′ : Equaliser) → SwappedPair s s′ → (bs : List BuffersOfBoth) → SwappedAlways s s′ bs
 swapped-always s s′ p [] = p
 swapped-always s s′ p (b ∷ bs) =
     (p, (same-runs s s′ p (b .l) (b .l′) (b .lists), swapped-always (runState s (b .l)) (runState s′ (b .l′)) (next-pair s s′ p (b .l) (b .l′) (b .lists) (b .typed) (b .typed′)) bs))
@@ -119,7 +120,7 @@ none-lowest : (m : List ℤ) → Each (SFits w16) (negated m) → Each NotLowest
 none-lowest [] h = tt
 none-lowest (x ∷ m) h = ((λ e. absurd (omega (arith, subst (SFits w16) (ap negℤ e) (h .0) .sfits))), none-lowest m (h .1))
 
-pub not-lowest : (b : LentToBoth) → Each NotLowest (b .l .m) × Each NotLowest (b .l′ .m)
+pub not-lowest : (b : BuffersOfBoth) → Each NotLowest (b .l .m) × Each NotLowest (b .l′ .m)
 not-lowest b = (none-lowest (b .l .m) (subst (Each (SFits w16)) (b .lists .samples-negated) (b .typed′ .m)), none-lowest (b .l′ .m) (subst (Each (SFits w16)) (sym back) (b .typed .m)))
   where
     back : negated (b .l′ .m) ≡ b .l .m
@@ -139,7 +140,7 @@ negated-fits : (m : List ℤ) → Each (SFits w16) m → Each NotLowest m → Ea
 negated-fits [] h f = tt
 negated-fits (x ∷ m) h f = (fits-neg x (h .0) (f .0), negated-fits m (h .1) (f .1))
 
-pub lists-partner : (l : Lent) → Typed l → Each NotLowest (l .m) → Typed (partnerLists l) × SwappedLists l (partnerLists l)
+pub lists-partner : (l : Buffers) → Typed l → Each NotLowest (l .m) → Typed (partnerLists l) × SwappedLists l (partnerLists l)
 lists-partner l t f =
     (record { m = negated-fits (l .m) (t .m) f; gains = t .gains; entries = t .entries; y = t .y; xi = t .xi; decision = t .decision; z = t .z; theta = t .theta }, record { samples-negated = refl; gains-same = refl; entries-same = refl; y-long = refl; xi-long = refl; decision-long = refl; z-long = refl; theta-long = refl })
 
@@ -155,7 +156,7 @@ pair-back s s′ p = record {
 -- every state of every list of calls has one
 pub partner-pair : (s : Equaliser) → WithinLimits s → SwappedPair s (partner s)
 partner-pair s g =
-    let o = swapped-sound (settings s) (memory s) (g .bounds) in
+    let o = swapped-sound (settings s) (memory s) (within-bounds g) in
     let a = accepted-within (kept-accepted (settings s) (swapped (memory s)) o (g .sizes) (g .admitted)) in
     record { state = sound-within g; state′ = sound-within a; settings-same = settings-is (settings s) (swapped (memory s)); memory-swapped = memory-is (settings s) (swapped (memory s)) o }
 

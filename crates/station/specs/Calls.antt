@@ -2,10 +2,10 @@
 use mathlib.Core.Path.{_≡_}
 use mathlib.Core.Bool.{Bool, cond}
 use mathlib.Core.List.{List, [], _∷_, _++_}
-use Prim.Native.Nat.{ℕ, _<_}
+use Prim.Native.Nat.{_<_}
 use lib.IntN.{ℤ, pos}
-use Rattle.block.specs.Block.{Block, Outputs, goes, count, left, handed, handedY, handedξ, handedDecision, handedZ, handedθ}
-use Rattle.block.specs.Calls.{OutputsLong}
+use Rattle.block.specs.Block.{Block, Outputs, ψFits, nextMemory, blockOutputs}
+use Rattle.block.specs.Calls.{count, outputsUpTo, OutputsLong}
 use Rattle.block.specs.declared.run.BlockResult.{BlockResult}
 use Rattle.state.specs.State.{settings, memory, forward, back, samples, symbols, stateOf}
 use Rattle.state.specs.declared.equaliser.Equaliser.{Equaliser}
@@ -25,28 +25,22 @@ pub record Parts (e : Equaliser) (i : Block) (ahead behind window recent : List 
 pub record ResultBytes (r : BlockResult) : Type 0 where
   pub psi : r .psi < 256
   pub b : r .b < 256
-  pub big : r .big < 256
+  pub bmax : r .bmax < 256
 
 abbrev pub nextOf : Equaliser → BlockResult → List ℤ → List ℤ → Equaliser
 nextOf e r weights past =
-    record { p = e .p; q = e .q; n = e .n; r = e .r; l = e .l; psi = r .psi; b = r .b; big = r .big; m = e .m; weights = weights; past = past }
+    record { p = e .p; q = e .q; n = e .n; r = e .r; l = e .l; psi = r .psi; b = r .b; bmax = r .bmax; m = e .m; weights = weights; past = past }
 
 -- whether ψ keeps its limit
-abbrev pub goesOn : Equaliser → Block → Bool
-goesOn e i = goes (settings e) (memory e) i (e .n)
+abbrev pub ψFitsBlock : Equaliser → Block → Bool
+ψFitsBlock e i = ψFits (settings e) (memory e) i (e .n)
 
 -- the answer to a block that passed the checks, and the lists that it was run on
 pub record RunChecked (e : Equaliser) (i : Block) (l : Outputs) (a : Answer) (l′ : Outputs) : Type 0 where
-  pub number : a .number ≡ cond (goesOn e i) 0 6
-  pub state : a .state ≡ cond (goesOn e i) (stateOf (settings e) (left (settings e) (memory e) i)) e
-  pub outputs-are : l′ ≡ handed (settings e) (memory e) i (count (settings e) (memory e) i (e .n)) l
+  pub number : a .number ≡ cond (ψFitsBlock e i) 0 6
+  pub state : a .state ≡ cond (ψFitsBlock e i) (stateOf (settings e) (nextMemory (settings e) (memory e) i)) e
+  pub outputs-are : l′ ≡ outputsUpTo (settings e) (memory e) i (count (settings e) (memory e) i (e .n)) l
 
 -- what it hands out, or the lists that were there
-abbrev pub handedOr : Equaliser → Block → Outputs → Outputs
-handedOr e i l = record {
-  y = cond (goesOn e i) (handedY (settings e) (memory e) i) (l .y);
-  xi = cond (goesOn e i) (handedξ (settings e) (memory e) i) (l .xi);
-  decision = cond (goesOn e i) (handedDecision (settings e) (memory e) i) (l .decision);
-  z = cond (goesOn e i) (handedZ (settings e) (memory e) i) (l .z);
-  theta = cond (goesOn e i) (handedθ (settings e) (memory e) i) (l .theta);
-}
+abbrev pub outputsOr : Equaliser → Block → Outputs → Outputs
+outputsOr e i l = cond (ψFitsBlock e i) (blockOutputs (settings e) (memory e) i) l

@@ -6,13 +6,13 @@ use Prim.Native.Nat.{ℕ, _^_}
 use lib.ListN.{length}
 use lib.IntN.{ℤ, pos, negℤ}
 use Rattle.laws.specs.Negated.{negated}
-use Rattle.steps.specs.Limits.{places}
+use Rattle.steps.specs.Limits.{slots}
 use Rattle.block.specs.Block.{Outputs}
 use Rattle.block.specs.Swapped.{swapped}
 use Rattle.state.specs.State.{settings, memory, isSound, stateOf}
 use Rattle.state.specs.declared.equaliser.Equaliser.{Equaliser}
-use Rattle.checks.specs.Checks.{Lent}
-use Rattle.station.specs.Answers.{runNumber, runState, runOutputs, lentOutputs}
+use Rattle.checks.specs.Checks.{Buffers}
+use Rattle.station.specs.Answers.{runNumber, runState, runOutputs, outputsBefore}
 use Rattle.station.specs.Claim.{Typed}
 
 -- ---- what both are given
@@ -20,8 +20,8 @@ use Rattle.station.specs.Claim.{Typed}
 -- a sound state in the machine's arrays
 pub record SoundState (s : Equaliser) : Type 0 where
   pub sound : isSound s ≡ true
-  pub weights-long : length (s .weights) ≡ places
-  pub past-long : length (s .past) ≡ places
+  pub weights-long : length (s .weights) ≡ slots
+  pub past-long : length (s .past) ≡ slots
 
 -- the same settings, symbols, feedback weights, ψ, b and B; past stored samples and feed forward weights are each other's negatives
 pub record SwappedPair (s s′ : Equaliser) : Type 0 where
@@ -31,7 +31,7 @@ pub record SwappedPair (s s′ : Equaliser) : Type 0 where
   pub memory-swapped : memory s′ ≡ swapped (memory s)
 
 -- the same gains and training entries, samples that are each other's negatives, and five lists of equal lengths for the outputs, whatever else is in all of them
-pub record SwappedLists (l l′ : Lent) : Type 0 where
+pub record SwappedLists (l l′ : Buffers) : Type 0 where
   pub samples-negated : l′ .m ≡ negated (l .m)
   pub gains-same : l′ .gains ≡ l .gains
   pub entries-same : l′ .entries ≡ l .entries
@@ -42,9 +42,9 @@ pub record SwappedLists (l l′ : Lent) : Type 0 where
   pub theta-long : length (l′ .theta) ≡ length (l .theta)
 
 -- a block that both are lent, as numbers of their machine types. So no sample is −32768: its negative has no place in 16 bits
-pub record LentToBoth : Type 0 where
-  pub l : Lent
-  pub l′ : Lent
+pub record BuffersOfBoth : Type 0 where
+  pub l : Buffers
+  pub l′ : Buffers
   pub typed : Typed l
   pub typed′ : Typed l′
   pub lists : SwappedLists l l′
@@ -54,7 +54,7 @@ abbrev pub NotLowest : ℤ → Type 0
 NotLowest m = m ≡ negℤ (pos (2 ^ 15)) → ⊥
 
 -- the lists with which lists are swapped
-abbrev pub partnerLists : Lent → Lent
+abbrev pub partnerLists : Buffers → Buffers
 partnerLists l = record { m = negated (l .m); gains = l .gains; entries = l .entries; y = l .y; xi = l .xi; decision = l .decision; z = l .z; theta = l .theta }
 
 -- the state with which a state is a swapped pair
@@ -64,17 +64,17 @@ partner s = stateOf (settings s) (swapped (memory s))
 -- ---- what holds of a block that is lent to both
 
 -- the numbers that both answer are the same; every Y, ξ, decision, Z and θ is the same where it is accepted, and each has its lists as they were lent where it isn't
-pub record SameAnswers (l : Lent) (n : ℕ) (h : Outputs) (l′ : Lent) (n′ : ℕ) (h′ : Outputs) : Type 0 where
+pub record SameAnswers (l : Buffers) (n : ℕ) (h : Outputs) (l′ : Buffers) (n′ : ℕ) (h′ : Outputs) : Type 0 where
   pub number-same : n′ ≡ n
   pub outputs-same : n ≡ 0 → h′ ≡ h
-  pub outputs-kept : (n ≡ 0 → ⊥) → (h ≡ lentOutputs l) × (h′ ≡ lentOutputs l′)
+  pub outputs-kept : (n ≡ 0 → ⊥) → (h ≡ outputsBefore l) × (h′ ≡ outputsBefore l′)
 
-abbrev pub SameRuns : Equaliser → Lent → Equaliser → Lent → Type 0
+abbrev pub SameRuns : Equaliser → Buffers → Equaliser → Buffers → Type 0
 SameRuns s l s′ l′ = SameAnswers l (runNumber s l) (runOutputs s l) l′ (runNumber s′ l′) (runOutputs s′ l′)
 
 -- ---- what holds of a list of blocks
 
 -- the states that each block gets, and the last ones, are a swapped pair
-abbrev pub SwappedAlways : Equaliser → Equaliser → List LentToBoth → Type 0
+abbrev pub SwappedAlways : Equaliser → Equaliser → List BuffersOfBoth → Type 0
 SwappedAlways s s′ [] = SwappedPair s s′
 SwappedAlways s s′ (b ∷ bs) = SwappedPair s s′ × (SameRuns s (b .l) s′ (b .l′) × SwappedAlways (runState s (b .l)) (runState s′ (b .l′)) bs)

@@ -4,9 +4,9 @@ ghost use mathlib.Core.List.{_++_};
 ghost use Prim.Native.Nat.{_+_, _-_, _≤_};
 ghost use lib.ListN.{length, replicate};
 ghost use lib.IntN.{pos};
-ghost use Rattle.steps.specs.Limits.{tapLimit, places};
+ghost use Rattle.steps.specs.Limits.{tapLimit, slots};
 ghost use Rattle.state.specs.State.{padded};
-use steps::limits;
+use state::equaliser::Equaliser;
 
 pub fn copy16(src: &[i16], dst: &mut [i16])
     requires { ⌜ length (now src) ≡ length (now dst) ⌝ }
@@ -19,23 +19,23 @@ pub fn copy16(src: &[i16], dst: &mut [i16])
     }
 }
 
-// A list at the front of TAPS places.
-pub fn fronted(src: &[i16]) -> [i16; limits::TAPS]
+// A list at the front of TAPS slots.
+pub fn fronted(src: &[i16]) -> [i16; Equaliser::TAPS as usize]
     requires { ⌜ length (now src) ≤ tapLimit ⌝ }
     ensures { λ r. ⌜ r ≡ now (src .entry) ++ replicate (tapLimit - length (now (src .entry))) (pos 0) ⌝ }
 {
-    let mut out = [0i16; limits::TAPS];
+    let mut out = [0i16; Equaliser::TAPS as usize];
     let n = src.len();
     copy16(src, &mut out[0..n]);
     out
 }
 
-// Two lists, one after the other, at the front of PLACES places.
-pub fn joined(first: &[i16], second: &[i16]) -> [i16; limits::PLACES]
-    requires { ⌜ length (now first) + length (now second) ≤ places ⌝ }
+// Two lists, one after the other, at the front of SLOTS slots.
+pub fn joined(first: &[i16], second: &[i16]) -> [i16; Equaliser::SLOTS]
+    requires { ⌜ length (now first) + length (now second) ≤ slots ⌝ }
     ensures { λ r. ⌜ r ≡ padded (now (first .entry) ++ now (second .entry)) ⌝ }
 {
-    let mut out = [0i16; limits::PLACES];
+    let mut out = [0i16; Equaliser::SLOTS];
     let n = first.len();
     let end = n + second.len();
     copy16(first, &mut out[0..n]);

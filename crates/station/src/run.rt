@@ -1,16 +1,17 @@
 // Running a block.
 ghost use mathlib.Core.Path.{_≡_};
-ghost use Rattle.block.specs.Calls.{blockOf, outputsOf, OutputsLong};
+ghost use Rattle.block.specs.Calls.{blockOf, OutputsLong};
+ghost use Rattle.block.specs.Block.{outputsOf};
 ghost use Rattle.filter.specs.Calls.{settingsOf};
 ghost use Rattle.state.specs.State.{settings};
-ghost use Rattle.checks.specs.Calls.{lentOf, Checked};
+ghost use Rattle.checks.specs.Calls.{Checked};
+ghost use Rattle.checks.specs.Checks.{buffersOf};
 ghost use Rattle.station.specs.Answers.{Run};
 ghost use Rattle.station.specs.Calls.{Parts, ResultBytes, nextOf, RunChecked};
 use block::run::BlockResult;
 use filter::sample::Settings;
 use state::equaliser::Answer;
 use state::equaliser::Equaliser;
-use steps::limits;
 
 fn settings(e: Equaliser) -> Settings
     ensures { λ k. ⌜ settingsOf k ≡ settings e ⌝ }
@@ -29,8 +30,8 @@ fn settings(e: Equaliser) -> Settings
 fn next(
     e: Equaliser,
     r: BlockResult,
-    ws: [i16; limits::PLACES],
-    ds: [i16; limits::PLACES],
+    ws: [i16; Equaliser::SLOTS],
+    ds: [i16; Equaliser::SLOTS],
 ) -> Equaliser
     requires { ⌜ ResultBytes r ⌝ }
     ensures { λ s. ⌜ s ≡ nextOf e r ws ds ⌝ }
@@ -43,7 +44,7 @@ fn next(
         l: e.l,
         psi: r.psi as u8,
         b: r.b as u8,
-        big: r.big as u8,
+        bmax: r.bmax as u8,
         m: e.m,
         weights: ws,
         past: ds,
@@ -114,7 +115,7 @@ fn run_parts(
         settings(e),
         e.psi as u32,
         e.b as u32,
-        e.big as u32,
+        e.bmax as u32,
         m,
         gains,
         entries,
@@ -128,7 +129,7 @@ fn run_parts(
         z,
         theta,
     );
-    if limits::EXPONENT < r.psi {
+    if (Equaliser::EXPONENT as u32) < r.psi {
         return Answer {
             number: 6,
             state: e,
@@ -157,7 +158,7 @@ pub fn run(
     z: &mut [i32],
     theta: &mut [u8],
 ) -> Answer
-    ensures { λ a. ⌜ Run e (lentOf (now (m .entry)) (now (gains .entry)) (now (entries .entry)) (now (y .entry)) (now (xi .entry)) (now (decision .entry)) (now (z .entry)) (now (theta .entry))) a (now (y .exit)) (now (xi .exit)) (now (decision .exit)) (now (z .exit)) (now (theta .exit)) ⌝ }
+    ensures { λ a. ⌜ Run e (buffersOf (now (m .entry)) (now (gains .entry)) (now (entries .entry)) (now (y .entry)) (now (xi .entry)) (now (decision .entry)) (now (z .entry)) (now (theta .entry))) a (now (y .exit)) (now (xi .exit)) (now (decision .exit)) (now (z .exit)) (now (theta .exit)) ⌝ }
 {
     let number = checks::lists::checked(e, m, gains, entries, y, xi, decision, z, theta);
     if number != 0 {
@@ -168,11 +169,11 @@ pub fn run(
     }
     checks::lists::sixteen_bits(m);
     let n = e.n as usize;
-    let mut ay = [0i32; limits::BLOCK];
-    let mut ax = [0u8; limits::BLOCK];
-    let mut ad = [0i8; limits::BLOCK];
-    let mut az = [0i32; limits::BLOCK];
-    let mut at = [0u8; limits::BLOCK];
+    let mut ay = [0i32; Equaliser::BLOCK as usize];
+    let mut ax = [0u8; Equaliser::BLOCK as usize];
+    let mut ad = [0i8; Equaliser::BLOCK as usize];
+    let mut az = [0i32; Equaliser::BLOCK as usize];
+    let mut at = [0u8; Equaliser::BLOCK as usize];
     let r = run_checked(
         e,
         m,

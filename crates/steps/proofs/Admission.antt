@@ -1,11 +1,12 @@
--- The step admission is used here, and nowhere else.
+-- The step admission, as the bounds of a step use it.
 use mathlib.Core.Path.{_≡_, refl, ap}
 use Prim.Native.Nat.{ℕ, _+_, _*_, _^_, _≤_}
 use native.Mathlib.Omega.{arith}
 use native.Mathlib.Nat.{mul-le-mul, mul-le-mul-left, le-of-mul-le-mul-right}
 use Rattle.laws.specs.Powers.{split, split3, split4, rises, positive}
 use Rattle.steps.specs.Limits.{lengthLimit}
-use Rattle.steps.specs.Settings.{Settings, Admitted, stepBound}
+use Rattle.steps.specs.Settings.{Settings, stepBound}
+use Rattle.steps.specs.Sound.{Admitted}
 
 -- D·2^L with the powers split
 step-bound : (k : Settings) →

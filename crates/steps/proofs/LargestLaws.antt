@@ -18,7 +18,8 @@ use Rattle.laws.specs.Sums.{Each, each-map, each-of, each-weaken}
 use Rattle.laws.specs.Tests.{each-tested, tested-each}
 use Rattle.numbers.specs.BitLength.{bitLength}
 use Rattle.numbers.proofs.BitLengthLaws.{bit-length-zero, bit-length-mono, bit-length-le, bit-length-lt}
-use Rattle.steps.specs.Side.{isBelow, allBelow, magnitudes, largest, together, longest}
+use Rattle.steps.specs.Fir.{isBelow, allBelow, magnitudes, largest, largestBits}
+use Rattle.steps.specs.Sound.{orAll}
 
 -- ---- every element and the largest
 
@@ -58,14 +59,14 @@ largest-bit-length [] = sym bit-length-zero
 largest-bit-length (n ∷ ns) = ap (max (bitLength n)) (largest-bit-length ns) ∙ max-bit-length n (largest ns)
 
 -- the largest bit length is that of the largest number
-pub longest-is : (l : List ℤ) → longest l ≡ bitLength (largest (magnitudes l))
-unfolding longest
-longest-is l = largest-bit-length (magnitudes l)
+pub largest-bits-is : (l : List ℤ) → largestBits l ≡ bitLength (largest (magnitudes l))
+unfolding largestBits
+largest-bits-is l = largest-bit-length (magnitudes l)
 
-pub longest-above : (l : List ℤ) → Each (λ (x : ℤ). natAbs x < 2 ^ longest l) l
-longest-above l =
-    each-weaken (λ (x : ℤ). natAbs x ≤ largest (magnitudes l)) (λ (x : ℤ). natAbs x < 2 ^ longest l)
-    (λ x h. bit-length-lt (natAbs x) (longest l) (rw longest-is (bit-length-mono h))) l (each-magnitude l)
+pub largest-bits-above : (l : List ℤ) → Each (λ (x : ℤ). natAbs x < 2 ^ largestBits l) l
+largest-bits-above l =
+    each-weaken (λ (x : ℤ). natAbs x ≤ largest (magnitudes l)) (λ (x : ℤ). natAbs x < 2 ^ largestBits l)
+    (λ x h. bit-length-lt (natAbs x) (largestBits l) (rw largest-bits-is (bit-length-mono h))) l (each-magnitude l)
 
 -- ---- the bits of several numbers together
 
@@ -87,36 +88,36 @@ or-bit-length m n =
     most : ℕ
     most = max (bitLength m) (bitLength n)
 
-pub together-length : (ns : List ℕ) → bitLength (together ns) ≡ largest (map bitLength ns)
-unfolding together largest
-together-length [] = bit-length-zero
-together-length (n ∷ ns) = or-bit-length n (together ns) ∙ ap (max (bitLength n)) (together-length ns)
+pub or-all-length : (ns : List ℕ) → bitLength (orAll ns) ≡ largest (map bitLength ns)
+unfolding orAll largest
+or-all-length [] = bit-length-zero
+or-all-length (n ∷ ns) = or-bit-length n (orAll ns) ∙ ap (max (bitLength n)) (or-all-length ns)
 
 -- as many as the largest has
-pub together-longest : (l : List ℤ) → bitLength (together (magnitudes l)) ≡ longest l
-unfolding longest
-together-longest l = together-length (magnitudes l)
+pub or-all-largest-bits : (l : List ℤ) → bitLength (orAll (magnitudes l)) ≡ largestBits l
+unfolding largestBits
+or-all-largest-bits l = or-all-length (magnitudes l)
 
 -- ---- in a loop from the front
 
-pub together-none : together [] ≡ 0
-unfolding together
-together-none = refl
+pub or-all-none : orAll [] ≡ 0
+unfolding orAll
+or-all-none = refl
 
-together-take : (ns : List ℕ) (i : ℕ) → bitOr (together (take i ns)) (getD ns i 0) ≡ together (take (suc i) ns)
-unfolding together
-together-take [] zero = refl
-together-take [] (suc i) = refl
-together-take (n ∷ ns) zero = sym (or-zero-r n)
-together-take (n ∷ ns) (suc i) = or-assoc n (together (take i ns)) (getD ns i 0) ∙ ap (bitOr n) (together-take ns i)
+or-all-take : (ns : List ℕ) (i : ℕ) → bitOr (orAll (take i ns)) (getD ns i 0) ≡ orAll (take (suc i) ns)
+unfolding orAll
+or-all-take [] zero = refl
+or-all-take [] (suc i) = refl
+or-all-take (n ∷ ns) zero = sym (or-zero-r n)
+or-all-take (n ∷ ns) (suc i) = or-assoc n (orAll (take i ns)) (getD ns i 0) ∙ ap (bitOr n) (or-all-take ns i)
 
 -- one number more
-pub together-next : (ns : List ℕ) (i m n : ℕ) → m ≡ together (take i ns) → n ≡ getD ns i 0 → bitOr m n ≡ together (take (i + 1) ns)
-together-next ns i m n e f = ap₂ bitOr e f ∙ together-take ns i ∙ ap (λ (j : ℕ). together (take j ns)) (sym (add-one i))
+pub or-all-next : (ns : List ℕ) (i m n : ℕ) → m ≡ orAll (take i ns) → n ≡ getD ns i 0 → bitOr m n ≡ orAll (take (i + 1) ns)
+or-all-next ns i m n e f = ap₂ bitOr e f ∙ or-all-take ns i ∙ ap (λ (j : ℕ). orAll (take j ns)) (sym (add-one i))
 
 -- all of them
-pub together-all : (ns : List ℕ) (i m : ℕ) → length ns ≤ i → m ≡ together (take i ns) → m ≡ together ns
-together-all ns i m h e = e ∙ ap together (take-all i ns h)
+pub or-all-all : (ns : List ℕ) (i m : ℕ) → length ns ≤ i → m ≡ orAll (take i ns) → m ≡ orAll ns
+or-all-all ns i m h e = e ∙ ap orAll (take-all i ns h)
 
 -- ---- below a limit
 
@@ -134,12 +135,12 @@ or-below k m n true true e f = lt-ltb (bitOr m n) (2 ^ k) (or-lt k m n (ltb-true
 or-below k m n true false e f = le-ltb (bitOr m n) (2 ^ k) (le-trans (ltb-false n (2 ^ k) f) (or-right m n))
 or-below k m n false b e f = le-ltb (bitOr m n) (2 ^ k) (le-trans (ltb-false m (2 ^ k) e) (or-left m n))
 
--- no weight has reached a limit 2^k where the bits together have not, on one side
-pub together-below : (k : ℕ) (w : List ℤ) → ltb (together (magnitudes w)) (2 ^ k) ≡ allBelow (2 ^ k) w
-unfolding together
-together-below k [] = lt-ltb 0 (2 ^ k) (positive k)
-together-below k (x ∷ w) = or-below k (natAbs x) (together (magnitudes w)) (isBelow (2 ^ k) x) (allBelow (2 ^ k) w) refl (together-below k w)
+-- no weight has reached a limit 2^k where the bits together have not, in one filter
+pub or-all-below : (k : ℕ) (w : List ℤ) → ltb (orAll (magnitudes w)) (2 ^ k) ≡ allBelow (2 ^ k) w
+unfolding orAll
+or-all-below k [] = lt-ltb 0 (2 ^ k) (positive k)
+or-all-below k (x ∷ w) = or-below k (natAbs x) (orAll (magnitudes w)) (isBelow (2 ^ k) x) (allBelow (2 ^ k) w) refl (or-all-below k w)
 
 -- and on both
-pub both-below : (k : ℕ) (w u : List ℤ) → ltb (bitOr (together (magnitudes w)) (together (magnitudes u))) (2 ^ k) ≡ (allBelow (2 ^ k) w && allBelow (2 ^ k) u)
-both-below k w u = or-below k (together (magnitudes w)) (together (magnitudes u)) (allBelow (2 ^ k) w) (allBelow (2 ^ k) u) (together-below k w) (together-below k u)
+pub both-below : (k : ℕ) (w u : List ℤ) → ltb (bitOr (orAll (magnitudes w)) (orAll (magnitudes u))) (2 ^ k) ≡ (allBelow (2 ^ k) w && allBelow (2 ^ k) u)
+both-below k w u = or-below k (orAll (magnitudes w)) (orAll (magnitudes u)) (allBelow (2 ^ k) w) (allBelow (2 ^ k) u) (or-all-below k w) (or-all-below k u)

@@ -1,7 +1,7 @@
 pub mod LargestLaws
-pub mod LongestTests
-pub mod GainLaws
-pub mod SideLaws
+pub mod LargestBitsTests
+pub mod IncrementLaws
+pub mod FirLaws
 pub mod DecisionLaws
 pub mod OutputLaws
 pub mod ErrorLaws

@@ -9,7 +9,7 @@ use Rattle.laws.specs.Integers.{abs-neg}
 use Rattle.laws.specs.Negated.{negated, *ℤ-neg, map-odd, map-even, all-even, negated-take}
 use Rattle.numbers.specs.Cut.{cut, raise}
 use Rattle.numbers.proofs.CutLaws.{cut-neg, raise-neg}
-use Rattle.steps.specs.Side.{adapted, adapt, isBelow, allBelow, halved, doubled, push, magnitudes}
+use Rattle.steps.specs.Fir.{adapted, adapt, isBelow, allBelow, halved, doubled, push, magnitudes}
 
 -- step 6
 adapted-neg : (K w a : ℤ) → adapted K (negℤ w) (negℤ a) ≡ negℤ (adapted K w a)

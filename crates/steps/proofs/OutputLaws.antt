@@ -1,12 +1,10 @@
--- The output and the error in one form each, whichever exponent is the larger: a cut by no places changes nothing.
-use mathlib.Core.Path.{_≡_, refl, sym, ap, ap₂, _∙_}
-use mathlib.Core.Bool.{cond}
+-- The output and the error in one form each, whichever exponent is the larger: a cut by no bits changes nothing.
+use mathlib.Core.Path.{_≡_, sym, ap, ap₂, _∙_}
 use Prim.Native.Nat.{ℕ, _+_, _-_, _≤_, _<_, max}
 use native.Mathlib.Omega.{arith}
 use native.Mathlib.Nat.{max-eq-left, max-eq-right, sub-add-eq-max, le-of-lt}
 use native.Mathlib.Decide.{decLt}
 use borrow.Author.Tests.{lt-ltb, le-ltb}
-use lib.Dec.{ltb}
 use lib.IntN.{ℤ, _+ℤ_, _-ℤ_, +ℤ-comm}
 use Rattle.numbers.specs.Cut.{cut, raise}
 use Rattle.numbers.proofs.CutLaws.{cut-none, rescale-up}
@@ -17,32 +15,32 @@ use Rattle.steps.specs.Error.{error, errorExponent}
 cut-nothing : (z : ℤ) (a b : ℕ) → a ≤ b → cut z (a - b) ≡ z
 cut-nothing z a b h = ap (cut z) (omega arith) ∙ cut-none z
 
--- Y: both sums are cut, one of them by no places
-pub output-form : (F H : ℤ) (g ν : ℕ) → output F H g ν ≡ cut F (ν + 30 - g) +ℤ cut H (g - (ν + 30))
+-- Y: both sums are cut, one of them by no bits
+pub output-form : (F H : ℤ) (Γ ν : ℕ) → output F H Γ ν ≡ cut F (ν + 30 - Γ) +ℤ cut H (Γ - (ν + 30))
 unfolding output
-output-form F H g ν = go (decLt (ν + 30) g)
+output-form F H Γ ν = go (decLt (ν + 30) Γ)
   where
-    go : Dec (ν + 30 < g) → output F H g ν ≡ cut F (ν + 30 - g) +ℤ cut H (g - (ν + 30))
-    go (yes h) = simp (lt-ltb (ν + 30) g h) (ap (λ (x : ℤ). x +ℤ cut H (g - (ν + 30))) (sym (cut-nothing F (ν + 30) g (le-of-lt h))))
-    go (no h) = simp (le-ltb (ν + 30) g (omega arith)) (
-        +ℤ-comm H (cut F (ν + 30 - g)) ∙ ap (λ (x : ℤ). cut F (ν + 30 - g) +ℤ x) (sym (cut-nothing H g (ν + 30) (omega arith))))
+    go : Dec (ν + 30 < Γ) → output F H Γ ν ≡ cut F (ν + 30 - Γ) +ℤ cut H (Γ - (ν + 30))
+    go (yes h) = simp (lt-ltb (ν + 30) Γ h) (ap (λ (x : ℤ). x +ℤ cut H (Γ - (ν + 30))) (sym (cut-nothing F (ν + 30) Γ (le-of-lt h))))
+    go (no h) = simp (le-ltb (ν + 30) Γ (omega arith)) (
+        +ℤ-comm H (cut F (ν + 30 - Γ)) ∙ ap (λ (x : ℤ). cut F (ν + 30 - Γ) +ℤ x) (sym (cut-nothing H Γ (ν + 30) (omega arith))))
 
 -- Y from the sum of weights times symbols, which loses nothing
-pub output-raised : (F h : ℤ) (g ν : ℕ) → g ≤ 45 → ν ≤ 15 → output F (raise h (15 - ν)) g ν ≡ cut F (max g (ν + 30) - g) +ℤ raise h (45 - max g (ν + 30))
-output-raised F h g ν l m =
-    output-form F (raise h (15 - ν)) g ν
+pub output-raised : (F h : ℤ) (Γ ν : ℕ) → Γ ≤ 45 → ν ≤ 15 → output F (raise h (15 - ν)) Γ ν ≡ cut F (max Γ (ν + 30) - Γ) +ℤ raise h (45 - max Γ (ν + 30))
+output-raised F h Γ ν l m =
+    output-form F (raise h (15 - ν)) Γ ν
     ∙ ap₂ (λ (x y : ℤ). x +ℤ y)
-    (ap (cut F) (omega (arith, sub-add-eq-max g (ν + 30))))
-    (rescale-up h (15 - ν) (g - (ν + 30)) (45 - max g (ν + 30)) (omega (arith, sub-add-eq-max g (ν + 30))))
+    (ap (cut F) (omega (arith, sub-add-eq-max Γ (ν + 30))))
+    (rescale-up h (15 - ν) (Γ - (ν + 30)) (45 - max Γ (ν + 30)) (omega (arith, sub-add-eq-max Γ (ν + 30))))
 
 -- ξ
-pub output-exponent-form : (ψ g ν : ℕ) → outputExponent ψ g ν + 30 ≡ ψ + max g (ν + 30)
+pub output-exponent-form : (ψ Γ ν : ℕ) → outputExponent ψ Γ ν + 30 ≡ ψ + max Γ (ν + 30)
 unfolding outputExponent
-output-exponent-form ψ g ν = go (decLt (ν + 30) g)
+output-exponent-form ψ Γ ν = go (decLt (ν + 30) Γ)
   where
-    go : Dec (ν + 30 < g) → outputExponent ψ g ν + 30 ≡ ψ + max g (ν + 30)
-    go (yes h) = simp (lt-ltb (ν + 30) g h) (omega (arith, sub-add-eq-max g (ν + 30)))
-    go (no h) = simp (le-ltb (ν + 30) g (omega arith)) (omega (arith, sub-add-eq-max g (ν + 30)))
+    go : Dec (ν + 30 < Γ) → outputExponent ψ Γ ν + 30 ≡ ψ + max Γ (ν + 30)
+    go (yes h) = simp (lt-ltb (ν + 30) Γ h) (omega (arith, sub-add-eq-max Γ (ν + 30)))
+    go (no h) = simp (le-ltb (ν + 30) Γ (omega arith)) (omega (arith, sub-add-eq-max Γ (ν + 30)))
 
 -- θ
 pub error-exponent-form : (ξ κ : ℕ) → errorExponent ξ κ ≡ max κ ξ
@@ -61,13 +59,3 @@ error-form v Y ξ κ = go (decLt ξ κ)
     go : Dec (ξ < κ) → error v Y ξ κ ≡ raise v (30 - errorExponent ξ κ) -ℤ cut Y (errorExponent ξ κ - ξ)
     go (yes h) = simp (lt-ltb ξ κ h)
     go (no h) = simp (le-ltb ξ κ (omega arith)) (ap (λ (x : ℤ). raise v (30 - ξ) -ℤ x) (sym (cut-nothing Y ξ ξ (omega arith))))
-
--- ---- as they are defined
-
-pub output-is : (F H : ℤ) (g ν : ℕ) → output F H g ν ≡ cond (ltb (ν + 30) g) (F +ℤ cut H (g - (ν + 30))) (H +ℤ cut F (ν + 30 - g))
-unfolding output
-output-is F H g ν = refl
-
-pub error-is : (v Y : ℤ) (ξ κ : ℕ) → error v Y ξ κ ≡ cond (ltb ξ κ) (raise v (30 - κ) -ℤ cut Y (κ - ξ)) (raise v (30 - ξ) -ℤ Y)
-unfolding error
-error-is v Y ξ κ = refl

@@ -16,6 +16,6 @@ clip top d = cond (ltZ top d) top (cond (ltZ d (negℤ top)) (negℤ top) d)
 abbrev pub topSymbol : ℕ → ℤ
 topSymbol r = pos (2 ^ (r + 1) - 1)
 
--- 2·⌊y/2⌋ + 1, where y = Y·2^(ξ−30)
+-- 2·⌊y/2⌋ + 1, where y = Y·2^(ξ−30), brought to the ends
 unfoldable pub decide : ℕ → ℤ → ℕ → ℤ
 decide r Y ξ = clip (topSymbol r) (pos 2 *ℤ floor Y (31 - ξ) +ℤ pos 1)

@@ -1,4 +1,4 @@
--- The error (step 5), from v, Y, ξ and k = S′ plus the bit length of v, which is κ here.
+-- The error (step 5), from v, Y, ξ and κ, the specification's k: S′ plus the bit length of v.
 use mathlib.Core.Bool.{cond}
 use Prim.Native.Nat.{ℕ, _-_}
 use lib.Dec.{ltb}

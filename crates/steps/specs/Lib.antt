@@ -1,6 +1,6 @@
 pub mod Limits
 pub mod Settings
-pub mod Side
+pub mod Fir
 pub mod Output
 pub mod Decision
 pub mod Error

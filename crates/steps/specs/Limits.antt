@@ -1,5 +1,5 @@
 -- The limits of the equaliser, and what follows from them.
-use Prim.Native.Nat.{ℕ, _+_, _*_, _-_, _^_}
+use Prim.Native.Nat.{ℕ, _+_, _*_, _^_}
 
 -- taps of one filter
 abbrev pub tapLimit : ℕ
@@ -47,14 +47,6 @@ outputExponentLimit = exponentLimit + dataExponentLimit
 abbrev pub lengthLimit : ℕ
 lengthLimit = 16 + gainLimit
 
--- the fewest places by which M·Z is cut in step 6
-abbrev pub factorPlacesLeast : ℕ
-factorPlacesLeast = 60 - (symbolLimit + lengthLimit + dataExponentLimit)
-
--- places of the weights, and of the data, in the record
-abbrev pub places : ℕ
-places = 2 * tapLimit
-
--- places of a line: those of a block, and what was there before it
-abbrev pub lineLength : ℕ
-lineLength = blockLimit + tapLimit
+-- slots of the weights, and of the data, in the record
+abbrev pub slots : ℕ
+slots = 2 * tapLimit

@@ -1,4 +1,4 @@
--- The output (step 3), from F, H, g = γ + 30, ν and ψ.
+-- The output (step 3), from F, H, Γ = γ + 30, ν and ψ.
 use mathlib.Core.Bool.{cond}
 use Prim.Native.Nat.{ℕ, _+_, _-_}
 use lib.Dec.{ltb}
@@ -7,8 +7,8 @@ use Rattle.numbers.specs.Cut.{cut}
 
 -- Y
 unfoldable pub output : ℤ → ℤ → ℕ → ℕ → ℤ
-output F H g ν = cond (ltb (ν + 30) g) (F +ℤ cut H (g - (ν + 30))) (H +ℤ cut F (ν + 30 - g))
+output F H Γ ν = cond (ltb (ν + 30) Γ) (F +ℤ cut H (Γ - (ν + 30))) (H +ℤ cut F (ν + 30 - Γ))
 
 -- ξ
 unfoldable pub outputExponent : ℕ → ℕ → ℕ → ℕ
-outputExponent ψ g ν = cond (ltb (ν + 30) g) (ψ + g - 30) (ψ + ν)
+outputExponent ψ Γ ν = cond (ltb (ν + 30) Γ) (ψ + Γ - 30) (ψ + ν)

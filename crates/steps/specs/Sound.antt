@@ -1,14 +1,40 @@
 -- What the functions of the steps ask, as plain bounds.
 use mathlib.Core.Path.{_≡_}
-use mathlib.Core.List.{List}
+use mathlib.Core.List.{List, [], _∷_}
 use Prim.Native.Nat.{ℕ, _+_, _*_, _-_, _^_, _≤_, _<_}
+use lib.Bits.{bitOr}
 use lib.ListN.{length}
 use lib.IntN.{ℤ, natAbs}
 use Rattle.laws.specs.Sums.{Each}
 use Rattle.numbers.specs.Cut.{rescale}
-use Rattle.steps.specs.Limits.{symbolLimit, exponentLimit, halvingLimit, scaleLimit, dataExponentLimit, outputExponentLimit}
-use Rattle.steps.specs.Side.{Small, largest, magnitudes}
+use Rattle.steps.specs.Limits.{tapLimit, blockLimit, symbolLimit, gainLimit, exponentLimit, halvingLimit, scaleLimit, dataExponentLimit, outputExponentLimit, lengthLimit}
+use Rattle.steps.specs.Settings.{Settings, stepBound}
+use Rattle.steps.specs.Fir.{Small, largest, magnitudes}
 use Rattle.steps.specs.Error.{errorExponent}
+
+-- sizes within their limits
+pub record Within (k : Settings) : Type 0 where
+  pub p-least : 1 ≤ k .p
+  pub p-most : k .p ≤ tapLimit
+  pub q-least : 1 ≤ k .q
+  pub q-most : k .q ≤ tapLimit
+  pub N-least : 1 ≤ k .N
+  pub N-window : k .p ≤ k .N + 1
+  pub N-most : k .N ≤ blockLimit
+  pub r-most : k .r ≤ symbolLimit
+  pub L-most : k .L ≤ gainLimit
+
+-- M·D ≤ 2^30
+abbrev pub Admitted : Settings → Type 0
+Admitted k = k .M * stepBound k ≤ 2 ^ (30 + k .L)
+
+-- the least shift by which M·Z is cut in step 6
+abbrev pub factorShiftLeast : ℕ
+factorShiftLeast = 60 - (symbolLimit + lengthLimit + dataExponentLimit)
+
+-- the length of a line: those of a block, and what was there before it
+abbrev pub lineLength : ℕ
+lineLength = blockLimit + tapLimit
 
 -- a sum of products whose partial sums fit 32 bits
 pub record Summable (w a : List ℤ) : Type 0 where
@@ -25,12 +51,12 @@ pub record Adaptable (J : ℤ) (t : ℕ) (w a : List ℤ) : Type 0 where
   pub bound : natAbs J * largest (magnitudes a) < 2 ^ (29 + t)
 
 -- the sums of weights times samples and times symbols, and their exponents
-pub record OutputBounds (f h : ℤ) (g ν ψ : ℕ) : Type 0 where
+pub record OutputBounds (f h : ℤ) (Γ ν ψ : ℕ) : Type 0 where
   pub f-small : natAbs f < 2 ^ 28
   pub h-small : natAbs h * 2 ^ (15 - ν) < 2 ^ 28
   pub ψ-most : ψ ≤ exponentLimit
   pub ν-most : ν ≤ dataExponentLimit
-  pub g-most : g ≤ dataExponentLimit + 30
+  pub Γ-most : Γ ≤ dataExponentLimit + 30
 
 -- a symbol beside an output
 pub record ErrorBounds (r s : ℕ) (v y : ℤ) (ξ : ℕ) : Type 0 where
@@ -54,3 +80,8 @@ pub record Storable (i j : ℕ) (z : ℤ) : Type 0 where
   pub shift : i < 63
   pub room : natAbs z * 2 ^ i < 2 ^ 63
   pub bound : natAbs (rescale z i j) < 2 ^ 15
+
+-- the bitwise or of several numbers
+unfoldable pub orAll : List ℕ → ℕ
+orAll [] = 0
+orAll (n ∷ ns) = bitOr n (orAll ns)

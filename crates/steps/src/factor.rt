@@ -4,9 +4,9 @@ ghost use lib.IntN.{pos, natAbs, _*ℤ_};
 ghost use Rattle.numbers.specs.Cut.{cut};
 
 // Step 6: J, by which data are multiplied.
-pub fn factor(m: u32, z: i32, places: u32) -> i64
-    requires { ⌜ (natAbs z < 2 ^ 30) × (places < 64) ⌝ }
-    ensures { λ r. ⌜ r ≡ cut (pos m *ℤ z) places ⌝ }
+pub fn factor(m: u32, z: i32, shift: u32) -> i64
+    requires { ⌜ (natAbs z < 2 ^ 30) × (shift < 64) ⌝ }
+    ensures { λ r. ⌜ r ≡ cut (pos m *ℤ z) shift ⌝ }
 {
-    numbers::cut::cut((m as i64) * (z as i64), places)
+    numbers::cut::cut((m as i64) * (z as i64), shift)
 }

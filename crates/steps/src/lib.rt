@@ -3,6 +3,6 @@ pub mod decision;
 pub mod error;
 pub mod exponent;
 pub mod factor;
+pub mod fir;
 pub mod limits;
 pub mod output;
-pub mod side;

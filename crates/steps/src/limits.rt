@@ -24,8 +24,8 @@ pub const DOUBLING: u16 = 4096;
 // B and L together: the bits of a sample and the greatest gain.
 pub const LENGTH: u32 = 16 + GAIN;
 
-// Places of the weights, and of the data, in the record.
-pub const PLACES: usize = 2 * TAPS;
+// Slots of the weights, and of the data, in the record.
+pub const SLOTS: usize = 2 * TAPS;
 
-// Places of a line: those of a block, and what was there before it.
+// The length of a line: the samples of a block, and what was there before it.
 pub const LINE: usize = BLOCK + TAPS;

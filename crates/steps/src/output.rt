@@ -11,11 +11,11 @@ pub struct ScaledOutput {
     pub xi: u32,
 }
 
-// The places of a cut, no more than a shift takes.
-fn near(places: u32) -> u32
-    ensures { λ r. ⌜ r ≡ min places 31 ⌝ }
+// The bits of a cut, no more than a shift takes.
+fn near(shift: u32) -> u32
+    ensures { λ r. ⌜ r ≡ min shift 31 ⌝ }
 {
-    if places < 31 { places } else { 31 }
+    if shift < 31 { shift } else { 31 }
 }
 
 // Both sums at one exponent.
@@ -27,13 +27,13 @@ fn added(f: i32, h: i32, down: u32, up: u32) -> i32
 }
 
 // From the sum h of weights times symbols, so H = h·2^(15−ν). As γ ≤ 9, T(H·2^(ν−γ)) = h·2^(15−γ): nothing is cut off.
-pub fn output(f: i32, h: i32, g: u32, nu: u32, psi: u32) -> ScaledOutput
-    requires { ⌜ OutputBounds f h g nu psi ⌝ }
-    ensures { λ r. ⌜ (r .y ≡ output f (raise h (15 - nu)) g nu) × (r .xi ≡ outputExponent psi g nu) ⌝ }
+pub fn output(f: i32, h: i32, gamma30: u32, nu: u32, psi: u32) -> ScaledOutput
+    requires { ⌜ OutputBounds f h gamma30 nu psi ⌝ }
+    ensures { λ r. ⌜ (r .y ≡ output f (raise h (15 - nu)) gamma30 nu) × (r .xi ≡ outputExponent psi gamma30 nu) ⌝ }
 {
-    let over = super::exponent::larger(g, nu + 30);
+    let over = super::exponent::larger(gamma30, nu + 30);
     ScaledOutput {
-        y: added(f, h, over - g, 45 - over),
+        y: added(f, h, over - gamma30, 45 - over),
         xi: psi + over - 30,
     }
 }

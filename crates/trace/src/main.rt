@@ -10,10 +10,9 @@ fn run() {
     if n <= TRACE && streams::failed(streams::next(), b"trace") {
         return;
     }
-    let t = trace_text::text(&input[..n], &mut out);
-    if t.fits {
-        streams::write_front(&out, t.length, b"trace");
-    }
+    let length = trace_text::text(&input[..n], &mut out);
+    let text = &out;
+    streams::write_front(text, length, b"trace");
 }
 
 fn main() {

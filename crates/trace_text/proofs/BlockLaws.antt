@@ -13,23 +13,24 @@ use mir.Facts.{sfits-toZ}
 use borrow.Author.Tests.{eq-eqb, ne-eqb}
 use Rattle.laws.specs.Sums.{each-of}
 use Rattle.laws.specs.Machine.{abs-fits}
-use Rattle.steps.specs.Limits.{blockLimit, places}
+use Rattle.steps.specs.Limits.{blockLimit, slots}
 use Rattle.filter.proofs.DecisionSize.{decision-most}
-use Rattle.block.specs.Block.{g, at, entryAt, handedY, handedξ, handedDecision}
+use Rattle.block.specs.Block.{Outputs, Γ, at, entryAt, blockY, blockξ, blockDecision}
 use Rattle.block.proofs.ValuesLaws.{values-length, values-at}
-use Rattle.block.proofs.BlockLeft as Left
-use Rattle.block.proofs.BlockHolds.{at-sample}
+use Rattle.block.proofs.BlockMemory as Left
+use Rattle.block.proofs.BlockHolds.{at-sample, output-at}
 use Rattle.state.specs.State.{settings, memory}
 use Rattle.state.specs.declared.equaliser.Equaliser.{Equaliser}
 use Rattle.state.specs.declared.equaliser.Answer.{Answer}
-use Rattle.checks.specs.Checks.{Lent, block}
-use Rattle.checks.specs.Calls.{lentOf, Sampled, Checked}
+use Rattle.checks.specs.Checks.{Buffers, block, buffersOf}
+use Rattle.checks.specs.Calls.{Sampled, Checked}
 use Rattle.checks.proofs.CheckLaws.{checked-is}
 use Rattle.station.specs.Answers.{runNumber, Run}
-use Rattle.station.proofs.AnswerLaws.{accepted-new, run-tests}
-use Rattle.trace_text.specs.Trace.{traceLimit, byteAt, number16, settingsIn, countIn, samplesIn, sampleStart, samplesFrom, sampleAt, lentWith, lentAt}
-use Rattle.trace_text.specs.Text.{lines, blockLines, stopLine, blockText, lineLimit}
-use Rattle.trace_text.specs.Calls.{Printable, AllPrintable, Read-is, Ran-is, OfTrace}
+use Rattle.station.proofs.AnswerLaws.{outputs-new, run-tests}
+use Rattle.image.specs.Load.{byteAt}
+use Rattle.trace_text.specs.Trace.{traceLimit, unsigned16, settingsIn, countIn, samplesIn, sampleStart, samplesFrom, traceSample, buffersWith, buffersAt}
+use Rattle.trace_text.specs.Text.{lines, blockLines, stopLine, blockText}
+use Rattle.trace_text.specs.Calls.{lineLimit, Printable, AllPrintable, Read-is, Ran-is, OfTrace}
 use Rattle.trace_text.proofs.LineLaws.{lines-short}
 use Rattle.trace_text.proofs.ReadLaws.{well-long, well-most}
 
@@ -65,54 +66,55 @@ pub read-long : {t : List ℕ} {first n : ℕ} {m : List ℤ} {gains : List ℕ}
     (length m ≡ n) × (length gains ≡ n) × (length entries ≡ n)
 read-long r = (ap length (r .m-is) ∙ values-length _ _, ap length (r .gains-is) ∙ values-length _ _, ap length (r .entries-is) ∙ values-length _ _)
 
-pub lent-is : (t : List ℕ) (n first : ℕ) (m : List ℤ) (gains : List ℕ) (entries y : List ℤ) (xi : List ℕ) (decision z : List ℤ) (theta : List ℕ) →
+pub buffers-is : (t : List ℕ) (n first : ℕ) (m : List ℤ) (gains : List ℕ) (entries y : List ℤ) (xi : List ℕ) (decision z : List ℤ) (theta : List ℕ) →
     n ≡ settingsIn t .N → Read-is t first n m gains entries → z ≡ replicate n (pos 0) → theta ≡ replicate n 0 →
-    lentOf m gains entries y xi decision z theta ≡ lentWith t first y xi decision
-unfolding lentWith
-lent-is t n first m gains entries y xi decision z theta h r a b = rw (r .m-is, r .gains-is, r .entries-is, a, b, h) refl
+    buffersOf m gains entries y xi decision z theta ≡ buffersWith t first y xi decision
+unfolding buffersWith
+buffers-is t n first m gains entries y xi decision z theta h r a b = rw (r .m-is, r .gains-is, r .entries-is, a, b, h) refl
 
 -- what a run answers, without Z and θ
-pub ran-is : {e : Equaliser} {given l : Lent} {a : Answer} {y : List ℤ} {xi : List ℕ} {decision z : List ℤ} {theta : List ℕ} →
+pub ran-is : {e : Equaliser} {given l : Buffers} {a : Answer} {y : List ℤ} {xi : List ℕ} {decision z : List ℤ} {theta : List ℕ} →
     given ≡ l → Run e given a y xi decision z theta → Ran-is e l a y xi decision
 ran-is {e} {given} {l} {a} {y} {xi} {decision} same r =
-    subst (λ (k : Lent). Ran-is e k a y xi decision) same
+    subst (λ (k : Buffers). Ran-is e k a y xi decision) same
     (record { number = r .number; state = r .state; y-is = r .y-is; xi-is = r .xi-is; decision-is = r .decision-is })
 
 -- the samples of a trace have 16 bits
-pub sampled : (t : List ℕ) (first : ℕ) (y : List ℤ) (xi : List ℕ) (decision : List ℤ) → ((i : ℕ) → byteAt t i < 256) → Sampled (lentWith t first y xi decision .m)
-unfolding lentWith
+pub sampled : (t : List ℕ) (first : ℕ) (y : List ℤ) (xi : List ℕ) (decision : List ℤ) → ((i : ℕ) → byteAt t i < 256) → Sampled (buffersWith t first y xi decision .m)
+unfolding buffersWith
 sampled t first y xi decision h =
     each-of (λ (z : ℤ). natAbs z ≤ 2 ^ 15) (pos 0) (samplesFrom t first (settingsIn t .N)) (λ i k.
-    let below : i < settingsIn t .N = omega (arith, values-length (λ j. sampleAt t (first + j)) (settingsIn t .N)) in
-    rw (values-at (λ j. sampleAt t (first + j)) (pos 0) (settingsIn t .N) i below) (small (sampleStart (first + i))))
+    let below : i < settingsIn t .N = omega (arith, values-length (λ j. traceSample t (first + j)) (settingsIn t .N)) in
+    rw (values-at (λ j. traceSample t (first + j)) (pos 0) (settingsIn t .N) i below) (small (sampleStart (first + i))))
   where
-    small : (i : ℕ) → natAbs (toZ w16 (number16 t i)) ≤ 2 ^ 15
-    small i = abs-fits {w = w16} (sfits-toZ {w = w16} {n = number16 t i} (omega (arith, h i, h (i + 1))))
+    small : (i : ℕ) → natAbs (toZ w16 (unsigned16 t i)) ≤ 2 ^ 15
+    small i = abs-fits {w = w16} (sfits-toZ {w = w16} {n = unsigned16 t i} (omega (arith, h i, h (i + 1))))
 
 -- ---- what an accepted block hands out can be printed
 
-module _ (e : Equaliser) (l : Lent) (place : ℕ) (run : runNumber e l ≡ 0) (w : length (e .weights) ≡ places) (d : length (e .past) ≡ places)
+module _ (e : Equaliser) (l : Buffers) (place : ℕ) (run : runNumber e l ≡ 0) (w : length (e .weights) ≡ slots) (d : length (e .past) ≡ slots)
     (m : Sampled (l .m)) (room : place + e .n ≤ traceLimit) where
   c : Checked e (block l)
   c = checked-is e l (run-tests e l run .0) w d m
 
   each : (i : ℕ) → i < e .n →
-      Printable (place + i) (getD (handedY (settings e) (memory e) (block l)) i (pos 0)) (getD (handedξ (settings e) (memory e) (block l)) i 0)
-      (getD (handedDecision (settings e) (memory e) (block l)) i (pos 0))
+      Printable (place + i) (getD (blockY (settings e) (memory e) (block l)) i (pos 0)) (getD (blockξ (settings e) (memory e) (block l)) i 0)
+      (getD (blockDecision (settings e) (memory e) (block l)) i (pos 0))
   each i h =
       let s = at-sample (settings e) (memory e) (block l) (c .sound) (c .acceptable) (run-tests e l run .1) i h in
+      let o = output-at (settings e) (memory e) (block l) i h in
       let entry = entryAt (settings e) (memory e) (block l) i in
-      rw (s .given .Y-is, s .given .ξ-is, s .given .decision-is)
+      rw (o .Y-is, o .ξ-is, o .decision-is)
       (record {
         place-below = omega (arith, room);
         Y-below = s .bounded .Y-small;
         ξ-most = s .bounded .ξ-most;
-        decision-below = decision-most (settings e) (g (settings e) (memory e) (block l)) (at (settings e) (memory e) (block l) i) entry (c .sound .within .r-most);
+        decision-below = decision-most (settings e) (Γ (settings e) (memory e) (block l)) (at (settings e) (memory e) (block l) i) entry (c .sound .within .r-most);
       })
 
-  pub printable : AllPrintable place (handedY (settings e) (memory e) (block l)) (handedξ (settings e) (memory e) (block l)) (handedDecision (settings e) (memory e) (block l))
+  pub printable : AllPrintable place (blockY (settings e) (memory e) (block l)) (blockξ (settings e) (memory e) (block l)) (blockDecision (settings e) (memory e) (block l))
   printable =
-      let long = Left.handed-long (settings e) (memory e) (block l) in
+      let long = Left.block-long (settings e) (memory e) (block l) in
       record {
         short = omega (arith, long .y-long, c .sound .within .N-most);
         ξ-long = long .xi-long ∙ sym (long .y-long);
@@ -122,52 +124,52 @@ module _ (e : Equaliser) (l : Lent) (place : ℕ) (run : runNumber e l ≡ 0) (w
 
   pub block-short : length (blockLines place e l) ≤ lineLimit * e .n
   unfolding blockLines
-  block-short = lines-short place _ _ _ (e .n) printable (omega (arith, Left.handed-long (settings e) (memory e) (block l) .y-long))
+  block-short = lines-short place _ _ _ (e .n) printable (omega (arith, Left.block-long (settings e) (memory e) (block l) .y-long))
 
 -- ---- what an accepted block handed out, at the front of work areas
 
-module _ {e : Equaliser} {l : Lent} {a : Answer} {y : List ℤ} {xi : List ℕ} {decision : List ℤ} (r : Ran-is e l a y xi decision) (z : a .number ≡ 0) where
+module _ {e : Equaliser} {l : Buffers} {a : Answer} {y : List ℤ} {xi : List ℕ} {decision : List ℤ} (r : Ran-is e l a y xi decision) (z : a .number ≡ 0) where
   pub accepts : runNumber e l ≡ 0
   accepts = sym (r .number) ∙ z
 
-  Y-is : y ≡ handedY (settings e) (memory e) (block l)
-  Y-is = r .y-is ∙ accepted-new e l _ _ accepts
+  Y-is : y ≡ blockY (settings e) (memory e) (block l)
+  Y-is = r .y-is ∙ ap (λ (t : Outputs). t .y) (outputs-new e l accepts)
 
-  ξ-is : xi ≡ handedξ (settings e) (memory e) (block l)
-  ξ-is = r .xi-is ∙ accepted-new e l _ _ accepts
+  ξ-is : xi ≡ blockξ (settings e) (memory e) (block l)
+  ξ-is = r .xi-is ∙ ap (λ (t : Outputs). t .xi) (outputs-new e l accepts)
 
-  decision-is : decision ≡ handedDecision (settings e) (memory e) (block l)
-  decision-is = r .decision-is ∙ accepted-new e l _ _ accepts
+  decision-is : decision ≡ blockDecision (settings e) (memory e) (block l)
+  decision-is = r .decision-is ∙ ap (λ (t : Outputs). t .decision) (outputs-new e l accepts)
 
-  pub handed-long : (length y ≡ e .n) × (length xi ≡ e .n) × (length decision ≡ e .n)
-  handed-long =
-      let long = Left.handed-long (settings e) (memory e) (block l) in
+  pub block-long : (length y ≡ e .n) × (length xi ≡ e .n) × (length decision ≡ e .n)
+  block-long =
+      let long = Left.block-long (settings e) (memory e) (block l) in
       (ap length Y-is ∙ long .y-long, ap length ξ-is ∙ long .xi-long, ap length decision-is ∙ long .decision-long)
 
   module _ (place : ℕ) (ry : List ℤ) (rx : List ℕ) (rd : List ℤ) where
-    front-Y : take (e .n) (y ++ ry) ≡ handedY (settings e) (memory e) (block l)
-    front-Y = front-is y ry (e .n) (handed-long .0) ∙ Y-is
+    front-Y : take (e .n) (y ++ ry) ≡ blockY (settings e) (memory e) (block l)
+    front-Y = front-is y ry (e .n) (block-long .0) ∙ Y-is
 
-    front-ξ : take (e .n) (xi ++ rx) ≡ handedξ (settings e) (memory e) (block l)
-    front-ξ = front-is xi rx (e .n) (handed-long .1) ∙ ξ-is
+    front-ξ : take (e .n) (xi ++ rx) ≡ blockξ (settings e) (memory e) (block l)
+    front-ξ = front-is xi rx (e .n) (block-long .1) ∙ ξ-is
 
-    front-decision : take (e .n) (decision ++ rd) ≡ handedDecision (settings e) (memory e) (block l)
-    front-decision = front-is decision rd (e .n) (handed-long .2) ∙ decision-is
+    front-decision : take (e .n) (decision ++ rd) ≡ blockDecision (settings e) (memory e) (block l)
+    front-decision = front-is decision rd (e .n) (block-long .2) ∙ decision-is
 
-    pub front-printable : length (e .weights) ≡ places → length (e .past) ≡ places → Sampled (l .m) → place + e .n ≤ traceLimit →
+    pub front-printable : length (e .weights) ≡ slots → length (e .past) ≡ slots → Sampled (l .m) → place + e .n ≤ traceLimit →
         AllPrintable place (take (e .n) (y ++ ry)) (take (e .n) (xi ++ rx)) (take (e .n) (decision ++ rd))
     front-printable w d m room = rw (front-Y, front-ξ, front-decision) (printable e l place accepts w d m room)
 
     pub front-lines : lines place (take (e .n) (y ++ ry)) (take (e .n) (xi ++ rx)) (take (e .n) (decision ++ rd)) (length (take (e .n) (y ++ ry))) ≡ blockLines place e l
     unfolding blockLines
-    front-lines = ap (lines place _ _ _) (front-long y ry (e .n) (handed-long .0)) ∙ rw (front-Y, front-ξ, front-decision) refl
+    front-lines = ap (lines place _ _ _) (front-long y ry (e .n) (block-long .0)) ∙ rw (front-Y, front-ξ, front-decision) refl
 
 -- ---- the text of a block
 
 module _ (t : List ℕ) (e : Equaliser) (o : OfTrace t e) where
   -- lists for what a block hands out, of zeros
-  pub lent-zeros : (first : ℕ) → lentWith t first (take (e .n) (replicate blockLimit (pos 0))) (take (e .n) (replicate blockLimit 0)) (take (e .n) (replicate blockLimit (pos 0))) ≡ lentAt t first
-  lent-zeros first = rw (zeros (pos 0) (e .n) (o .n-most), zeros {A = ℕ} 0 (e .n) (o .n-most), o .n-is) refl
+  pub buffers-zeros : (first : ℕ) → buffersWith t first (take (e .n) (replicate blockLimit (pos 0))) (take (e .n) (replicate blockLimit 0)) (take (e .n) (replicate blockLimit (pos 0))) ≡ buffersAt t first
+  buffers-zeros first = rw (zeros (pos 0) (e .n) (o .n-most), zeros {A = ℕ} 0 (e .n) (o .n-most), o .n-is) refl
 
   module _ (i : ℕ) (h : i < countIn t) where
     pub block-within : i * e .n + e .n ≤ samplesIn t
@@ -177,8 +179,8 @@ module _ (t : List ℕ) (e : Equaliser) (o : OfTrace t e) where
     block-few = omega (arith, block-within, well-long t (o .well-formed), well-most t (o .well-formed))
 
 module _ (t : List ℕ) (e : Equaliser) (i : ℕ) where
-  abbrev lent : Lent
-  lent = lentAt t (i * e .n)
+  abbrev lent : Buffers
+  lent = buffersAt t (i * e .n)
 
   pub refused-text : (runNumber e lent ≡ 0 → ⊥) → stopLine (runNumber e lent) i ≡ blockText t e i
   unfolding blockText

@@ -12,28 +12,28 @@ use lib.Dec.{ltb→lt}
 use lib.IntN.{ℤ, pos, negsuc, natAbs}
 use lib.Signed.{_≤ℤ_, _<ℤ_}
 use borrow.Author.Tests.{lt-ltb, le-ltb}
-use Rattle.trace_text.specs.Decimal.{digits, decimal, signedDecimal}
-use Rattle.trace_text.specs.TextAt.{TextAt}
+use Rattle.trace_text.specs.Decimal.{decimalDigits, decimal, signedDecimal}
+use Rattle.trace_text.specs.Calls.{TextAt}
 use Rattle.trace_text.proofs.TextAtLaws.{same-drop, text-none}
 
 -- ---- the digits, one after the other
 
-digits-one : (d n : ℕ) → n < 10 → digits d n ≡ (48 + n) ∷ []
-unfolding digits
+digits-one : (d n : ℕ) → n < 10 → decimalDigits d n ≡ (48 + n) ∷ []
+unfolding decimalDigits
 digits-one zero n h = ap (λ (m : ℕ). (48 + m) ∷ []) (omega arith)
 digits-one (suc d) n h = simp (lt-ltb n 10 h)
 
-digits-more : (d n : ℕ) → 10 ≤ n → digits (suc d) n ≡ digits d (n / 10) ++ ((48 + n % 10) ∷ [])
-unfolding digits
+digits-more : (d n : ℕ) → 10 ≤ n → decimalDigits (suc d) n ≡ decimalDigits d (n / 10) ++ ((48 + n % 10) ∷ [])
+unfolding decimalDigits
 digits-more d n h = simp (le-ltb n 10 h)
 
 -- any limit that a number does not pass gives the same digits
-enough : (d e n : ℕ) → n ≤ d → n ≤ e → digits d n ≡ digits e n
+enough : (d e n : ℕ) → n ≤ d → n ≤ e → decimalDigits d n ≡ decimalDigits e n
 enough zero e n h k = digits-one zero n (omega arith) ∙ sym (digits-one e n (omega arith))
 enough (suc d) zero n h k = digits-one (suc d) n (omega arith) ∙ sym (digits-one zero n (omega arith))
 enough (suc d) (suc e) n h k = go (decLt n 10) (λ l. enough d e (n / 10) (omega arith) (omega arith))
   where
-    go : Dec (n < 10) → (10 ≤ n → digits d (n / 10) ≡ digits e (n / 10)) → digits (suc d) n ≡ digits (suc e) n
+    go : Dec (n < 10) → (10 ≤ n → decimalDigits d (n / 10) ≡ decimalDigits e (n / 10)) → decimalDigits (suc d) n ≡ decimalDigits (suc e) n
     go (yes l) rest = digits-one (suc d) n l ∙ sym (digits-one (suc e) n l)
     go (no l) rest =
         let m : 10 ≤ n = omega arith in
@@ -67,11 +67,11 @@ decimal-short (suc k) n h = go (decLt n 10) (decimal-short k (n / 10) (omega (ar
     go (no l) rest = omega (arith, length-more n (omega arith))
 
 -- and is written by as many steps
-pub decimal-steps : (k n : ℕ) → n < 10 ^ suc k → decimal n ≡ digits k n
+pub decimal-steps : (k n : ℕ) → n < 10 ^ suc k → decimal n ≡ decimalDigits k n
 decimal-steps zero n h = decimal-one n h ∙ sym (digits-one zero n h)
 decimal-steps (suc k) n h = go (decLt n 10) (decimal-steps k (n / 10) (omega (arith, pow-suc 10 (suc k))))
   where
-    go : Dec (n < 10) → decimal (n / 10) ≡ digits k (n / 10) → decimal n ≡ digits (suc k) n
+    go : Dec (n < 10) → decimal (n / 10) ≡ decimalDigits k (n / 10) → decimal n ≡ decimalDigits (suc k) n
     go (yes l) rest = decimal-one n l ∙ sym (digits-one (suc k) n l)
     go (no l) rest =
         let m : 10 ≤ n = omega arith in
@@ -102,17 +102,17 @@ abbrev pub lastDigits : ℕ → ℕ → List ℕ
 lastDigits zero n = []
 lastDigits (suc d) n = lastDigits d (n / 10) ++ ((48 + n % 10) ∷ [])
 
-last-digits : (d n : ℕ) → lastDigits (length (digits d n)) n ≡ digits d n
-unfolding digits
+last-digits : (d n : ℕ) → lastDigits (length (decimalDigits d n)) n ≡ decimalDigits d n
+unfolding decimalDigits
 last-digits zero n = refl
 last-digits (suc d) n = go (decLt n 10) (last-digits d (n / 10))
   where
-    go : Dec (n < 10) → lastDigits (length (digits d (n / 10))) (n / 10) ≡ digits d (n / 10) → lastDigits (length (digits (suc d) n)) n ≡ digits (suc d) n
+    go : Dec (n < 10) → lastDigits (length (decimalDigits d (n / 10))) (n / 10) ≡ decimalDigits d (n / 10) → lastDigits (length (decimalDigits (suc d) n)) n ≡ decimalDigits (suc d) n
     go (yes l) rest = rw (digits-one (suc d) n l) (ap (λ (m : ℕ). (48 + m) ∷ []) (omega arith))
     go (no l) rest =
         let m : 10 ≤ n = omega arith in
         simp (le-ltb n 10 m)
-        (ap (λ (k : ℕ). lastDigits k n) (length-append (digits d (n / 10)) ((48 + n % 10) ∷ []) ∙ add-one (length (digits d (n / 10))))
+        (ap (λ (k : ℕ). lastDigits k n) (length-append (decimalDigits d (n / 10)) ((48 + n % 10) ∷ []) ∙ add-one (length (decimalDigits d (n / 10))))
         ∙ ap (λ (t : List ℕ). t ++ ((48 + n % 10) ∷ [])) rest)
 
 pub last-all : (n : ℕ) → lastDigits (length (decimal n)) n ≡ decimal n

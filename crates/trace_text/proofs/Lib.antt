@@ -2,7 +2,7 @@ pub mod TextAtLaws
 pub mod DecimalLaws
 pub mod LineLaws
 pub mod ReadLaws
-pub mod LentLaws
+pub mod BufferLaws
 pub mod BlockLaws
 pub mod TextLaws
 pub mod TraceLaws

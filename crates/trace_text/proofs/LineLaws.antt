@@ -5,8 +5,8 @@ use native.Mathlib.Omega.{arith}
 use lib.ListN.{length, getD, length-append}
 use lib.IntN.{ℤ, pos, natAbs}
 use Rattle.trace_text.specs.Decimal.{signedDecimal}
-use Rattle.trace_text.specs.Text.{space, newline, field, line, stopLine, lines, lineLimit}
-use Rattle.trace_text.specs.Calls.{Printable, AllPrintable}
+use Rattle.trace_text.specs.Text.{space, newline, field, line, stopLine, lines}
+use Rattle.trace_text.specs.Calls.{lineLimit, Printable, AllPrintable}
 use Rattle.trace_text.proofs.DecimalLaws.{unsigned-short, signed-short}
 
 -- a number of k + 1 digits and the byte after it

@@ -11,7 +11,8 @@ use borrow.Author.Tests.{le-leb, lt-leb, leb-true, eqb-true}
 use Rattle.laws.specs.Lists.{and-left, and-right, Written, written-next, written-all}
 use Rattle.block.specs.Block.{values}
 use Rattle.block.proofs.ValuesLaws.{values-length, values-at}
-use Rattle.trace_text.specs.Trace.{headerLength, traceLimit, byteAt, samplesIn, wellFormed}
+use Rattle.image.specs.Load.{byteAt}
+use Rattle.trace_text.specs.Trace.{traceHeaderLength, traceLimit, samplesIn, wellFormed}
 
 -- ---- a loop writes the values of f
 
@@ -26,32 +27,32 @@ module _ {A : Type 0} (f : ℕ → A) (n : ℕ) {old now : List A} {i : ℕ} (w 
 
 module _ (t : List ℕ) where
   -- one after the other
-  pub well-short : length t < headerLength → wellFormed t ≡ false
+  pub well-short : length t < traceHeaderLength → wellFormed t ≡ false
   unfolding wellFormed
-  well-short h = simp (lt-leb headerLength (length t) h)
+  well-short h = simp (lt-leb traceHeaderLength (length t) h)
 
   pub well-large : traceLimit < length t → wellFormed t ≡ false
   unfolding wellFormed
   well-large h =
-      let g : headerLength ≤ length t = omega arith in
-      simp (le-leb headerLength (length t) g, lt-leb (length t) traceLimit h)
+      let g : traceHeaderLength ≤ length t = omega arith in
+      simp (le-leb traceHeaderLength (length t) g, lt-leb (length t) traceLimit h)
 
-  module _ (h : headerLength ≤ length t) (k : length t ≤ traceLimit) where
-    pub well-tested : wellFormed t ≡ (eqb (length t) (headerLength + 4 * samplesIn t) && eqb (byteAt t 5) 0)
+  module _ (h : traceHeaderLength ≤ length t) (k : length t ≤ traceLimit) where
+    pub well-tested : wellFormed t ≡ (eqb (length t) (traceHeaderLength + 4 * samplesIn t) && eqb (byteAt t 5) 0)
     unfolding wellFormed
-    well-tested = simp (le-leb headerLength (length t) h, le-leb (length t) traceLimit k)
+    well-tested = simp (le-leb traceHeaderLength (length t) h, le-leb (length t) traceLimit k)
 
   -- what they give
   module _ (h : wellFormed t ≡ true) where
-    lengths : (leb headerLength (length t) && leb (length t) traceLimit && eqb (length t) (headerLength + 4 * samplesIn t)) ≡ true
+    lengths : (leb traceHeaderLength (length t) && leb (length t) traceLimit && eqb (length t) (traceHeaderLength + 4 * samplesIn t)) ≡ true
     unfolding wellFormed
     lengths = and-left _ (eqb (byteAt t 5) 0) h
 
     pub well-most : length t ≤ traceLimit
-    well-most = leb-true (length t) traceLimit (and-right (leb headerLength (length t)) _ (and-left _ _ lengths))
+    well-most = leb-true (length t) traceLimit (and-right (leb traceHeaderLength (length t)) _ (and-left _ _ lengths))
 
-    pub well-long : length t ≡ headerLength + 4 * samplesIn t
-    well-long = eqb-true (length t) _ (and-right (leb headerLength (length t) && leb (length t) traceLimit) _ lengths)
+    pub well-long : length t ≡ traceHeaderLength + 4 * samplesIn t
+    well-long = eqb-true (length t) _ (and-right (leb traceHeaderLength (length t) && leb (length t) traceLimit) _ lengths)
 
 -- the samples of a header are few
 pub few : (b c : ℕ) → b < 256 → c < 65536 → b * c ≤ 255 * 65535

@@ -1,14 +1,13 @@
 -- Text in lent bytes, put together from parts.
 use mathlib.Core.Path.{_≡_, refl, sym, ap, ap₂, _∙_, subst}
-use mathlib.Core.Bool.{Bool, true, false, cond}
 use mathlib.Core.List.{List, [], _∷_, _++_, append-assoc, append-nil}
 use Prim.Native.Nat.{ℕ, suc, _+_, _≤_, _<_}
 use native.Mathlib.Omega.{arith}
 use native.Mathlib.Numerals.{add-one}
 use lib.ListN.{length, getD, take, drop, set, length-append, length-drop, take-append-drop}
 use lib.Seq.{take-at, take-length, drop-at, drop-drop, length-take-le, set-split, append-snoc, paste, paste-suc}
-use borrow.Author.Tests.{le-leb, lt-leb}
-use Rattle.trace_text.specs.TextAt.{TextAt, TextFront}
+use Rattle.trace_text.specs.TextFront.{TextFront}
+use Rattle.trace_text.specs.Calls.{TextAt}
 
 pub same-drop : (o : List ℕ) (m n : ℕ) → m ≡ n → drop m o ≡ drop n o
 same-drop o m n e = ap (λ (k : ℕ). drop k o) e
@@ -77,24 +76,9 @@ module _ (o : List ℕ) (at : ℕ) (text : List ℕ) where
     contents = e ∙ ap (paste o at text) k ∙ ap (λ (l : List ℕ). take at o ++ l ++ drop (at + length text) o) (take-length text);
   }
 
--- ---- a text at the front, where there is room for it
+-- ---- a text at the front
 
-module _ (least : ℕ) (text before : List ℕ) where
-  pub front-short : length before < least → TextFront least text before (record { fits = false; length = 0 }) before
-  front-short h =
-      let e = lt-leb least (length before) h in
-      record {
-        fits = sym e;
-        text-length = sym (ap (λ (b : Bool). cond b (length text) 0) e);
-        contents = sym (ap (λ (b : Bool). cond b (text ++ drop (length text) before) before) e);
-      }
-
-  pub front-fits : (count : ℕ) (after : List ℕ) → least ≤ length before → TextAt 0 text before count after → TextFront least text before (record { fits = true; length = count }) after
-  front-fits count after h f =
-      let e = le-leb least (length before) h in
-      let none : 0 + length text ≡ length text = omega arith in
-      record {
-        fits = sym e;
-        text-length = f .end-is ∙ none ∙ sym (ap (λ (b : Bool). cond b (length text) 0) e);
-        contents = f .contents ∙ ap (λ (n : ℕ). text ++ drop n before) none ∙ sym (ap (λ (b : Bool). cond b (text ++ drop (length text) before) before) e);
-      }
+pub text-at-front : (text before : List ℕ) (count : ℕ) (after : List ℕ) → TextAt 0 text before count after → TextFront text before count after
+text-at-front text before count after f =
+    let none : 0 + length text ≡ length text = omega arith in
+    record { text-length = f .end-is ∙ none; contents = f .contents ∙ ap (λ (n : ℕ). text ++ drop n before) none }

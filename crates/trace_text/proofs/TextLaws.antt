@@ -8,15 +8,15 @@ use native.Mathlib.Nat.{mul-le-mul-right}
 use native.Mathlib.Numerals.{add-one}
 use lib.ListN.{length, length-append}
 use borrow.Author.Tests.{eq-eqb, ne-eqb}
-use Rattle.steps.specs.Limits.{places}
+use Rattle.steps.specs.Limits.{slots}
 use Rattle.steps.specs.Settings.{Settings}
 use Rattle.state.specs.declared.equaliser.Equaliser.{Equaliser}
 use Rattle.station.specs.Answers.{runNumber, runState}
 use Rattle.station.proofs.NumberLaws.{run-settings, run-long}
-use Rattle.trace_text.specs.Trace.{byteAt, settingsIn, countIn, wellFormed, lentAt}
-use Rattle.trace_text.specs.Text.{blockText, textFrom, lineLimit, textLimit}
-use Rattle.trace_text.specs.TextAt.{TextAt}
-use Rattle.trace_text.specs.Calls.{OfTrace, Added-is}
+use Rattle.image.specs.Load.{byteAt}
+use Rattle.trace_text.specs.Trace.{settingsIn, countIn, wellFormed, buffersAt}
+use Rattle.trace_text.specs.Text.{blockText, textFrom}
+use Rattle.trace_text.specs.Calls.{lineLimit, textLimit, TextAt, OfTrace, Added-is}
 use Rattle.trace_text.specs.declared.blocks.Added.{Added}
 use Rattle.trace_text.proofs.ReadLaws.{well-long, well-most}
 use Rattle.trace_text.proofs.TextAtLaws.{text-none, text-same, text-long, text-then}
@@ -25,27 +25,27 @@ use Rattle.trace_text.proofs.BlockLaws.{sampled, block-few, accepted-te
 -- ---- one block more
 
 module _ (t : List ℕ) (e : Equaliser) (i m : ℕ) where
-  goes-on : runNumber e (lentAt t (i * e .n)) ≡ 0 → textFrom t (suc m) i e ≡ blockText t e i ++ textFrom t m (suc i) (runState e (lentAt t (i * e .n)))
+  goes-on : runNumber e (buffersAt t (i * e .n)) ≡ 0 → textFrom t (suc m) i e ≡ blockText t e i ++ textFrom t m (suc i) (runState e (buffersAt t (i * e .n)))
   unfolding textFrom
-  goes-on h = simp (eq-eqb (runNumber e (lentAt t (i * e .n))) 0 h)
+  goes-on h = simp (eq-eqb (runNumber e (buffersAt t (i * e .n))) 0 h)
 
-  stops : (runNumber e (lentAt t (i * e .n)) ≡ 0 → ⊥) → textFrom t (suc m) i e ≡ blockText t e i
+  stops : (runNumber e (buffersAt t (i * e .n)) ≡ 0 → ⊥) → textFrom t (suc m) i e ≡ blockText t e i
   unfolding textFrom
-  stops h = ap (λ (b : Bool). blockText t e i ++ cond b (textFrom t m (suc i) (runState e (lentAt t (i * e .n)))) []) (ne-eqb (runNumber e (lentAt t (i * e .n))) 0 h) ∙ append-nil (blockText t e i)
+  stops h = ap (λ (b : Bool). blockText t e i ++ cond b (textFrom t m (suc i) (runState e (buffersAt t (i * e .n)))) []) (ne-eqb (runNumber e (buffersAt t (i * e .n))) 0 h) ∙ append-nil (blockText t e i)
 
 -- ---- the first i blocks are written
 
 pub record Going (t : List ℕ) (first : Equaliser) (before : List ℕ) (i at : ℕ) (e : Equaliser) (out : List ℕ) : Type 0 where
   pub within : i ≤ countIn t
   pub n-is : e .n ≡ settingsIn t .N
-  pub weights-long : length (e .weights) ≡ places
-  pub past-long : length (e .past) ≡ places
+  pub weights-long : length (e .weights) ≡ slots
+  pub past-long : length (e .past) ≡ slots
   pub done : List ℕ
   pub written : TextAt 0 done before at out
   pub text-is : textFrom t (countIn t) 0 first ≡ done ++ textFrom t (countIn t - i) i e
   pub short : length done ≤ lineLimit * (i * settingsIn t .N)
 
-pub going-none : (t : List ℕ) (e : Equaliser) (out : List ℕ) → e .n ≡ settingsIn t .N → length (e .weights) ≡ places → length (e .past) ≡ places → Going t e out 0 0 e out
+pub going-none : (t : List ℕ) (e : Equaliser) (out : List ℕ) → e .n ≡ settingsIn t .N → length (e .weights) ≡ slots → length (e .past) ≡ slots → Going t e out 0 0 e out
 going-none t e out h w d = record {
   within = omega arith;
   n-is = h;
@@ -70,7 +70,7 @@ module _ (t : List ℕ) (first : Equaliser) (before : List ℕ) (i at : ℕ) (e 
   pub going-next : (r : Added) (p : List ℕ) → OfTrace t e → ((j : ℕ) → byteAt t j < 256) → i < countIn t → Added-is t e i at r out p → r .number ≡ 0 →
       Going t first before (i + 1) (r .end) (r .state) p
   going-next r p o b h a z =
-      let l = lentAt t (i * e .n) in
+      let l = buffersAt t (i * e .n) in
       let none : runNumber e l ≡ 0 = sym (a .number) ∙ z in
       let m = sampled t (i * e .n) _ _ _ b in
       let long = run-long e l none (w .weights-long) (w .past-long) m in

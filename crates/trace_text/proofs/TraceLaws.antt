@@ -15,8 +15,8 @@ use Rattle.state.specs.declared.equaliser.Answer.{Answer}
 use Rattle.state.proofs.SizesLaws.{settings-tests, fit-within}
 use Rattle.state.proofs.NumberLaws.{fresh-settings}
 use Rattle.trace_text.specs.Trace.{settingsIn, countIn, wellFormed}
-use Rattle.trace_text.specs.Text.{stopLine, textFrom, traceText, textLimit}
-use Rattle.trace_text.specs.Calls.{Traceable}
+use Rattle.trace_text.specs.Text.{stopLine, textFrom, traceText}
+use Rattle.trace_text.specs.Calls.{textLimit, Traceable}
 
 -- ---- the text, case by case
 

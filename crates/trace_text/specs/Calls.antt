@@ -1,20 +1,33 @@
 -- What the functions that write text ask and promise.
 use mathlib.Core.Bool.{true}
-use mathlib.Core.List.{List}
+use mathlib.Core.List.{List, _++_}
 use mathlib.Core.Path.{_≡_}
-use Prim.Native.Nat.{ℕ, _+_, _*_, _^_, _≤_, _<_}
-use lib.ListN.{length, getD}
+use Prim.Native.Nat.{ℕ, _+_, _*_, _/_, _^_, _≤_, _<_}
+use lib.ListN.{length, getD, take, drop}
 use lib.IntN.{ℤ, pos, natAbs}
 use Rattle.steps.specs.Limits.{blockLimit, symbolLimit, outputExponentLimit}
 use Rattle.state.specs.declared.equaliser.Equaliser.{Equaliser}
 use Rattle.state.specs.declared.equaliser.Answer.{Answer}
-use Rattle.checks.specs.Checks.{Lent, block}
+use Rattle.checks.specs.Checks.{Buffers, block}
 use Rattle.station.specs.Answers.{runNumber, runState, runOutputs}
-use Rattle.trace_text.specs.Trace.{traceLimit, settingsIn, countIn, samplesIn, wellFormed, samplesFrom, gainsFrom, entriesFrom, lentAt}
-use Rattle.trace_text.specs.Text.{blockText, traceText, lineLimit, textLimit}
-use Rattle.trace_text.specs.TextAt.{TextAt, TextFront}
+use Rattle.trace_text.specs.Trace.{traceLimit, settingsIn, countIn, samplesIn, wellFormed, samplesFrom, gainsFrom, entriesFrom, buffersAt}
+use Rattle.trace_text.specs.Text.{blockText}
 use Rattle.trace_text.specs.declared.blocks.Added.{Added}
-use Rattle.trace_text.specs.declared.Written.{Written}
+
+-- ---- room for lines and texts
+
+-- no line is longer: 5 digits of a place, 9 of Y, 2 of ξ and of a decision, two signs, a byte after each number
+abbrev pub lineLimit : ℕ
+lineLimit = 5 + (1 + 9) + 2 + (1 + 2) + 4
+
+-- no text is longer: a sample takes 4 bytes of the trace
+abbrev pub textLimit : ℕ
+textLimit = lineLimit * (traceLimit / 4)
+
+-- a text from a place on, and where it ends
+pub record TextAt (at : ℕ) (text before : List ℕ) (end : ℕ) (after : List ℕ) : Type 0 where
+  pub end-is : end ≡ at + length text
+  pub contents : after ≡ take at before ++ text ++ drop (at + length text) before
 
 -- ---- lines
 
@@ -54,12 +67,12 @@ pub record OfTrace (t : List ℕ) (e : Equaliser) : Type 0 where
   pub n-most : e .n ≤ blockLimit
 
 -- the block whose first sample has this place
-pub record Runnable (t : List ℕ) (e : Equaliser) (first : ℕ) : Type 0 where
+pub record BlockRunnable (t : List ℕ) (e : Equaliser) (first : ℕ) : Type 0 where
   pub trace : OfTrace t e
   pub within : first + e .n ≤ samplesIn t
 
 -- the answer, and the lists for Y, ξ and decision at the end
-pub record Ran-is (e : Equaliser) (l : Lent) (a : Answer) (y : List ℤ) (xi : List ℕ) (decision : List ℤ) : Type 0 where
+pub record Ran-is (e : Equaliser) (l : Buffers) (a : Answer) (y : List ℤ) (xi : List ℕ) (decision : List ℤ) : Type 0 where
   pub number : a .number ≡ runNumber e l
   pub state : a .state ≡ runState e l
   pub y-is : y ≡ runOutputs e l .y
@@ -73,8 +86,8 @@ pub record Blockable (t : List ℕ) (e : Equaliser) (i at : ℕ) (out : List ℕ
   pub room : at + lineLimit * (e .n + 1) ≤ length out
 
 pub record Added-is (t : List ℕ) (e : Equaliser) (i at : ℕ) (r : Added) (before after : List ℕ) : Type 0 where
-  pub number : r .number ≡ runNumber e (lentAt t (i * e .n))
-  pub state : r .state ≡ runState e (lentAt t (i * e .n))
+  pub number : r .number ≡ runNumber e (buffersAt t (i * e .n))
+  pub state : r .state ≡ runState e (buffersAt t (i * e .n))
   pub written : TextAt at (blockText t e i) before (r .end) after
 
 -- ---- the whole trace
@@ -82,7 +95,3 @@ pub record Added-is (t : List ℕ) (e : Equaliser) (i at : ℕ) (r : Added) (bef
 pub record Traceable (t : List ℕ) (e : Equaliser) (out : List ℕ) : Type 0 where
   pub trace : OfTrace t e
   pub room : textLimit ≤ length out
-
--- the text, at the front of lent bytes that have room for any text
-abbrev pub Text-is : List ℕ → List ℕ → Written → List ℕ → Type 0
-Text-is t = TextFront textLimit (traceText t)

@@ -6,13 +6,13 @@ use lib.Dec.{ltb}
 use lib.IntN.{ℤ, pos, negsuc}
 
 -- at most d digits more in front of the last
-unfoldable pub digits : ℕ → ℕ → List ℕ
-digits zero n = (48 + n % 10) ∷ []
-digits (suc d) n = cond (ltb n 10) ((48 + n) ∷ []) (digits d (n / 10) ++ ((48 + n % 10) ∷ []))
+unfoldable pub decimalDigits : ℕ → ℕ → List ℕ
+decimalDigits zero n = (48 + n % 10) ∷ []
+decimalDigits (suc d) n = cond (ltb n 10) ((48 + n) ∷ []) (decimalDigits d (n / 10) ++ ((48 + n % 10) ∷ []))
 
 -- a number has no more digits than its value and one
 unfoldable pub decimal : ℕ → List ℕ
-decimal n = digits n n
+decimal n = decimalDigits n n
 
 -- with a minus sign before a negative number
 unfoldable pub signedDecimal : ℤ → List ℕ

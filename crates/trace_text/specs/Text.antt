@@ -1,18 +1,18 @@
 -- The text of a trace: a line for each sample of the accepted blocks, and a line of `stop` at a refusal.
 use mathlib.Core.Bool.{cond}
 use mathlib.Core.List.{List, [], _∷_, _++_}
-use Prim.Native.Nat.{ℕ, zero, suc, _+_, _*_, _/_}
+use Prim.Native.Nat.{ℕ, zero, suc, _+_, _*_}
 use lib.Dec.{eqb}
 use lib.ListN.{getD}
 use lib.IntN.{ℤ, pos}
-use Rattle.block.specs.Block.{handedY, handedξ, handedDecision}
+use Rattle.block.specs.Block.{blockY, blockξ, blockDecision}
 use Rattle.state.specs.Sizes.{settingsNumber}
 use Rattle.state.specs.State.{settings, memory, fresh}
 use Rattle.station.specs.Answers.{runNumber, runState}
-use Rattle.checks.specs.Checks.{Lent, block}
+use Rattle.checks.specs.Checks.{Buffers, block}
 use Rattle.state.specs.declared.equaliser.Equaliser.{Equaliser}
 use Rattle.trace_text.specs.Decimal.{signedDecimal}
-use Rattle.trace_text.specs.Trace.{traceLimit, settingsIn, countIn, wellFormed, lentAt}
+use Rattle.trace_text.specs.Trace.{settingsIn, countIn, wellFormed, buffersAt}
 
 abbrev pub space : ℕ
 space = 32
@@ -38,21 +38,21 @@ lines place Y ξ d zero = []
 lines place Y ξ d (suc n) = lines place Y ξ d n ++ line (place + n) (getD Y n (pos 0)) (getD ξ n 0) (getD d n (pos 0))
 
 -- the lines of an accepted block
-unfoldable pub blockLines : ℕ → Equaliser → Lent → List ℕ
+unfoldable pub blockLines : ℕ → Equaliser → Buffers → List ℕ
 blockLines place e l =
-    lines place (handedY (settings e) (memory e) (block l)) (handedξ (settings e) (memory e) (block l)) (handedDecision (settings e) (memory e) (block l)) (e .n)
+    lines place (blockY (settings e) (memory e) (block l)) (blockξ (settings e) (memory e) (block l)) (blockDecision (settings e) (memory e) (block l)) (e .n)
 
 -- what the block i adds to the text: its lines, or the line of its refusal
 unfoldable pub blockText : List ℕ → Equaliser → ℕ → List ℕ
 blockText t e i =
-    let l = lentAt t (i * e .n) in
+    let l = buffersAt t (i * e .n) in
     cond (eqb (runNumber e l) 0) (blockLines (i * e .n) e l) (stopLine (runNumber e l) i)
 
 -- the text of the last blocks, from the block i on
 unfoldable pub textFrom : List ℕ → ℕ → ℕ → Equaliser → List ℕ
 textFrom t zero i e = []
 textFrom t (suc blocks) i e =
-    let l = lentAt t (i * e .n) in
+    let l = buffersAt t (i * e .n) in
     blockText t e i ++ cond (eqb (runNumber e l) 0) (textFrom t blocks (suc i) (runState e l)) []
 
 unfoldable pub traceText : List ℕ → List ℕ
@@ -60,11 +60,3 @@ traceText t =
     cond (wellFormed t)
     (cond (eqb (settingsNumber (settingsIn t)) 0) (textFrom t (countIn t) 0 (fresh (settingsIn t))) (stopLine (settingsNumber (settingsIn t)) 0))
     (stopLine 8 0)
-
--- no line is longer: 5 digits of a place, 9 of Y, 2 of ξ and of a decision, two signs, a byte after each number
-abbrev pub lineLimit : ℕ
-lineLimit = 5 + (1 + 9) + 2 + (1 + 2) + 4
-
--- no text is longer: a sample takes 4 bytes of the trace
-abbrev pub textLimit : ℕ
-textLimit = lineLimit * (traceLimit / 4)

@@ -3,37 +3,35 @@ use mathlib.Core.Bool.{Bool, _&&_}
 use mathlib.Core.List.{List}
 use Prim.Native.Nat.{ℕ, _+_, _*_}
 use lib.Dec.{leb, eqb}
-use lib.ListN.{length, getD, replicate}
+use lib.ListN.{length, replicate}
 use lib.IntN.{ℤ, pos}
 use mir.Syntax.{w8, w16}
 use mir.Val.{toZ}
 use Rattle.steps.specs.Settings.{Settings}
 use Rattle.block.specs.Block.{values}
-use Rattle.checks.specs.Checks.{Lent}
+use Rattle.image.specs.Load.{byteAt}
+use Rattle.checks.specs.Checks.{Buffers}
 
 -- bytes of a header, and the most of a trace
-abbrev pub headerLength : ℕ
-headerLength = 12
+abbrev pub traceHeaderLength : ℕ
+traceHeaderLength = 12
 
 abbrev pub traceLimit : ℕ
 traceLimit = 65536
 
--- the byte at a place, and little-endian numbers from there on
-abbrev pub byteAt : List ℕ → ℕ → ℕ
-byteAt t i = getD t i 0
+-- little-endian numbers from a place on
+abbrev pub unsigned16 : List ℕ → ℕ → ℕ
+unsigned16 t i = byteAt t i + 256 * byteAt t (i + 1)
 
-abbrev pub number16 : List ℕ → ℕ → ℕ
-number16 t i = byteAt t i + 256 * byteAt t (i + 1)
-
-abbrev pub number32 : List ℕ → ℕ → ℕ
-number32 t i = number16 t i + 65536 * number16 t (i + 2)
+abbrev pub unsigned32 : List ℕ → ℕ → ℕ
+unsigned32 t i = unsigned16 t i + 65536 * unsigned16 t (i + 2)
 
 -- p, q, N, r, L, a 0 byte, the block count and M
 abbrev pub settingsIn : List ℕ → Settings
-settingsIn t = record { p = byteAt t 0; q = byteAt t 1; N = byteAt t 2; r = byteAt t 3; L = byteAt t 4; M = number32 t 8 }
+settingsIn t = record { p = byteAt t 0; q = byteAt t 1; N = byteAt t 2; r = byteAt t 3; L = byteAt t 4; M = unsigned32 t 8 }
 
 abbrev pub countIn : List ℕ → ℕ
-countIn t = number16 t 6
+countIn t = unsigned16 t 6
 
 -- how many samples the trace has
 abbrev pub samplesIn : List ℕ → ℕ
@@ -42,35 +40,35 @@ samplesIn t = settingsIn t .N * countIn t
 -- 8: the length is wrong or too large, or byte 5 is not 0
 unfoldable pub wellFormed : List ℕ → Bool
 wellFormed t =
-    leb headerLength (length t) && leb (length t) traceLimit && eqb (length t) (headerLength + 4 * samplesIn t) && eqb (byteAt t 5) 0
+    leb traceHeaderLength (length t) && leb (length t) traceLimit && eqb (length t) (traceHeaderLength + 4 * samplesIn t) && eqb (byteAt t 5) 0
 
 -- where a sample begins; the training entries begin where the samples end
 abbrev pub sampleStart : ℕ → ℕ
-sampleStart n = headerLength + 3 * n
+sampleStart n = traceHeaderLength + 3 * n
 
 -- m, gain and training entry of a sample, by its place in the whole trace
-abbrev pub sampleAt : List ℕ → ℕ → ℤ
-sampleAt t n = toZ w16 (number16 t (sampleStart n))
+abbrev pub traceSample : List ℕ → ℕ → ℤ
+traceSample t n = toZ w16 (unsigned16 t (sampleStart n))
 
-abbrev pub gainAt : List ℕ → ℕ → ℕ
-gainAt t n = byteAt t (sampleStart n + 2)
+abbrev pub traceGain : List ℕ → ℕ → ℕ
+traceGain t n = byteAt t (sampleStart n + 2)
 
-abbrev pub entryAt : List ℕ → ℕ → ℤ
-entryAt t n = toZ w8 (byteAt t (sampleStart (samplesIn t) + n))
+abbrev pub traceEntry : List ℕ → ℕ → ℤ
+traceEntry t n = toZ w8 (byteAt t (sampleStart (samplesIn t) + n))
 
 -- those of n samples, the first of which has this place
 abbrev pub samplesFrom : List ℕ → ℕ → ℕ → List ℤ
-samplesFrom t first n = values (λ j. sampleAt t (first + j)) n
+samplesFrom t first n = values (λ j. traceSample t (first + j)) n
 
 abbrev pub gainsFrom : List ℕ → ℕ → ℕ → List ℕ
-gainsFrom t first n = values (λ j. gainAt t (first + j)) n
+gainsFrom t first n = values (λ j. traceGain t (first + j)) n
 
 abbrev pub entriesFrom : List ℕ → ℕ → ℕ → List ℤ
-entriesFrom t first n = values (λ j. entryAt t (first + j)) n
+entriesFrom t first n = values (λ j. traceEntry t (first + j)) n
 
 -- the lists of a block whose first sample has this place, with lists for Y, ξ and decision
-unfoldable pub lentWith : List ℕ → ℕ → List ℤ → List ℕ → List ℤ → Lent
-lentWith t first y xi decision =
+unfoldable pub buffersWith : List ℕ → ℕ → List ℤ → List ℕ → List ℤ → Buffers
+buffersWith t first y xi decision =
     let N = settingsIn t .N in
     record {
       m = samplesFrom t first N;
@@ -84,7 +82,7 @@ lentWith t first y xi decision =
     }
 
 -- all lists for what it hands out are zeros
-abbrev pub lentAt : List ℕ → ℕ → Lent
-lentAt t first =
+abbrev pub buffersAt : List ℕ → ℕ → Buffers
+buffersAt t first =
     let N = settingsIn t .N in
-    lentWith t first (replicate N (pos 0)) (replicate N 0) (replicate N (pos 0))
+    buffersWith t first (replicate N (pos 0)) (replicate N 0) (replicate N (pos 0))

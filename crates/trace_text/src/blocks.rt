@@ -1,11 +1,9 @@
 // The text of the blocks of a trace.
 ghost use Rattle.trace_text.specs.Text.{textFrom};
-ghost use Rattle.trace_text.specs.Trace.{countIn, lentWith};
-ghost use Rattle.trace_text.specs.TextAt.{TextAt};
-ghost use Rattle.trace_text.specs.Calls.{Runnable, Ran-is, Blockable, Added-is, Traceable};
+ghost use Rattle.trace_text.specs.Trace.{countIn, buffersWith};
+ghost use Rattle.trace_text.specs.Calls.{TextAt, BlockRunnable, Ran-is, Blockable, Added-is, Traceable};
 use state::equaliser::Answer;
 use state::equaliser::Equaliser;
-use steps::limits::BLOCK;
 
 // What a block answers, and where its text ends.
 pub struct Added {
@@ -23,16 +21,16 @@ pub fn run_block(
     xi: &mut [u8],
     decision: &mut [i8],
 ) -> Answer
-    requires { ⌜ Runnable (now t) e first ⌝ }
-    ensures { λ a. ⌜ Ran-is e (lentWith (now (t .entry)) first (now (y .entry)) (now (xi .entry)) (now (decision .entry))) a (now (y .exit)) (now (xi .exit)) (now (decision .exit)) ⌝ }
+    requires { ⌜ BlockRunnable (now t) e first ⌝ }
+    ensures { λ a. ⌜ Ran-is e (buffersWith (now (t .entry)) first (now (y .entry)) (now (xi .entry)) (now (decision .entry))) a (now (y .exit)) (now (xi .exit)) (now (decision .exit)) ⌝ }
 {
     let n = e.n as usize;
-    let mut m = [0i16; BLOCK];
-    let mut gains = [0u8; BLOCK];
-    let mut entries = [0i8; BLOCK];
+    let mut m = [0i16; Equaliser::BLOCK as usize];
+    let mut gains = [0u8; Equaliser::BLOCK as usize];
+    let mut entries = [0i8; Equaliser::BLOCK as usize];
     super::read::block(t, first, &mut m[..n], &mut gains[..n], &mut entries[..n]);
-    let mut z = [0i32; BLOCK];
-    let mut theta = [0u8; BLOCK];
+    let mut z = [0i32; Equaliser::BLOCK as usize];
+    let mut theta = [0u8; Equaliser::BLOCK as usize];
     station::run::run(
         e,
         &m[..n],
@@ -53,9 +51,9 @@ pub fn block_text(t: &[u8], e: Equaliser, i: usize, at: usize, out: &mut [u8]) -
 {
     let n = e.n as usize;
     let first = i * n;
-    let mut y = [0i32; BLOCK];
-    let mut xi = [0u8; BLOCK];
-    let mut decision = [0i8; BLOCK];
+    let mut y = [0i32; Equaliser::BLOCK as usize];
+    let mut xi = [0u8; Equaliser::BLOCK as usize];
+    let mut decision = [0i8; Equaliser::BLOCK as usize];
     let a = run_block(t, e, first, &mut y[..n], &mut xi[..n], &mut decision[..n]);
     let number = a.number;
     let state = a.state;
@@ -80,7 +78,7 @@ pub fn all_blocks(t: &[u8], e: Equaliser, out: &mut [u8]) -> usize
     requires { ⌜ Traceable (now t) e (now out) ⌝ }
     ensures { λ r. ⌜ TextAt 0 (textFrom (now (t .entry)) (countIn (now (t .entry))) 0 e) (now (out .entry)) r (now (out .exit)) ⌝ }
 {
-    let count = image::bytes::number16(t[6], t[7]) as usize;
+    let count = image::bytes::unsigned16(t[6], t[7]) as usize;
     let mut state = e;
     let mut at: usize = 0;
     let mut i: usize = 0;

@@ -3,7 +3,7 @@ ghost use mathlib.Core.Path.{_≡_};
 ghost use Prim.Native.Nat.{_+_, _≤_};
 ghost use lib.ListN.{length};
 ghost use Rattle.trace_text.specs.Decimal.{decimal, signedDecimal};
-ghost use Rattle.trace_text.specs.TextAt.{TextAt};
+ghost use Rattle.trace_text.specs.Calls.{TextAt};
 
 // How many digits a number has.
 fn width(n: u32) -> usize

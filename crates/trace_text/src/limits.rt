@@ -1,7 +1,7 @@
 // The lengths of a trace and of its text, in bytes.
 
 // What stands before the samples.
-pub const HEADER: usize = 12;
+pub const TRACE_HEADER: usize = 12;
 
 // The longest trace.
 pub const TRACE: usize = 65536;

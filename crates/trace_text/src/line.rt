@@ -2,9 +2,8 @@
 use super::decimal::signed_decimal;
 ghost use Prim.Native.Nat.{_+_, _*_, _^_, _≤_, _<_};
 ghost use lib.ListN.{length};
-ghost use Rattle.trace_text.specs.Text.{field, line, stopLine, lines, lineLimit};
-ghost use Rattle.trace_text.specs.TextAt.{TextAt};
-ghost use Rattle.trace_text.specs.Calls.{Printable, AllPrintable};
+ghost use Rattle.trace_text.specs.Text.{field, line, stopLine, lines};
+ghost use Rattle.trace_text.specs.Calls.{lineLimit, TextAt, Printable, AllPrintable};
 
 // A number and the byte after it.
 fn field(z: i32, last: u8, at: usize, out: &mut [u8]) -> usize

@@ -2,7 +2,7 @@
 ghost use Prim.Native.Nat.{_≤_};
 ghost use mathlib.Core.Path.{_≡_};
 ghost use lib.ListN.{length};
-ghost use Rattle.trace_text.specs.Text.{textLimit};
+ghost use Rattle.trace_text.specs.Calls.{textLimit};
 ghost use Rattle.vector_files.specs.Changed.{changed};
 ghost use Rattle.vector_files.specs.Limit.{vectorLimit};
 ghost use Rattle.vector_files.specs.Piece.{Kept, Piece};
@@ -79,7 +79,7 @@ fn change_last(buf: &mut [u8], size: usize)
 }
 
 // The next vector. It has to be the same, and with its last byte changed it must not be.
-fn next(fd: i32, kind: Kind, buf: &mut [u8], out: &mut [u8]) -> Outcome {
+fn next(fd: i32, kind: Kind, buf: &mut [u8], out: &mut [u8; ROOM]) -> Outcome {
     let first = vectors::kind::first(kind);
     let got = read_piece(fd, buf, 0, first);
     if got == 0 {
@@ -126,7 +126,7 @@ fn say_other(place: u64, kind: Kind) {
 }
 
 // Runs the next vector, and answers whether to go on. Where there is no next one or it differs, it says so.
-fn turn(fd: i32, kind: Kind, buf: &mut [u8], out: &mut [u8], place: u64) -> bool {
+fn turn(fd: i32, kind: Kind, buf: &mut [u8], out: &mut [u8; ROOM], place: u64) -> bool {
     match next(fd, kind, buf, out) {
         Outcome::Same => true,
         Outcome::End => {
@@ -141,7 +141,7 @@ fn turn(fd: i32, kind: Kind, buf: &mut [u8], out: &mut [u8], place: u64) -> bool
 }
 
 // A proved loop has to end, so it stops at more vectors than a file has.
-fn run(fd: i32, kind: Kind, buf: &mut [u8], out: &mut [u8]) -> u64
+fn run(fd: i32, kind: Kind, buf: &mut [u8], out: &mut [u8; ROOM]) -> u64
     ensures { λ r. ⌜ r ≤ vectorLimit ⌝ }
 {
     let mut place: u64 = 0;

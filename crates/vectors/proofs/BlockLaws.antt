@@ -10,13 +10,12 @@ use lib.IntN.{ℤ}
 use borrow.Author.Tests.{leb-true, eq-eqb, ne-eqb}
 use Rattle.state.specs.declared.equaliser.Equaliser.{Equaliser}
 use Rattle.state.specs.declared.equaliser.Answer.{Answer}
-use Rattle.checks.specs.Checks.{Lent}
-use Rattle.checks.specs.Calls.{lentOf}
+use Rattle.checks.specs.Checks.{Buffers, buffersOf}
 use Rattle.station.specs.Answers.{Run}
-use Rattle.trace_text.specs.Trace.{byteAt}
+use Rattle.image.specs.Load.{byteAt}
 use Rattle.vectors.specs.Compare.{between, sampleBytes}
 use Rattle.vectors.specs.Record.{fill, recordLength, recordIn}
-use Rattle.vectors.specs.Block.{listCount, listLimit, lengthAt, listsPlace, gainsPlace, entriesPlace, answerPlace, answerIn, outputsPlace, afterPlace, blockEnd, fillLong, fillSigned, sampleIn, entryIn, lentOn, resultOn, resultIn, listsFit, sameAccepted, sameRefused, sameBlock}
+use Rattle.vectors.specs.Block.{listCount, listLimit, lengthAt, listsPlace, gainsPlace, entriesPlace, answerPlace, answerIn, outputsPlace, afterPlace, blockEnd, fillLong, fillSigned, sampleIn, entryIn, buffersOn, resultOn, resultIn, listsFit, sameAccepted, sameRefused, sameBlock}
 use Rattle.vectors.specs.declared.blocks.Lists.{Lists}
 use Rattle.vectors.specs.declared.compare.BlockResult.{BlockResult}
 use Rattle.block.specs.Block.{values}
@@ -44,17 +43,17 @@ pub list-fits : (v : List ℕ) → listsFit v ≡ true → (k : ℕ) → k < lis
 unfolding listsFit
 list-fits v e k h = leb-true (lengthAt v k) listLimit (below-at (λ j. leb (lengthAt v j) listLimit) listCount k h e)
 
-pub lent-on : (v : List ℕ) (m : List ℤ) (gains : List ℕ) (entries y : List ℤ) (xi : List ℕ) (d z : List ℤ) (th : List ℕ) →
+pub buffers-on : (v : List ℕ) (m : List ℤ) (gains : List ℕ) (entries y : List ℤ) (xi : List ℕ) (d z : List ℤ) (th : List ℕ) →
     y ≡ replicate (lengthAt v 3) fillLong → xi ≡ replicate (lengthAt v 4) fill → d ≡ replicate (lengthAt v 5) fillSigned → z ≡ replicate (lengthAt v 6) fillLong → th ≡ replicate (lengthAt v 7) fill →
-    lentOf m gains entries y xi d z th ≡ lentOn v m gains entries
-unfolding lentOn
-lent-on v m gains entries y xi d z th a b c e f = rw (a, b, c, e, f) refl
+    buffersOf m gains entries y xi d z th ≡ buffersOn v m gains entries
+unfolding buffersOn
+buffers-on v m gains entries y xi d z th a b c e f = rw (a, b, c, e, f) refl
 
 -- what running the block answers
-module _ (v : List ℕ) (s : Equaliser) (given l : Lent) (a : Answer) (y : List ℤ) (xi : List ℕ) (d z : List ℤ) (th : List ℕ)
+module _ (v : List ℕ) (s : Equaliser) (given l : Buffers) (a : Answer) (y : List ℤ) (xi : List ℕ) (d z : List ℤ) (th : List ℕ)
     (e : s ≡ recordIn v) (same : given ≡ l) (ran : Run s given a y xi d z th) where
   r : Run (recordIn v) l a y xi d z th
-  r = subst (λ (k : Lent). Run (recordIn v) k a y xi d z th) same (subst (λ (k : Equaliser). Run k given a y xi d z th) e ran)
+  r = subst (λ (k : Buffers). Run (recordIn v) k a y xi d z th) same (subst (λ (k : Equaliser). Run k given a y xi d z th) e ran)
 
   pub result-on : (ry : List ℤ) (rx : List ℕ) (rd rz : List ℤ) (rt : List ℕ) →
       ry ≡ replicate (listLimit - lengthAt v 3) fillLong → rx ≡ replicate (listLimit - lengthAt v 4) fill → rd ≡ replicate (listLimit - lengthAt v 5) fillSigned →
@@ -83,7 +82,7 @@ module _ (v : List ℕ) (fits : listsFit v ≡ true) (a b c : ℕ) (ea : a ≡ l
       ap₂ take ec (ap (λ (l : Lists). l .entries) er) ∙ take-values (entryIn v (listsPlace + 2 * a + b)) (lengthAt v 2) listLimit (list-fits v fits 2 (omega arith))
       ∙ ap₂ (λ (a b : ℕ). values (entryIn v (listsPlace + 2 * a + b)) (lengthAt v 2)) ea eb
 
-  pub result-in : resultOn v (lentOn v (take a (r .samples)) (between (listsPlace + 2 * a) (listsPlace + 2 * a + b) v) (take c (r .entries))) ≡ resultIn v
+  pub result-in : resultOn v (buffersOn v (take a (r .samples)) (between (listsPlace + 2 * a) (listsPlace + 2 * a + b) v) (take c (r .entries))) ≡ resultIn v
   unfolding resultIn
   result-in = rw (samples-are, gains-are, entries-are) refl
 

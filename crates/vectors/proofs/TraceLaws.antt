@@ -1,25 +1,23 @@
 -- What a trace vector answers.
-use mathlib.Core.Path.{_≡_, refl, sym, ap, ap₂, _∙_}
-use mathlib.Core.Bool.{Bool, true, false, _&&_, cond}
+use mathlib.Core.Path.{_≡_, sym, ap, ap₂, _∙_}
+use mathlib.Core.Bool.{Bool, true, false, _&&_}
 use mathlib.Core.List.{List, _++_}
 use Prim.Native.Nat.{ℕ, _+_, _-_, _≤_, _<_}
 use native.Mathlib.Omega.{arith}
-use lib.Dec.{leb}
 use lib.ListN.{length, take, drop, length-append}
 use lib.Seq.{take-append-seam}
 use borrow.Author.Tests.{le-leb, lt-leb}
-use Rattle.trace_text.specs.Trace.{number32}
-use Rattle.trace_text.specs.Text.{traceText, textLimit}
-use Rattle.trace_text.specs.Calls.{Text-is}
-use Rattle.trace_text.specs.declared.Written.{Written}
+use Rattle.trace_text.specs.Trace.{unsigned32}
+use Rattle.trace_text.specs.Text.{traceText}
+use Rattle.trace_text.specs.TextFront.{TextFront}
 use Rattle.laws.specs.Comparisons.{equal, equal-refl, equal-true}
 use Rattle.laws.specs.Lists.{and-right}
-use Rattle.vectors.specs.Trace.{lengthBytes, textPlace, textLength, textEnd, traceIn, textIn, written, TraceVector}
+use Rattle.vectors.specs.Trace.{lengthBytes, textPlace, textLength, textEnd, traceIn, textIn, whole, TraceVector}
 use Rattle.vectors.specs.declared.Step.{Step}
 
-pub text-end : (v : List ℕ) (place n : ℕ) → place ≡ textPlace v → n ≡ number32 v (place - lengthBytes) → place + n ≡ textEnd v
+pub text-end : (v : List ℕ) (place n : ℕ) → place ≡ textPlace v → n ≡ unsigned32 v (place - lengthBytes) → place + n ≡ textEnd v
 text-end v place n p e =
-    ap₂ (λ (a b : ℕ). a + b) p (e ∙ ap (number32 v) {x = place - lengthBytes} {y = lengthBytes + number32 v 0} (omega arith))
+    ap₂ (λ (a b : ℕ). a + b) p (e ∙ ap (unsigned32 v) {x = place - lengthBytes} {y = lengthBytes + unsigned32 v 0} (omega arith))
 
 module _ (v before : List ℕ) (place end : ℕ) (p : place ≡ textPlace v) (e : end ≡ textEnd v) where
   -- the bytes are no vector
@@ -28,51 +26,38 @@ module _ (v before : List ℕ) (place end : ℕ) (p : place ≡ textPlace v) (e 
       let t = lt-leb (textEnd v) (length v) (omega arith) in
       record { size = simp t; same = simp t; contents = simp t }
 
-  module _ (h : end ≤ length v) (w : Written) (after : List ℕ) (x : Text-is (take (place - lengthBytes - lengthBytes) (drop lengthBytes v)) before w after) where
-    whole-is : leb (textEnd v) (length v) ≡ true
+  module _ (h : end ≤ length v) (n : ℕ) (after : List ℕ) (x : TextFront (traceText (take (place - lengthBytes - lengthBytes) (drop lengthBytes v))) before n after) where
+    whole-is : whole v ≡ true
     whole-is = le-leb (textEnd v) (length v) (omega arith)
 
     trace-is : take (place - lengthBytes - lengthBytes) (drop lengthBytes v) ≡ traceIn v
-    trace-is = ap (λ (n : ℕ). take n (drop lengthBytes v)) {x = place - lengthBytes - lengthBytes} {y = number32 v 0} (omega arith)
+    trace-is = ap (λ (n : ℕ). take n (drop lengthBytes v)) {x = place - lengthBytes - lengthBytes} {y = unsigned32 v 0} (omega arith)
 
     text-in : take (end - place) (drop place v) ≡ textIn v
     text-in = ap (λ (n : ℕ). take n (drop place v)) {x = end - place} {y = textLength v} (omega arith) ∙ ap (λ (m : ℕ). take (textLength v) (drop m v)) p
 
-    -- too little room for any text
-    pub vector-short : w .fits ≡ false → TraceVector v before (record { size = end; same = false }) after
-    vector-short f =
-        let t = sym (x .fits) ∙ f in
-        record { size = e ∙ simp whole-is; same = simp (whole-is, t); contents = x .contents ∙ simp (whole-is, t) }
+    text-front : after ≡ traceText (traceIn v) ++ drop (length (traceText (traceIn v))) before
+    text-front = x .contents ∙ simp trace-is
 
-    module _ (f : w .fits ≡ true) where
-      room : leb textLimit (length before) ≡ true
-      room = sym (x .fits) ∙ f
+    long : n ≡ length (traceText (traceIn v))
+    long = x .text-length ∙ simp trace-is
 
-      text-front : after ≡ traceText (traceIn v) ++ drop (length (traceText (traceIn v))) before
-      text-front = x .contents ∙ simp (room, trace-is)
+    pub text-within : n ≤ length after
+    text-within = omega (arith, long, simp length-append at (ap length text-front))
 
-      long : w .length ≡ length (traceText (traceIn v))
-      long = x .text-length ∙ simp (room, trace-is)
-
-      pub text-within : w .length ≤ length after
-      text-within = omega (arith, long, simp length-append at (ap length text-front))
-
-      compared : ((leb (textEnd v) (length v) && leb textLimit (length before)) && equal (traceText (traceIn v)) (textIn v)) ≡ equal (traceText (traceIn v)) (textIn v)
-      compared = simp (whole-is, room)
-
-      pub vector-held : (s : Bool) → s ≡ equal (take (w .length - 0) after) (take (end - place) (drop place v)) → TraceVector v before (record { size = end; same = s }) after
-      vector-held s h = record {
-        size = e ∙ simp whole-is;
-        same = h ∙ ap₂ equal (ap₂ take {x = w .length - 0} {y = length (traceText (traceIn v))} (omega (arith, long)) text-front ∙ take-append-seam (traceText (traceIn v)) (drop (length (traceText (traceIn v))) before)) text-in ∙ sym compared;
-        contents = text-front ∙ simp (whole-is, room);
-      }
+    pub vector-held : (s : Bool) → s ≡ equal (take (n - 0) after) (take (end - place) (drop place v)) → TraceVector v before (record { size = end; same = s }) after
+    vector-held s h = record {
+      size = e ∙ simp whole-is;
+      same = h ∙ ap₂ equal (ap₂ take {x = n - 0} {y = length (traceText (traceIn v))} (omega (arith, long)) text-front ∙ take-append-seam (traceText (traceIn v)) (drop (length (traceText (traceIn v))) before)) text-in ∙ sym (simp whole-is);
+      contents = text-front ∙ simp whole-is;
+    }
 
 -- ---- what it means
 
--- it is told the same exactly if all of it is there, there is room for any text, and its text is that of its trace
+-- it is told the same exactly if all of it is there and its text is that of its trace
 pub trace-same : {v before after : List ℕ} {r : Step} → TraceVector v before r after → r .same ≡ true → traceText (traceIn v) ≡ textIn v
-trace-same {v} {before} t e =
-    equal-true (traceText (traceIn v)) (textIn v) (and-right (written v before) (equal (traceText (traceIn v)) (textIn v)) (sym (t .same) ∙ e))
+trace-same {v} t e =
+    equal-true (traceText (traceIn v)) (textIn v) (and-right (whole v) (equal (traceText (traceIn v)) (textIn v)) (sym (t .same) ∙ e))
 
-pub same-trace : {v before after : List ℕ} {r : Step} → TraceVector v before r after → written v before ≡ true → traceText (traceIn v) ≡ textIn v → r .same ≡ true
+pub same-trace : {v before after : List ℕ} {r : Step} → TraceVector v before r after → whole v ≡ true → traceText (traceIn v) ≡ textIn v → r .same ≡ true
 same-trace {v} t w e = t .same ∙ ap₂ _&&_ w (ap (λ (l : List ℕ). equal l (textIn v)) e ∙ equal-refl (textIn v))

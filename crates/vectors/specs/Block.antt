@@ -11,9 +11,10 @@ use mir.Syntax.{w8, w16}
 use mir.Val.{toZ}
 use Rattle.steps.specs.Limits.{blockLimit}
 use Rattle.block.specs.Block.{values}
-use Rattle.checks.specs.Checks.{Lent, block}
+use Rattle.checks.specs.Checks.{Buffers, block}
 use Rattle.station.specs.Answers.{runNumber, runState, runOutputs}
-use Rattle.trace_text.specs.Trace.{byteAt, number16}
+use Rattle.image.specs.Load.{byteAt}
+use Rattle.trace_text.specs.Trace.{unsigned16}
 use Rattle.laws.specs.Comparisons.{below}
 use Rattle.vectors.specs.Compare.{between, sampleBytes, sameOutputs}
 use Rattle.vectors.specs.Record.{fill, recordLength, recordIn, sameRecord, sameSaved}
@@ -31,7 +32,7 @@ abbrev pub listLimit : ℕ
 listLimit = 4 * blockLimit
 
 abbrev pub lengthAt : List ℕ → ℕ → ℕ
-lengthAt v k = number16 v (recordLength + 2 * k)
+lengthAt v k = unsigned16 v (recordLength + 2 * k)
 
 abbrev pub listsPlace : ℕ
 listsPlace = recordLength + 2 * listCount
@@ -67,14 +68,14 @@ abbrev pub fillSigned : ℤ
 fillSigned = negsuc 90
 
 abbrev pub sampleIn : List ℕ → ℕ → ℤ
-sampleIn v i = toZ w16 (number16 v (listsPlace + 2 * i))
+sampleIn v i = toZ w16 (unsigned16 v (listsPlace + 2 * i))
 
 abbrev pub entryIn : List ℕ → ℕ → ℕ → ℤ
 entryIn v at i = toZ w8 (byteAt v (at + i))
 
 -- these three lists, and five that are filled, of the lengths in v
-unfoldable pub lentOn : List ℕ → List ℤ → List ℕ → List ℤ → Lent
-lentOn v m gains entries = record {
+unfoldable pub buffersOn : List ℕ → List ℤ → List ℕ → List ℤ → Buffers
+buffersOn v m gains entries = record {
   m = m;
   gains = gains;
   entries = entries;
@@ -86,7 +87,7 @@ lentOn v m gains entries = record {
 }
 
 -- what running a block on the record in v answers, each list at the front of its places
-unfoldable pub resultOn : List ℕ → Lent → BlockResult
+unfoldable pub resultOn : List ℕ → Buffers → BlockResult
 resultOn v l =
     let e = recordIn v in
     record {
@@ -102,7 +103,7 @@ resultOn v l =
 -- with the three lists in v
 unfoldable pub resultIn : List ℕ → BlockResult
 resultIn v =
-    resultOn v (lentOn v (values (sampleIn v) (lengthAt v 0)) (between (gainsPlace v) (entriesPlace v) v) (values (entryIn v (entriesPlace v)) (lengthAt v 2)))
+    resultOn v (buffersOn v (values (sampleIn v) (lengthAt v 0)) (between (gainsPlace v) (entriesPlace v) v) (values (entryIn v (entriesPlace v)) (lengthAt v 2)))
 
 -- ---- what it is held to
 

@@ -4,27 +4,27 @@ use mathlib.Core.List.{List, _++_}
 use Prim.Native.Nat.{ℕ, _+_, _-_, _*_}
 use lib.Dec.{leb, eqb}
 use lib.ListN.{take, drop, replicate}
-use Rattle.steps.specs.Limits.{places}
+use Rattle.steps.specs.Limits.{slots}
 use Rattle.state.specs.State.{taps, padded}
 use Rattle.state.specs.declared.equaliser.Equaliser.{Equaliser}
-use Rattle.image.specs.Image.{width, headerLength, weightWord, datumWord, header, words, image, imageLength, dataPlace, endPlace, saveNumber}
-use Rattle.image.specs.Load.{wordsOf}
-use Rattle.trace_text.specs.Trace.{byteAt, number32}
+use Rattle.image.specs.Image.{width, imageHeaderLength, weightWord, datumWord, header, words, image, imageLength, dataPlace, endPlace, saveNumber}
+use Rattle.image.specs.Load.{wordsOf, byteAt}
+use Rattle.trace_text.specs.Trace.{unsigned32}
 use Rattle.laws.specs.Comparisons.{equal}
 use Rattle.vectors.specs.Compare.{part, between}
 
 -- bytes of all weights, and of all data, the spare places among them
 abbrev pub weightsLength : ℕ
-weightsLength = width weightWord * places
+weightsLength = width weightWord * slots
 
 abbrev pub pastLength : ℕ
-pastLength = width datumWord * places
+pastLength = width datumWord * slots
 
 abbrev pub pastPlace : ℕ
-pastPlace = dataPlace places
+pastPlace = dataPlace slots
 
 abbrev pub recordLength : ℕ
-recordLength = endPlace places
+recordLength = endPlace slots
 
 -- the state that bytes say
 unfoldable pub recordIn : List ℕ → Equaliser
@@ -36,16 +36,16 @@ recordIn v = record {
   l = byteAt v 4;
   psi = byteAt v 5;
   b = byteAt v 6;
-  big = byteAt v 7;
-  m = number32 v 8;
-  weights = padded (wordsOf weightWord places (part headerLength weightsLength v));
-  past = padded (wordsOf datumWord places (part pastPlace pastLength v));
+  bmax = byteAt v 7;
+  m = unsigned32 v 8;
+  weights = padded (wordsOf weightWord slots (part imageHeaderLength weightsLength v));
+  past = padded (wordsOf datumWord slots (part pastPlace pastLength v));
 }
 
 -- whether a state is the one that bytes say, spare places among them
 unfoldable pub sameRecord : Equaliser → List ℕ → Bool
 sameRecord s v =
-    equal (header s) (take headerLength v) && equal (words weightWord (s .weights)) (part headerLength weightsLength v)
+    equal (header s) (take imageHeaderLength v) && equal (words weightWord (s .weights)) (part imageHeaderLength weightsLength v)
     && equal (words datumWord (s .past)) (part pastPlace pastLength v)
 
 -- ---- a lent buffer for the saved image
@@ -70,5 +70,5 @@ unfoldable pub sameSaved : Equaliser → List ℕ → Bool
 sameSaved s v =
     let mid = dataPlace (taps s) in
     let end = endPlace (taps s) in
-    eqb (saveNumber s buffer) 0 && leb (taps s) places && equal (between 0 mid (saved s)) (between 0 mid v)
+    eqb (saveNumber s buffer) 0 && leb (taps s) slots && equal (between 0 mid (saved s)) (between 0 mid v)
     && equal (between mid end (saved s)) (between pastPlace (pastPlace + width datumWord * taps s) v) && equal (between end bufferLength (saved s)) (between end bufferLength buffer)

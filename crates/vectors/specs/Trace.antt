@@ -5,8 +5,8 @@ use mathlib.Core.Path.{_≡_}
 use Prim.Native.Nat.{ℕ, _+_}
 use lib.Dec.{leb}
 use lib.ListN.{length, take, drop}
-use Rattle.trace_text.specs.Trace.{number32}
-use Rattle.trace_text.specs.Text.{traceText, textLimit}
+use Rattle.trace_text.specs.Trace.{unsigned32}
+use Rattle.trace_text.specs.Text.{traceText}
 use Rattle.laws.specs.Comparisons.{equal}
 use Rattle.vectors.specs.declared.Step.{Step}
 
@@ -15,29 +15,26 @@ abbrev pub lengthBytes : ℕ
 lengthBytes = 4
 
 abbrev pub textPlace : List ℕ → ℕ
-textPlace v = lengthBytes + number32 v 0 + lengthBytes
+textPlace v = lengthBytes + unsigned32 v 0 + lengthBytes
 
 abbrev pub textLength : List ℕ → ℕ
-textLength v = number32 v (lengthBytes + number32 v 0)
+textLength v = unsigned32 v (lengthBytes + unsigned32 v 0)
 
 abbrev pub textEnd : List ℕ → ℕ
 textEnd v = textPlace v + textLength v
 
 abbrev pub traceIn : List ℕ → List ℕ
-traceIn v = take (number32 v 0) (drop lengthBytes v)
+traceIn v = take (unsigned32 v 0) (drop lengthBytes v)
 
 abbrev pub textIn : List ℕ → List ℕ
 textIn v = take (textLength v) (drop (textPlace v) v)
 
--- all of the vector is there, and there is room for any text
+-- all of the vector is there
 abbrev pub whole : List ℕ → Bool
 whole v = leb (textEnd v) (length v)
-
-abbrev pub written : List ℕ → List ℕ → Bool
-written v before = whole v && leb textLimit (length before)
 
 -- the size of the vector at the front of v, whether its text is that of its trace, and the lent bytes at the end
 pub record TraceVector (v before : List ℕ) (r : Step) (after : List ℕ) : Type 0 where
   pub size : r .size ≡ cond (whole v) (textEnd v) 0
-  pub same : r .same ≡ (written v before && equal (traceText (traceIn v)) (textIn v))
-  pub contents : after ≡ cond (written v before) (traceText (traceIn v) ++ drop (length (traceText (traceIn v))) before) before
+  pub same : r .same ≡ (whole v && equal (traceText (traceIn v)) (textIn v))
+  pub contents : after ≡ cond (whole v) (traceText (traceIn v) ++ drop (length (traceText (traceIn v))) before) before

@@ -5,7 +5,7 @@ ghost use Prim.Native.Nat.{_+_, _^_, _<_, _≤_};
 ghost use lib.ListN.{length, replicate};
 ghost use Rattle.block.specs.Block.{values};
 ghost use Rattle.vectors.specs.Record.{fill, recordLength};
-ghost use Rattle.vectors.specs.Block.{listCount, listLimit, lengthAt, answerPlace, afterPlace, blockEnd, fillLong, fillSigned, sampleIn, entryIn, lentOn, Roomy, resultOn, resultIn, listsFit, untouched, sameAccepted, sameRefused, sameBlock, BlockVector};
+ghost use Rattle.vectors.specs.Block.{listCount, listLimit, lengthAt, answerPlace, afterPlace, blockEnd, fillLong, fillSigned, sampleIn, entryIn, buffersOn, Roomy, resultOn, resultIn, listsFit, untouched, sameAccepted, sameRefused, sameBlock, BlockVector};
 use super::Step;
 use super::compare::BlockResult;
 use super::compare::LIST;
@@ -17,9 +17,9 @@ use super::record::same_record;
 use super::record::same_saved;
 use super::record::state;
 use super::values::byte_at;
-use super::values::number16_at;
 use super::values::signed8_at;
 use super::values::signed16_at;
+use super::values::unsigned16_at;
 
 // The lists of a block: three that are given, five that are lent.
 const COUNT: usize = 8;
@@ -31,7 +31,7 @@ fn length_at(v: &[u8], k: usize) -> u32
     requires { ⌜ k < listCount ⌝ }
     ensures { λ r. ⌜ r ≡ lengthAt (now (v .entry)) k ⌝ }
 {
-    number16_at(v, RECORD + 2 * k)
+    unsigned16_at(v, RECORD + 2 * k)
 }
 
 // Where the answer is.
@@ -124,7 +124,7 @@ fn filled_outputs() -> [u8; SAMPLE * LIST]
 // The block run on these three lists and on five that are filled, of the lengths in v.
 fn run_on(v: &[u8], m: &[i16], gains: &[u8], entries: &[i8]) -> BlockResult
     requires { ⌜ Roomy (now v) ⌝ }
-    ensures { λ r. ⌜ r ≡ resultOn (now (v .entry)) (lentOn (now (v .entry)) (now (m .entry)) (now (gains .entry)) (now (entries .entry))) ⌝ }
+    ensures { λ r. ⌜ r ≡ resultOn (now (v .entry)) (buffersOn (now (v .entry)) (now (m .entry)) (now (gains .entry)) (now (entries .entry))) ⌝ }
 {
     let mut y = filled_longs();
     let mut xi = filled_bytes();

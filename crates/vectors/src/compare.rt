@@ -5,18 +5,19 @@ ghost use lib.Dec.{eqb};
 ghost use lib.ListN.{length};
 ghost use mir.Syntax.{w8, w32};
 ghost use mir.Val.{ofZ};
-ghost use Rattle.trace_text.specs.Trace.{byteAt, number32};
+ghost use Rattle.image.specs.Load.{byteAt};
+ghost use Rattle.trace_text.specs.Trace.{unsigned32};
 ghost use Rattle.vectors.specs.Block.{listLimit};
 ghost use Rattle.laws.specs.Comparisons.{equal};
 ghost use Rattle.vectors.specs.Compare.{farthest, sampleBytes, sameSample, sameOutputs};
 use super::values::byte_at;
-use super::values::number32_at;
 use super::values::signed8_at;
 use super::values::signed32;
+use super::values::unsigned32_at;
 use state::equaliser::Equaliser;
 
 // A list of a vector is no longer than this.
-pub const LIST: usize = 4 * steps::limits::BLOCK;
+pub const LIST: usize = 4 * (Equaliser::BLOCK as usize);
 
 // What a sample hands out, in bytes: Y, ξ, decision, Z and θ.
 const XI: usize = 4;
@@ -59,9 +60,9 @@ pub fn same_bytes(a: &[u8], b: &[u8]) -> bool
 // Whether v has a number at a place.
 fn same_long(v: &[u8], at: usize, z: i32) -> bool
     requires { ⌜ at < farthest ⌝ }
-    ensures { λ r. ⌜ r ≡ eqb (ofZ w32 z) (number32 (now (v .entry)) at) ⌝ }
+    ensures { λ r. ⌜ r ≡ eqb (ofZ w32 z) (unsigned32 (now (v .entry)) at) ⌝ }
 {
-    z == signed32(number32_at(v, at))
+    z == signed32(unsigned32_at(v, at))
 }
 
 fn same_byte(v: &[u8], at: usize, d: i8) -> bool

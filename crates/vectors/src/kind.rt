@@ -4,6 +4,7 @@ ghost use Rattle.vectors.specs.Kind.{firstOf, secondOf, sizeOf, VectorOf
 use super::Step;
 use super::blocks;
 use super::trace;
+use trace_text::limits::TEXT;
 
 pub enum Kind {
     Trace,
@@ -40,7 +41,7 @@ pub fn size(kind: Kind, v: &[u8]) -> usize
 }
 
 // The vector at the front of v. What is in `out` gives way to the text of a trace.
-pub fn vector(kind: Kind, v: &[u8], out: &mut [u8]) -> Step
+pub fn vector(kind: Kind, v: &[u8], out: &mut [u8; TEXT]) -> Step
     ensures { λ r. ⌜ VectorOf kind (now (v .entry)) (now (out .entry)) r (now (out .exit)) ⌝ }
 {
     match kind {

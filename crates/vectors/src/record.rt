@@ -7,12 +7,11 @@ ghost use Rattle.image.specs.Image.{words};
 ghost use Rattle.laws.specs.Comparisons.{equal};
 ghost use Rattle.vectors.specs.Record.{recordLength, recordIn, sameRecord, buffer, sameSaved};
 use super::compare::same_bytes;
-use image::bytes::number32;
+use image::bytes::unsigned32;
 use image::load::words_in;
 use image::save::put_header;
 use image::save::put_words;
 use state::equaliser::Equaliser;
-use steps::limits::PLACES;
 
 // What lists and buffers are filled with before they are lent. No block hands out any of it.
 pub const FILL: u8 = 165;
@@ -21,10 +20,10 @@ pub const RECORD: usize = Equaliser::IMAGE;
 
 const HEADER: usize = Equaliser::HEADER;
 
-const PAST: usize = HEADER + Equaliser::WEIGHT * PLACES;
+const PAST: usize = HEADER + Equaliser::WEIGHT * Equaliser::SLOTS;
 
 // The bytes of all data, and of all weights.
-const WORDS: usize = Equaliser::DATUM * PLACES;
+const WORDS: usize = Equaliser::DATUM * Equaliser::SLOTS;
 
 // A buffer for any image, and bytes behind it.
 const BUFFER: usize = RECORD + 20;
@@ -34,8 +33,8 @@ pub fn state(v: &[u8]) -> Equaliser
     requires { ⌜ recordLength ≤ length (now v) ⌝ }
     ensures { λ e. ⌜ e ≡ recordIn (now (v .entry)) ⌝ }
 {
-    let weights = words_in(&v[HEADER..PAST], PLACES);
-    let past = words_in(&v[PAST..RECORD], PLACES);
+    let weights = words_in(&v[HEADER..PAST], Equaliser::SLOTS);
+    let past = words_in(&v[PAST..RECORD], Equaliser::SLOTS);
     Equaliser {
         p: v[0],
         q: v[1],
@@ -44,14 +43,14 @@ pub fn state(v: &[u8]) -> Equaliser
         l: v[4],
         psi: v[5],
         b: v[6],
-        big: v[7],
-        m: number32(v[8], v[9], v[10], v[11]),
+        bmax: v[7],
+        m: unsigned32(v[8], v[9], v[10], v[11]),
         weights: weights,
         past: past,
     }
 }
 
-fn same_words(a: &[i16; PLACES], v: &[u8]) -> bool
+fn same_words(a: &[i16; Equaliser::SLOTS], v: &[u8]) -> bool
     ensures { λ r. ⌜ r ≡ equal (words w16 (now (a .entry))) (now (v .entry)) ⌝ }
 {
     let mut bytes = [0u8; WORDS];
@@ -95,7 +94,7 @@ pub fn same_saved(s: Equaliser, v: &[u8]) -> bool
         return false;
     }
     let taps = (s.p as usize) + (s.q as usize);
-    if taps > PLACES {
+    if taps > Equaliser::SLOTS {
         return false;
     }
     let mid = HEADER + Equaliser::WEIGHT * taps;

@@ -2,10 +2,9 @@
 ghost use Rattle.vectors.specs.Sample.{SampleRun};
 use state::equaliser::Answer;
 use state::equaliser::Equaliser;
-use steps::limits::PLACES;
 
 // The length of the image of a state with one tap of each filter.
-pub const IMAGE: usize = Equaliser::IMAGE - 4 * (PLACES - 2);
+pub const IMAGE: usize = Equaliser::IMAGE - 4 * (Equaliser::SLOTS - 2);
 
 // What running it answers and hands out.
 pub struct SampleResult {

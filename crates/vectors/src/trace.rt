@@ -3,7 +3,8 @@ ghost use mathlib.Core.Path.{_≡_};
 ghost use Rattle.vectors.specs.Trace.{textPlace, textEnd, TraceVector};
 use super::Step;
 use super::compare::same_bytes;
-use super::values::number32_at;
+use super::values::unsigned32_at;
+use trace_text::limits::TEXT;
 
 // The bytes of a length.
 pub const LENGTH: usize = 4;
@@ -12,7 +13,7 @@ pub const LENGTH: usize = 4;
 pub fn text_place(v: &[u8]) -> usize
     ensures { λ r. ⌜ r ≡ textPlace (now (v .entry)) ⌝ }
 {
-    LENGTH + number32_at(v, 0) as usize + LENGTH
+    LENGTH + unsigned32_at(v, 0) as usize + LENGTH
 }
 
 // Where the text ends.
@@ -20,11 +21,11 @@ pub fn size(v: &[u8]) -> usize
     ensures { λ r. ⌜ r ≡ textEnd (now (v .entry)) ⌝ }
 {
     let place = text_place(v);
-    place + number32_at(v, place - LENGTH) as usize
+    place + unsigned32_at(v, place - LENGTH) as usize
 }
 
 // The trace vector at the front of v. What is in `out` gives way to the text.
-pub fn trace_vector(v: &[u8], out: &mut [u8]) -> Step
+pub fn trace_vector(v: &[u8], out: &mut [u8; TEXT]) -> Step
     ensures { λ r. ⌜ TraceVector (now (v .entry)) (now (out .entry)) r (now (out .exit)) ⌝ }
 {
     let place = text_place(v);
@@ -36,16 +37,10 @@ pub fn trace_vector(v: &[u8], out: &mut [u8]) -> Step
         };
     }
     let stop = place - LENGTH;
-    let text = trace_text::text(&v[LENGTH..stop], out);
-    if !text.fits {
-        return Step {
-            size: end,
-            same: false,
-        };
-    }
-    let n = text.length;
+    let n = trace_text::text(&v[LENGTH..stop], out);
+    let text = &out[..];
     Step {
         size: end,
-        same: same_bytes(&out[0..n], &v[place..end]),
+        same: same_bytes(&text[0..n], &v[place..end]),
     }
 }

@@ -14,12 +14,12 @@ use borrow.Rule.Slice.PartMut.{midOf, postOf, mid-len}
 use Rattle.laws.specs.Lists.{all}
 use Rattle.laws.specs.Sums.{Each}
 use Rattle.numbers.specs.BitLength.{bitLength}
-use Rattle.steps.specs.Settings.{Within}
-use Rattle.steps.specs.Side.{magnitudes, together}
+use Rattle.steps.specs.Sound.{Within, orAll}
+use Rattle.steps.specs.Fir.{magnitudes}
 use Rattle.block.specs.Block.{values}
 use Rattle.block.proofs.ValuesLaws.{values-length}
 use Rattle.state.proofs.SizesLaws.{settings-tests, fit-within}
-use Rattle.cable_trace.specs.Cable.{Cable, s, sampleCount, gainFits}
+use Rattle.cable_trace.specs.Cable.{Cable, s, sampleCount, gainAvailable}
 use Rattle.cable_trace.specs.Answers.{cableOf}
 use Rattle.cable_trace.specs.Calls.{sums, Gainable, sampleWords}
 use Rattle.cable_trace.proofs.CauseLaws.{Listed, listed}
@@ -85,12 +85,12 @@ sub-if1 c = omega (arith, within (begin (c .before .before)) .L-most)
 
 -- every gain, by the bits of the sums
 fit : (c : tie.After-bit-length) → let k = cable (begin (c .before .before .before)) in
-    leb (c .bit-length .result) (15 + k .settings .r - k .settings .L) ≡ all (gainFits (k .settings)) (values (s k) (sampleCount k))
+    leb (c .bit-length .result) (15 + k .settings .r - k .settings .L) ≡ all (gainAvailable (k .settings)) (values (s k) (sampleCount k))
 fit c =
     let m = c .before .before in
     let b = begin (m .before) in
     let k = cable b in
-    ap (λ (n : ℕ). leb n (15 + k .settings .r - k .settings .L)) (c .bit-length .ensures ∙ ap bitLength (m .sums2 .ensures .1 ∙ ap (λ (l : List ℤ). together (magnitudes l)) (summed m)))
+    ap (λ (n : ℕ). leb n (15 + k .settings .r - k .settings .L)) (c .bit-length .ensures ∙ ap bitLength (m .sums2 .ensures .1 ∙ ap (λ (l : List ℤ). orAll (magnitudes l)) (summed m)))
     ∙ gains-fit (k .settings) (within b .L-most) (values (s k) (sampleCount k))
 
 returns : tie.Need-returns

@@ -2,8 +2,8 @@
 use mathlib.Core.Path.{sym, ap, _∙_}
 use lib.Ieee.{ofBits}
 use borrow.Author.Needs.{needs}
-use Rattle.readings.specs.declared.Answer.the-variants.{Given}
-use Rattle.laboratory.specs.Readings.{answered}
+use Rattle.readings.specs.declared.ReadAnswer.the-variants.{Given}
+use Rattle.laboratory.specs.Calls.{answered}
 use Rattle.laboratory.proofs.power_answer.Statement.{statement}
 use Rattle.laboratory.proofs.power_answer.Tie as tie
 

@@ -5,12 +5,12 @@ use native.Mathlib.Omega.{arith}
 use lib.ListN.{length}
 use borrow.Author.Needs.{needs}
 use borrow.Author.Tests.{not-true, not-false}
-use Rattle.readings.specs.Readings.{Lists, amplitudes, readable}
-use Rattle.readings.specs.Calls.{listsOf, powerFrom}
+use Rattle.readings.specs.Readings.{Lists, amplitudes, readable, listsOf}
+use Rattle.readings.specs.Calls.{powerFrom}
 use Rattle.readings.specs.declared.errors.Sum.{Sum}
-use Rattle.readings.specs.declared.Answer.the-variants.{Given}
-use Rattle.readings.proofs.ListLaws.{amplitudes-length, squares-bound, power-from}
-use Rattle.readings.proofs.ReadableLaws.{readable-says, refused, given}
+use Rattle.readings.specs.declared.ReadAnswer.the-variants.{Given}
+use Rattle.readings.proofs.ListLaws.{squares-bound, power-from}
+use Rattle.readings.proofs.ReadableLaws.{readable-says, amplitudes-long, read, refused, given}
 use Rattle.readings.proofs.readings.Statement.{statement}
 use Rattle.readings.proofs.readings.Tie as tie
 
@@ -28,10 +28,7 @@ fill-requires c κs = readable-says (readable-is (c .before)) .fill
 
 -- as many a as readings
 long : (c : tie.Else1) → let s = c .before .before .before .before in length (amplitudes (s .args .z .now) (s .args .theta .now)) ≡ length (s .args .out .now)
-long c =
-    let s = c .before .before .before .before in
-    let f = readable-says (readable-is c) .fill .long in
-    amplitudes-length (s .args .z .now) (s .args .theta .now) (f .theta-long ∙ sym (f .z-long)) ∙ f .z-long
+long c = let s = c .before .before .before .before in amplitudes-long (lists s) (length (s .args .out .now)) (readable-is c)
 
 power-requires : tie.Need-power-requires
 power-requires c κs =
@@ -48,10 +45,9 @@ returns-2 c =
     let n = length (s .args .out .now) in
     let r = given (lists s) (s .args .out .now) (readable-is d) in
     let f = c .before .before .fill .ensures in
-    record {
-      answer = ap Given (c .power .ensures ∙ ap (λ (x : Sum). powerFrom x n) (f .1) ∙ power-from (s .args .z .now) (s .args .theta .now) n (long d)) ∙ r .answer;
-      output = f .0 ∙ r .output;
-    }
+    read (lists s) (s .args .out .now)
+    (ap Given (c .power .ensures ∙ ap (λ (x : Sum). powerFrom x n) (f .1) ∙ power-from (s .args .z .now) (s .args .theta .now) n (long d)) ∙ r .answer)
+    (f .0 ∙ r .output)
 
 pub readings-spec : {M : Type 1} → statement M
 readings-spec = tie.close (tie.spec (λ c κs. search needs) returns fill-requires power-requires (λ c. search needs) returns-2)

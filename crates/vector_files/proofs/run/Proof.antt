@@ -7,7 +7,7 @@ use Rattle.vector_files.proofs.run.Statement.{statement}
 use Rattle.vector_files.proofs.run.Tie as tie
 
 abbrev Inv-loop : tie.InvT-loop
-Inv-loop fd kind buf₀ out₀ place₀ buf out place = (length buf ≡ length buf₀) × ((length out ≡ length out₀) × (place ≤ vectorLimit))
+Inv-loop fd kind buf₀ out₀ place₀ buf out place = (length buf ≡ length buf₀) × (place ≤ vectorLimit)
 
 abbrev μ-loop : tie.MeasureT-loop
 μ-loop fd kind buf₀ out₀ place₀ buf out place = vectorLimit - place
@@ -17,5 +17,4 @@ run-spec =
     tie.close
     (tie.spec
     Inv-loop μ-loop (λ c. search needs) (λ c κs. search needs) (λ c. search needs) (λ c. search needs)
-    (λ c. search needs) (λ c. search needs) (λ c. search needs) (λ c. search needs) (λ c. search needs)
-    (λ c. search needs) (λ c. search needs))
+    (λ c. search needs) (λ c. search needs) (λ c. search needs) (λ c. search needs) (λ c. search needs))

@@ -25,7 +25,7 @@ step-requires c κs =
     let d = c .before .before .before .before in
     let s = start d in
     let a = s .args in
-    rw (window-part (a .k .p) (a .n) (a .samples .now) (s .pre .room), past-part (a .k .q) (a .n) (a .symbols .now) (s .pre .symbols-long) (s .pre .room), entry-is d) (s .pre .ready, s .pre .longest-at)
+    rw (window-part (a .k .p) (a .n) (a .samples .now) (s .pre .room), past-part (a .k .q) (a .n) (a .symbols .now) (s .pre .symbols-long) (s .pre .room), entry-is d) (s .pre .ready, s .pre .largest-bits-at)
 
 returns : tie.Need-returns
 returns c =

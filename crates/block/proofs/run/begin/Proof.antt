@@ -6,8 +6,8 @@ use borrow.Author.Needs.{needs}
 use Rattle.numbers.specs.BitLength.{bitLength}
 use Rattle.numbers.proofs.BitLengthLaws.{bit-length-le}
 use Rattle.block.specs.Calls.{blockLength}
-use Rattle.filter.proofs.SampleSides.{scale-most}
-use Rattle.block.proofs.ReceivedLaws.{received-longest}
+use Rattle.filter.proofs.SampleFirs.{scale-most}
+use Rattle.block.proofs.ReceivedLaws.{received-largest-bits}
 use Rattle.block.proofs.run.begin.Statement.{statement}
 use Rattle.block.proofs.run.begin.Tie as tie
 
@@ -24,7 +24,7 @@ start c = scaled c .before .before .before
 length-is : (c : tie.After-larger) → c .before .bit-length .result ≡ blockLength (start (loud c) .args .m .now) (start (loud c) .args .gains .now)
 length-is c =
     let a = start (loud c) .args in
-    c .before .bit-length .ensures ∙ ap bitLength (loud c .received-bits .ensures) ∙ received-longest (a .m .now) (a .gains .now)
+    c .before .bit-length .ensures ∙ ap bitLength (loud c .received-bits .ensures) ∙ received-largest-bits (a .m .now) (a .gains .now)
 
 length-most : (c : tie.After-larger) → c .before .bit-length .result ≤ 64
 length-most c = omega (arith, c .before .bit-length .ensures, bit-length-le (loud c .received-bits .result) 64 (omega (arith, loud c .received-bits .ok)))
@@ -52,13 +52,13 @@ returns : tie.Need-returns
 returns c =
     let d = c .before in
     let a = start (loud d) .args in
-    let big = d .larger .ensures ∙ ap (λ (n : ℕ). max n (a .was)) (length-is d) in
+    let bmax = d .larger .ensures ∙ ap (λ (n : ℕ). max n (a .was)) (length-is d) in
     record {
       s = scaled (loud d) .scale-count .ensures;
       sb = loud d .before .scale-count2 .ensures;
       b = length-is d;
-      big = big;
-      exponent = ap₂ (λ (x y : ℕ). a .k .r + x + y) big (scaled (loud d) .scale-count .ensures);
+      bmax = bmax;
+      exponent = ap₂ (λ (x y : ℕ). a .k .r + x + y) bmax (scaled (loud d) .scale-count .ensures);
     }
 
 pub begin-spec : {M : Type 1} → statement M

@@ -9,7 +9,7 @@ returns c =
     let d = c .before .before .before .before .before .before .before .before in
     let s = d .before .before .before in
     let a = s .args in
-    (d .store .ensures, filled-is (a .places) (a .m .now) (a .gains .now) (a .old .now) (a .line .now) (d .store .ensures) (search needs) (c .before .before .before .before .before .start .ensures) (c .before .add .ensures))
+    (d .store .ensures, filled-is (a .shift) (a .m .now) (a .gains .now) (a .old .now) (a .line .now) (d .store .ensures) (search needs) (c .before .before .before .before .before .start .ensures) (c .before .add .ensures))
 
 pub fill-spec : {M : Type 1} → statement M
 fill-spec =

@@ -4,11 +4,11 @@ use mathlib.Core.List.{List}
 use lib.ListN.{length, replicate}
 use lib.IntN.{ℤ, pos}
 use borrow.Author.Needs.{needs}
-use Rattle.steps.specs.Limits.{lineLength}
+use Rattle.steps.specs.Sound.{lineLength}
 use Rattle.steps.specs.Settings.{Settings}
 use Rattle.filter.specs.Calls.{settingsOf}
-use Rattle.block.specs.Block.{Block, Memory, Outputs}
-use Rattle.block.specs.Calls.{blockOf, memoryOf, outputsOf, ExponentsOf, BegunOn, ProgressedOn}
+use Rattle.block.specs.Block.{Block, Memory, Outputs, outputsOf}
+use Rattle.block.specs.Calls.{blockOf, memoryOf, ExponentsOf, BegunOn, ProgressedOn}
 use Rattle.block.proofs.RunStart.{startable, symbols-most, exponents-of, window-storable, window-long, window-most, fill-bounds, begun-on}
 use Rattle.block.proofs.RunLaws.{count-room, block-result}
 use Rattle.block.proofs.run.run.Statement.{statement}
@@ -21,7 +21,7 @@ abbrev block : tie.Start → Block
 block s = blockOf (s .args .m .now) (s .args .gains .now) (s .args .entries .now)
 
 abbrev memory : tie.Start → Memory
-memory s = memoryOf (s .args .forward .now) (s .args .back .now) (s .args .samples .now) (s .args .symbols .now) (s .args .psi) (s .args .b) (s .args .big)
+memory s = memoryOf (s .args .forward .now) (s .args .back .now) (s .args .samples .now) (s .args .symbols .now) (s .args .psi) (s .args .b) (s .args .bmax)
 
 abbrev lent : tie.Start → Outputs
 lent s = outputsOf (s .args .y .now) (s .args .xi .now) (s .args .decision .now) (s .args .z .now) (s .args .theta .now)
@@ -114,7 +114,7 @@ returns c =
     let r = c .before .before .before .before .before .before .before .before .before .before .before .before .before .before .before .before .before .before in
     let b = opening (lined r) in
     let s = start b in
-    block-result (progressed r) (window-long (exponents b) (s .pre) (rescaled (lined r) .rescale-all .ensures)) (s .pre .sound .symbols-long) (c .before .before .before .before .before .newest .ensures) (c .before .newest2 .ensures) (exponents b .b-is) (exponents b .big-is)
+    block-result (progressed r) (window-long (exponents b) (s .pre) (rescaled (lined r) .rescale-all .ensures)) (s .pre .sound .symbols-long) (c .before .before .before .before .before .newest .ensures) (c .before .newest2 .ensures) (exponents b .b-is) (exponents b .bmax-is)
 
 pub run-spec : {M : Type 1} → statement M
 run-spec =

@@ -9,12 +9,13 @@ use lib.IntN.{pos}
 use mir.Syntax.{w8, w16, w32}
 use mir.Val.{toZ, ofZ}
 use Rattle.laws.specs.Machine.{kept}
-use Rattle.steps.specs.Limits.{blockLimit, lineLength}
+use Rattle.steps.specs.Limits.{blockLimit}
+use Rattle.steps.specs.Sound.{lineLength}
 use Rattle.steps.specs.Settings.{Settings}
 use Rattle.filter.specs.Calls.{settingsOf}
-use Rattle.block.specs.Block.{Block, Memory, Outputs}
+use Rattle.block.specs.Block.{Block, Memory, Outputs, outputsOf}
 use Rattle.block.specs.Line.{place}
-use Rattle.block.specs.Calls.{outputsOf, BegunOn}
+use Rattle.block.specs.Calls.{BegunOn}
 use Rattle.block.proofs.RunLaws.{Work, Passed, StoredAs, passed-none, forward-long, back-long, finished, advanceable, passed-next, stopped, place-fits, place-within, within, line-place, delay-fits, next-fits, fewer}
 use Rattle.block.proofs.run.run_samples.Statement.{statement}
 use Rattle.block.proofs.run.run_samples.Tie as tie

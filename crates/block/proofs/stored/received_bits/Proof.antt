@@ -8,15 +8,16 @@ use lib.IntN.{ℤ, pos, natAbs}
 use mir.Syntax.{w32}
 use borrow.Author.Needs.{needs}
 use Rattle.laws.specs.Machine.{kept}
-use Rattle.steps.specs.Side.{magnitudes, together}
-use Rattle.steps.proofs.LargestLaws.{together-none, together-next, together-all}
+use Rattle.steps.specs.Fir.{magnitudes}
+use Rattle.steps.specs.Sound.{orAll}
+use Rattle.steps.proofs.LargestLaws.{or-all-none, or-all-next, or-all-all}
 use Rattle.block.specs.Block.{receivedAll}
 use Rattle.block.proofs.ReceivedLaws.{received-length}
 use Rattle.block.proofs.stored.received_bits.Statement.{statement}
 use Rattle.block.proofs.stored.received_bits.Tie as tie
 
 abbrev Inv-loop : tie.InvT-loop
-Inv-loop m gains seen₀ i₀ seen i = seen ≡ together (take i (magnitudes (receivedAll m gains)))
+Inv-loop m gains seen₀ i₀ seen i = seen ≡ orAll (take i (magnitudes (receivedAll m gains)))
 
 abbrev μ-loop : tie.MeasureT-loop
 μ-loop m gains seen₀ i₀ seen i = length m - i
@@ -25,7 +26,7 @@ abbrev samples : tie.Start Inv-loop μ-loop → List ℤ
 samples s = receivedAll (s .args .m .now) (s .args .gains .now)
 
 loop-holds : tie.Need-loop-holds Inv-loop μ-loop
-loop-holds c = sym together-none
+loop-holds c = sym or-all-none
 
 received-at-requires : tie.Need-received-at-requires Inv-loop μ-loop
 received-at-requires c κs = (c .before .before .before .pre, c .loop-test .taken)
@@ -43,13 +44,13 @@ sized c =
 loop-again : tie.Need-loop-again Inv-loop μ-loop
 loop-again c =
     let l = c .before .before .before .loop in
-    together-next (magnitudes (samples (c .before .before .before .before .before))) (l .i) (l .seen) _ (l .inv) (sized c)
+    or-all-next (magnitudes (samples (c .before .before .before .before .before))) (l .i) (l .seen) _ (l .inv) (sized c)
 
 returns : tie.Need-returns Inv-loop μ-loop
 returns c =
     let s = c .before .before .before in
     let l = c .before .loop in
-    together-all (magnitudes (samples s)) (l .i) (l .seen) (omega (arith, c .loop-test .left, length-map (samples s) natAbs, received-length (s .args .m .now) (s .args .gains .now) (s .pre .same-length))) (l .inv)
+    or-all-all (magnitudes (samples s)) (l .i) (l .seen) (omega (arith, c .loop-test .left, length-map (samples s) natAbs, received-length (s .args .m .now) (s .args .gains .now) (s .pre .same-length))) (l .inv)
 
 pub received-bits-spec : {M : Type 1} → statement M
 received-bits-spec =

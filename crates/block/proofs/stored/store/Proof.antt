@@ -18,10 +18,10 @@ use Rattle.block.proofs.stored.store.Statement.{statement}
 use Rattle.block.proofs.stored.store.Tie as tie
 
 abbrev Inv-loop : tie.InvT-loop
-Inv-loop m gains places out₀ up down i₀ out i = Written (storedAll places m gains) out₀ i out
+Inv-loop m gains shift out₀ up down i₀ out i = Written (storedAll shift m gains) out₀ i out
 
 abbrev μ-loop : tie.MeasureT-loop
-μ-loop m gains places out₀ up down i₀ out i = length out₀ - i
+μ-loop m gains shift out₀ up down i₀ out i = length out₀ - i
 
 abbrev samples : tie.Start Inv-loop μ-loop → List ℤ
 samples s = receivedAll (s .args .m .now) (s .args .gains .now)
@@ -49,14 +49,14 @@ shifted-requires c κs =
     let s = start l in
     let x = getD (samples s) (l .loop .i) (pos 0) in
     let f = each-at _ (samples s) (l .loop .i) (pos 0) (s .pre .0 .fitting) (omega (arith, samples-long s, c .before .loop-test .taken)) in
-    rw (l .before .before .difference .ensures, l .before .difference2 .ensures, sample c) (shift-bounds x (s .args .places) (s .pre .0 .places-most) (f .0) (f .1))
+    rw (l .before .before .difference .ensures, l .before .difference2 .ensures, sample c) (shift-bounds x (s .args .shift) (s .pre .0 .shift-most) (f .0) (f .1))
 
 loop-again : tie.Need-loop-again Inv-loop μ-loop
 loop-again c =
     let l = c .before .before .before in
     let s = start l in
     written-next (l .loop .inv) (pos 0) _ (rw length-map (omega (arith, samples-long s))) (omega (arith, c .before .before .loop-test .taken, l .loop .inv .long))
-    (kept w16 (c .shifted .result) (c .shifted .ok) ∙ c .shifted .ensures ∙ shifted-is (s .args .places) (sample (c .before)) (l .before .before .difference .ensures) (l .before .difference2 .ensures)
+    (kept w16 (c .shifted .result) (c .shifted .ok) ∙ c .shifted .ensures ∙ shifted-is (s .args .shift) (sample (c .before)) (l .before .before .difference .ensures) (l .before .difference2 .ensures)
     ∙ sym (map-at _ (samples s) (l .loop .i) (pos 0) (pos 0) (omega (arith, samples-long s, c .before .before .loop-test .taken))))
 
 same-length : tie.Need-same-length Inv-loop μ-loop

@@ -7,7 +7,7 @@ use borrow.Author.Needs.{needs}
 use borrow.Author.Tests.{not-true, not-false}
 use Rattle.laws.specs.Lists.{all}
 use Rattle.steps.specs.Settings.{isSymbol}
-use Rattle.cable_trace.specs.Limits.{sentLimit}
+use Rattle.cable_trace.specs.Calls.{sentLimit}
 use Rattle.cable_trace.specs.Cable.{Cable, lengthCause, sampleCount}
 use Rattle.cable_trace.specs.Answers.{cableOf}
 use Rattle.cable_trace.proofs.CauseLaws.{length-cause-same, lengths-few, length-off, symbols-off, room-off, lists-fit}

@@ -12,13 +12,13 @@ use mir.Facts.{fits-natAbs}
 use borrow.Author.Needs.{needs, sfits-of}
 use Rattle.laws.specs.Machine.{kept}
 use Rattle.laws.specs.Sums.{each-at}
-use Rattle.cable_trace.specs.Calls.{NotNegative, stored}
+use Rattle.cable_trace.specs.Calls.{NotNegative, storedWords}
 use Rattle.cable_trace.proofs.PutLaws.{stored-none, stored-long, stored-next}
 use Rattle.cable_trace.proofs.put.samples.Statement.{statement}
 use Rattle.cable_trace.proofs.put.samples.Tie as tie
 
 abbrev Inv-loop : tie.InvT-loop
-Inv-loop words out₀ i₀ out i = (i ≤ length words) × (out ≡ stored words out₀ i)
+Inv-loop words out₀ i₀ out i = (i ≤ length words) × (out ≡ storedWords words out₀ i)
 
 abbrev μ-loop : tie.MeasureT-loop
 μ-loop words out₀ i₀ out i = length words - i
@@ -66,7 +66,7 @@ returns : tie.Need-returns Inv-loop μ-loop
 returns c =
     let s = c .before .before in
     let all : c .before .loop .i ≡ length (s .args .words .now) = omega (arith, c .loop-test .left, c .before .loop .inv .0) in
-    c .before .loop .inv .1 ∙ ap (stored (s .args .words .now) (s .args .out .now)) all
+    c .before .loop .inv .1 ∙ ap (storedWords (s .args .words .now) (s .args .out .now)) all
 
 pub samples-spec : {M : Type 1} → statement M
 samples-spec =

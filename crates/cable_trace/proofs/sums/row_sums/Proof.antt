@@ -13,7 +13,7 @@ use Rattle.laws.specs.Sums.{dot}
 use Rattle.laws.specs.Tests.{part-is}
 use Rattle.block.proofs.ValuesLaws.{values-length, values-at}
 use Rattle.cable_trace.specs.Limits.{responseLimit}
-use Rattle.cable_trace.specs.Calls.{place, window, row, rowSums}
+use Rattle.cable_trace.specs.Calls.{sentPlace, window, row, rowSums}
 use Rattle.cable_trace.proofs.RowLaws.{row-summable}
 use Rattle.cable_trace.proofs.sums.row_sums.Statement.{statement}
 use Rattle.cable_trace.proofs.sums.row_sums.Tie as tie
@@ -39,14 +39,14 @@ gave c =
     let s = c .before .before .before .before .before in
     let l = c .before .before .before .before .loop in
     kept w32 (c .sum .result) (c .sum .ok) ∙ c .sum .ensures
-    ∙ ap₂ dot (part-is (responseLimit * (l .i % 2)) responseLimit (s .args .taps .now)) (part-is (place (l .i)) responseLimit (s .args .line .now))
+    ∙ ap₂ dot (part-is (responseLimit * (l .i % 2)) responseLimit (s .args .taps .now)) (part-is (sentPlace (l .i)) responseLimit (s .args .line .now))
     ∙ sym (values-at (λ i. dot (row (s .args .taps .now) i) (window (s .args .line .now) responseLimit i)) (pos 0) (length (s .args .out .now)) (l .i) (omega (arith, c .before .before .before .loop-test .taken, l .inv .long)))
 
 sum-requires : tie.Need-sum-requires Inv-loop μ-loop
 sum-requires c κs =
     let s = c .before .before .before .before in
     let i = c .before .before .before .loop .i in
-    rw (part-is (responseLimit * (i % 2)) responseLimit (s .args .taps .now), part-is (place i) responseLimit (s .args .line .now))
+    rw (part-is (responseLimit * (i % 2)) responseLimit (s .args .taps .now), part-is (sentPlace i) responseLimit (s .args .line .now))
     (row-summable (s .args .taps .now) (s .args .line .now) _ i (s .pre))
 
 loop-again : tie.Need-loop-again Inv-loop μ-loop

@@ -8,8 +8,7 @@ use mir.Syntax.{w16}
 use borrow.Author.Needs.{needs}
 use Rattle.laws.specs.Lists.{Written, written-none, written-next, written-all}
 use Rattle.laws.specs.Machine.{kept}
-use Rattle.cable_trace.specs.Limits.{tapsLength}
-use Rattle.cable_trace.specs.Calls.{twice}
+use Rattle.cable_trace.specs.Calls.{tapsLength, twice}
 use Rattle.cable_trace.proofs.RowLaws.{twice-long, twice-at}
 use Rattle.cable_trace.proofs.sums.twice.Statement.{statement}
 use Rattle.cable_trace.proofs.sums.twice.Tie as tie

@@ -14,4 +14,4 @@ returns-2 : tie.Need-returns-2
 returns-2 c = simp (lt-leb (c .before .args .e - floatOffset) (c .before .args .r) (omega (arith, c .if1 .left))) (omega (arith, c .if1 .left))
 
 pub gain-spec : {M : Type 1} → statement M
-gain-spec = tie.close (tie.spec (λ c. search needs) (λ c. search needs) (λ c. search needs) (λ c. search needs) returns returns-2)
+gain-spec = tie.close (tie.spec (λ c. search needs) (λ c. search needs) (λ c. search needs) (λ c. search needs) (λ c. search needs) returns returns-2)

@@ -5,18 +5,17 @@ use borrow.Author.Needs.{needs}
 use borrow.Author.Tests.{not-true, not-false}
 use Rattle.laws.specs.Lists.{all}
 use Rattle.state.specs.State.{settings}
-use Rattle.checks.specs.Checks.{Lent, lengthsFit, gainFits}
+use Rattle.checks.specs.Checks.{Buffers, lengthsFit, gainFits, buffersOf}
 use Rattle.state.specs.Answers.{examined}
-use Rattle.checks.specs.Calls.{lentOf}
 use Rattle.state.proofs.SizesLaws.{fit-within}
 use Rattle.state.proofs.SoundLaws.{examined-tests}
 use Rattle.checks.proofs.CheckLaws.{state-fails, lengths-fail, gains-fail, entries-fail, checks-pass}
 use Rattle.checks.proofs.lists.checked.Statement.{statement}
 use Rattle.checks.proofs.lists.checked.Tie as tie
 
-abbrev lent : tie.Start → Lent
+abbrev lent : tie.Start → Buffers
 lent c =
-    lentOf (c .args .m .now) (c .args .gains .now) (c .args .entries .now) (c .args .y .now) (c .args .xi .now) (c .args .decision .now) (c .args .z .now) (c .args .theta .now)
+    buffersOf (c .args .m .now) (c .args .gains .now) (c .args .entries .now) (c .args .y .now) (c .args .xi .now) (c .args .decision .now) (c .args .z .now) (c .args .theta .now)
 
 abbrev start : tie.After-examined → tie.Start
 start c = c .before .before .before .before

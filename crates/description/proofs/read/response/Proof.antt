@@ -11,14 +11,14 @@ use borrow.Author.Needs.{needs}
 use Rattle.laws.specs.Machine.{kept}
 use Rattle.laws.specs.Lists.{Written, written-none}
 use Rattle.block.specs.Block.{values}
-use Rattle.trace_text.specs.Trace.{number16}
+use Rattle.trace_text.specs.Trace.{unsigned16}
 use Rattle.trace_text.proofs.ReadLaws.{values-written, values-all}
-use Rattle.description.specs.Description.{headerLength}
+use Rattle.description.specs.Description.{descriptionHeaderLength}
 use Rattle.description.proofs.read.response.Statement.{statement}
 use Rattle.description.proofs.read.response.Tie as tie
 
 abbrev value : List ℕ → ℕ → ℤ
-value t i = toZ w16 (number16 t (headerLength + 2 * i))
+value t i = toZ w16 (unsigned16 t (descriptionHeaderLength + 2 * i))
 
 abbrev Inv-loop : tie.InvT-loop
 Inv-loop t out₀ i₀ out i = Written (values (value t) (length out₀)) out₀ i out
@@ -28,7 +28,7 @@ abbrev μ-loop : tie.MeasureT-loop
 
 -- a turn is inside both lists
 inside : (c : tie.In-loop Inv-loop μ-loop) → let a = c .before .before .before .args in
-    (c .before .loop .i < length (a .out .now)) × (headerLength + 2 * c .before .loop .i + 1 < length (a .t .now))
+    (c .before .loop .i < length (a .out .now)) × (descriptionHeaderLength + 2 * c .before .loop .i + 1 < length (a .t .now))
 inside c =
     let s = c .before .before .before in
     let below : c .before .loop .i < length (s .args .out .now) = omega (arith, c .loop-test .taken, c .before .loop .inv .long) in

@@ -11,7 +11,7 @@ use borrow.Author.Needs.{needs}
 use Rattle.laws.specs.Machine.{kept}
 use Rattle.laws.specs.Lists.{Written, written-none}
 use Rattle.block.specs.Block.{values}
-use Rattle.trace_text.specs.Trace.{byteAt}
+use Rattle.image.specs.Load.{byteAt}
 use Rattle.trace_text.proofs.ReadLaws.{values-written, values-all}
 use Rattle.description.proofs.read.symbols.Statement.{statement}
 use Rattle.description.proofs.read.symbols.Tie as tie

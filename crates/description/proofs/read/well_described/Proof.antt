@@ -8,7 +8,7 @@ use lib.Dec.{eqb}
 use lib.ListN.{length, getD}
 use borrow.Author.Needs.{needs}
 use borrow.Author.Tests.{eq-eqb, ne-eqb}
-use Rattle.description.specs.Description.{headerLength, wellDescribed}
+use Rattle.description.specs.Description.{descriptionHeaderLength, wellDescribed}
 use Rattle.description.proofs.ReadLaws.{well-short, well-large, well-tested}
 use Rattle.description.proofs.read.well_described.Statement.{statement}
 use Rattle.description.proofs.read.well_described.Tie as tie
@@ -21,13 +21,13 @@ bytes c = c .before .before .before .before .args .t .now
 
 -- whether the length is that of the counts in the header
 abbrev right : tie.After-symbol-count → Bool
-right c = eqb (length (bytes (counted c))) (headerLength + 2 * counted c .response-count .result + c .symbol-count .result)
+right c = eqb (length (bytes (counted c))) (descriptionHeaderLength + 2 * counted c .response-count .result + c .symbol-count .result)
 
 tested : (c : tie.After-symbol-count) → wellDescribed (bytes (counted c)) ≡ (right c && eqb (getD (bytes (counted c)) 5 0) 0)
 tested c =
     let t = bytes (counted c) in
     well-tested t (counted c .before .before .if1 .left) (counted c .before .if2 .left)
-    ∙ ap₂ (λ (k n : ℕ). eqb (length t) (headerLength + 2 * k + n) && eqb (getD t 5 0) 0) (sym (counted c .response-count .ensures)) (sym (c .symbol-count .ensures))
+    ∙ ap₂ (λ (k n : ℕ). eqb (length t) (descriptionHeaderLength + 2 * k + n) && eqb (getD t 5 0) 0) (sym (counted c .response-count .ensures)) (sym (c .symbol-count .ensures))
 
 mul-if3 : tie.Need-mul-if3
 mul-if3 c = let k = c .before .before .before .shared-slice-known .given in record { fits = omega (arith, c .response-count .ensures, k 6, k 7) }

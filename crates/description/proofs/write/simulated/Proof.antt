@@ -4,7 +4,7 @@ use Prim.Native.Nat.{_≤_}
 use native.Mathlib.Omega.{arith}
 use lib.ListN.{length}
 use borrow.Author.Needs.{needs}
-use Rattle.description.specs.Description.{headerLength}
+use Rattle.description.specs.Description.{descriptionHeaderLength}
 use Rattle.description.proofs.ReadLaws.{well-long, well-most}
 use Rattle.description.proofs.WriteLaws.{from-zero, cable-in, simulation-same}
 use Rattle.description.proofs.write.simulated.Statement.{statement}
@@ -21,7 +21,7 @@ listed c = c .before .before
 abbrev start : tie.After-symbols → tie.Start
 start c = c .before .before .before .before .before .before
 
-long : (s : tie.Start) → headerLength ≤ length (s .args .t .now)
+long : (s : tie.Start) → descriptionHeaderLength ≤ length (s .args .t .now)
 long s = omega (arith, well-long _ (s .pre))
 
 response-count-requires : tie.Need-response-count-requires

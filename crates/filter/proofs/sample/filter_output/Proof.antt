@@ -6,14 +6,14 @@ use mir.Syntax.{w32}
 use mir.Val.{toZ, ofZ}
 use Rattle.laws.specs.Machine.{kept}
 use Rattle.laws.specs.Sums.{dot}
-use Rattle.steps.specs.Side.{longest}
+use Rattle.steps.specs.Fir.{largestBits}
 use Rattle.filter.proofs.sample.filter_output.Statement.{statement}
 use Rattle.filter.proofs.sample.filter_output.Tie as tie
 
 reach-requires : tie.Need-reach-requires
 reach-requires c κs = c .pre .1
 
-nu-is : (c : tie.After-reach) → c .before .args .sb + c .reach .result ≡ c .before .args .sb + longest (c .before .args .symbols .now)
+nu-is : (c : tie.After-reach) → c .before .args .sb + c .reach .result ≡ c .before .args .sb + largestBits (c .before .args .symbols .now)
 nu-is c = ap (λ (n : ℕ). c .before .args .sb + n) (c .reach .ensures)
 
 add-nu : tie.Need-add-nu

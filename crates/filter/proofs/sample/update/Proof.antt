@@ -1,4 +1,4 @@
--- J is within 32 bits, and what it is raised by is what is left of 15 places.
+-- J is within 32 bits, and what it is raised by is what is left of 15 bits.
 use mathlib.Core.Path.{_≡_, ap₂, _∙_}
 use Prim.Native.Nat.{ℕ, _+_, _-_, _≤_}
 use native.Mathlib.Omega.{arith}
@@ -9,7 +9,7 @@ use mir.Facts.{toZ-ofZ}
 use borrow.Author.Needs.{needs}
 use Rattle.laws.specs.Machine.{kept, fits-abs}
 use Rattle.numbers.specs.Cut.{raise}
-use Rattle.steps.specs.Side.{adapt}
+use Rattle.steps.specs.Fir.{adapt}
 use Rattle.filter.specs.Calls.{factorOf}
 use Rattle.filter.proofs.sample.update.Statement.{statement}
 use Rattle.filter.proofs.sample.update.Tie as tie

@@ -11,22 +11,22 @@ use Rattle.laws.specs.Machine.{upper}
 use Rattle.image.proofs.bytes.signed16.Statement.{statement}
 use Rattle.image.proofs.bytes.signed16.Tie as tie
 
-small : (c : tie.After-number16) → c .number16 .result < 2 ^ 16
-small c = omega (arith, c .number16 .ensures)
+small : (c : tie.After-unsigned16) → c .unsigned16 .result < 2 ^ 16
+small c = omega (arith, c .unsigned16 .ensures)
 
-turned : (c : tie.Else1) → negsuc 0 -ℤ toZ w16 (65535 - c .before .number16 .result) ≡ toZ w16 (c .before .number16 .result)
+turned : (c : tie.Else1) → negsuc 0 -ℤ toZ w16 (65535 - c .before .unsigned16 .result) ≡ toZ w16 (c .before .unsigned16 .result)
 turned c =
-    let n = c .before .number16 .result in
+    let n = c .before .unsigned16 .result in
     upper w16 n (65535 - n) (omega (arith, small (c .before))) (omega (arith, small (c .before)))
 
 sub-result-2 : tie.Need-sub-result-2
 sub-result-2 c = rw (turned c) (sfits-toZ (record { fits = small (c .before) }))
 
 returns : tie.Need-returns
-returns c = ap (toZ w16) (c .before .number16 .ensures)
+returns c = ap (toZ w16) (c .before .unsigned16 .ensures)
 
 returns-2 : tie.Need-returns-2
-returns-2 c = toZ-ofZ (sub-result-2 c) ∙ turned c ∙ ap (toZ w16) (c .before .number16 .ensures)
+returns-2 c = toZ-ofZ (sub-result-2 c) ∙ turned c ∙ ap (toZ w16) (c .before .unsigned16 .ensures)
 
 pub signed16-spec : {M : Type 1} → statement M
 signed16-spec =

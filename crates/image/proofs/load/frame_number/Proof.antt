@@ -7,7 +7,7 @@ use lib.ListN.{length}
 use borrow.Author.Needs.{needs}
 use borrow.Author.Tests.{not-true, not-false}
 use Rattle.state.specs.Sizes.{sizesFit, given}
-use Rattle.image.specs.Image.{headerLength}
+use Rattle.image.specs.Image.{imageHeaderLength}
 use Rattle.image.specs.Load.{byteAt, tapsIn}
 use Rattle.image.proofs.FrameLaws.{frame-short, frame-sizes, frame-exact, frame-other}
 use Rattle.image.proofs.load.frame_number.Statement.{statement}
@@ -19,7 +19,7 @@ start c = c .before .before .before .before .before .before .before .before
 abbrev bytes : tie.After-sizes-fit → List ℕ
 bytes c = start c .args .bytes .now
 
-long : (c : tie.After-sizes-fit) → headerLength ≤ length (bytes c)
+long : (c : tie.After-sizes-fit) → imageHeaderLength ≤ length (bytes c)
 long c = c .before .before .before .before .before .before .if1 .left
 
 fitting : (c : tie.After-sizes-fit) →

@@ -9,7 +9,7 @@ returns : tie.Need-returns
 returns c =
     let w = c .before .before .before .before .before .before .before .before .before .before .before .before .before in
     let s = w .before .before .before .before .before .before .before in
-    state-made (s .args .bytes .now) (omega arith) (c .number32 .result) (w .before .before .words-in .result) (w .words-in2 .result) (c .number32 .ensures) (w .before .before .words-in .ensures)
+    state-made (s .args .bytes .now) (omega arith) (c .unsigned32 .result) (w .before .before .words-in .result) (w .words-in2 .result) (c .unsigned32 .ensures) (w .before .before .words-in .ensures)
     (w .words-in2 .ensures)
 
 pub state-in-spec : {M : Type 1} → statement M

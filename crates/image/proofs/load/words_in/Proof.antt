@@ -1,4 +1,4 @@
--- One word a turn, into the next of the places.
+-- One word a turn, into the next of the slots.
 use mathlib.Core.Path.{_∙_}
 use Prim.Native.Nat.{_-_}
 use native.Mathlib.Omega.{arith}

@@ -6,10 +6,10 @@ use mathlib.Core.List.{_++_}
 use lib.ListN.{length, take, drop}
 use lib.Seq.{length-take-le, length-front}
 use borrow.Rule.Slice.PartMut.{putMid, mid-len, same-len-mid}
-use Rattle.steps.specs.Limits.{places}
+use Rattle.steps.specs.Limits.{slots}
 use Rattle.state.specs.State.{taps}
 use Rattle.state.specs.Answers.{examined}
-use Rattle.image.specs.Image.{headerLength, dataPlace, endPlace, imageLength}
+use Rattle.image.specs.Image.{imageHeaderLength, dataPlace, endPlace, imageLength}
 use Rattle.image.proofs.ImageLaws.{taps-most, image-put, save-refused, save-short, save-done}
 use borrow.Author.Needs.{needs}
 use Rattle.image.proofs.save.save.Statement.{statement}
@@ -35,13 +35,13 @@ start c = c .before .before .before .before .before .before
 sound : (c : tie.After-struct-known2) → examined (c .before .before .before .before .before .args .e) ≡ 0
 sound c = sym (c .before .before .before .examined .ensures) ∙ c .before .before .if1 .left
 
-weights-long : (c : tie.After-past) → length (start (long-enough c) .args .e .weights) ≡ places
+weights-long : (c : tie.After-past) → length (start (long-enough c) .args .e .weights) ≡ slots
 weights-long c = search needs
 
-past-long : (c : tie.After-past) → length (start (long-enough c) .args .e .past) ≡ places
+past-long : (c : tie.After-past) → length (start (long-enough c) .args .e .past) ≡ slots
 past-long c = search needs
 
-taps-within : (c : tie.Else2) → taps (start c .args .e) ≤ places
+taps-within : (c : tie.Else2) → taps (start c .args .e) ≤ slots
 taps-within c = taps-most (start c .args .e) (sound (c .before))
 
 -- the image fits the buffer
@@ -62,8 +62,8 @@ past-taken c = let e = start (long-enough c) .args .e in length-take-le (taps e)
 
 -- the buffer is as long when a part is back
 headed-long : (c : tie.After-put-header) → let b = start (long-enough (lent c)) .args .buffer .now in
-    length (c .put-header .last .1 .0 ++ drop headerLength b) ≡ length b
-headed-long c = length-front (start (long-enough (lent c)) .args .buffer .now) (c .put-header .last .1 .0) headerLength (c .put-header .kept .1 .0)
+    length (c .put-header .last .1 .0 ++ drop imageHeaderLength b) ≡ length b
+headed-long c = length-front (start (long-enough (lent c)) .args .buffer .now) (c .put-header .last .1 .0) imageHeaderLength (c .put-header .kept .1 .0)
 
 -- ---- the needs
 
@@ -77,11 +77,11 @@ returns-2 c =
 
 slice-aggregate-put-header : tie.Need-slice-aggregate-put-header
 slice-aggregate-put-header c =
-    sym (length-take-le headerLength (start (long-enough (c .before)) .args .buffer .now) (omega (arith, room (long-enough (c .before)))))
+    sym (length-take-le imageHeaderLength (start (long-enough (c .before)) .args .buffer .now) (omega (arith, room (long-enough (c .before)))))
 
 put-header-requires : tie.Need-put-header-requires
 put-header-requires c κs =
-    length-take-le headerLength (start (long-enough (c .before)) .args .buffer .now) (omega (arith, room (long-enough (c .before))))
+    length-take-le imageHeaderLength (start (long-enough (c .before)) .args .buffer .now) (omega (arith, room (long-enough (c .before))))
 
 array-share-prefix-weights : tie.Need-array-share-prefix-weights
 array-share-prefix-weights c = weights-within (lent (c .before .before))
@@ -93,7 +93,7 @@ put-words-requires : tie.Need-put-words-requires
 put-words-requires c κs =
     let h = c .before .before .before .before in
     let s = start (long-enough (lent h)) in
-    mid-len headerLength (dataPlace (taps (s .args .e))) (h .put-header .last .1 .0 ++ drop headerLength (s .args .buffer .now)) (omega (arith, headed-long h, room (long-enough (lent h))))
+    mid-len imageHeaderLength (dataPlace (taps (s .args .e))) (h .put-header .last .1 .0 ++ drop imageHeaderLength (s .args .buffer .now)) (omega (arith, headed-long h, room (long-enough (lent h))))
     ∙ omega (arith, weights-taken (lent h))
 
 array-share-prefix-past : tie.Need-array-share-prefix-past
@@ -108,9 +108,9 @@ put-words-requires-2 c κs =
     let h = headed w in
     let s = start (long-enough (lent h)) in
     let t = taps (s .args .e) in
-    let b = h .put-header .last .1 .0 ++ drop headerLength (s .args .buffer .now) in
-    mid-len (dataPlace t) (endPlace t) (putMid headerLength (dataPlace t - headerLength) b (w .put-words .last .1 .0))
-    (omega (arith, same-len-mid headerLength (dataPlace t - headerLength) b (w .put-words .last .1 .0) (w .put-words .kept .1 .0), headed-long h, room (long-enough (lent h))))
+    let b = h .put-header .last .1 .0 ++ drop imageHeaderLength (s .args .buffer .now) in
+    mid-len (dataPlace t) (endPlace t) (putMid imageHeaderLength (dataPlace t - imageHeaderLength) b (w .put-words .last .1 .0))
+    (omega (arith, same-len-mid imageHeaderLength (dataPlace t - imageHeaderLength) b (w .put-words .last .1 .0) (w .put-words .kept .1 .0), headed-long h, room (long-enough (lent h))))
     ∙ omega (arith, past-taken (lent h))
 
 returns-3 : tie.Need-returns-3

@@ -10,7 +10,7 @@ use mir.Syntax.{w32}
 use borrow.Author.Needs.{needs}
 use Rattle.laws.specs.Lists.{Tested, tested-none, tested-next, tested-all}
 use Rattle.laws.specs.Machine.{kept}
-use Rattle.steps.specs.Side.{isBelow}
+use Rattle.steps.specs.Fir.{isBelow}
 use Rattle.readings.specs.Limits.{outputLimit, errorLimit}
 use Rattle.readings.proofs.check.mantissas_fit.Statement.{statement}
 use Rattle.readings.proofs.check.mantissas_fit.Tie as tie

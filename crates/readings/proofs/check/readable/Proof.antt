@@ -4,10 +4,10 @@ use mathlib.Core.Bool.{true, _&&_}
 use borrow.Author.Needs.{needs}
 use borrow.Author.Tests.{not-true, not-false}
 use Rattle.laws.specs.Lists.{all}
-use Rattle.steps.specs.Side.{allBelow}
+use Rattle.steps.specs.Fir.{allBelow}
 use Rattle.readings.specs.Limits.{outputLimit, errorLimit}
-use Rattle.readings.specs.Readings.{Lists, exponentFits, lengthsFit}
-use Rattle.readings.specs.Calls.{listsOf, Long}
+use Rattle.readings.specs.Readings.{Lists, exponentFits, lengthsReadable, listsOf}
+use Rattle.readings.specs.Calls.{Long}
 use Rattle.readings.proofs.ReadableLaws.{lengths-say, readable-short, readable-long, reordered}
 use Rattle.readings.proofs.check.readable.Statement.{statement}
 use Rattle.readings.proofs.check.readable.Tie as tie
@@ -15,8 +15,8 @@ use Rattle.readings.proofs.check.readable.Tie as tie
 abbrev lists : tie.Start → Lists
 lists c = listsOf (c .args .y .now) (c .args .xi .now) (c .args .z .now) (c .args .theta .now)
 
-long : (c : tie.Else1) → let s = c .before .before .before .before in lengthsFit (lists s) (s .args .n) ≡ true
-long c = sym (c .before .lengths-fit .ensures) ∙ not-false _ (c .if1 .left)
+long : (c : tie.Else1) → let s = c .before .before .before .before in lengthsReadable (lists s) (s .args .n) ≡ true
+long c = sym (c .before .lengths-readable .ensures) ∙ not-false _ (c .if1 .left)
 
 lengths : (c : tie.Else1) → let s = c .before .before .before .before in Long (lists s) (s .args .n)
 lengths c = let s = c .before .before .before .before in lengths-say (lists s) (s .args .n) (long c)
@@ -24,7 +24,7 @@ lengths c = let s = c .before .before .before .before in lengths-say (lists s) (
 returns : tie.Need-returns
 returns c =
     let s = c .before .before .before .before in
-    sym (readable-short (lists s) (s .args .n) (sym (c .before .lengths-fit .ensures) ∙ not-true _ (c .if1 .taken)))
+    sym (readable-short (lists s) (s .args .n) (sym (c .before .lengths-readable .ensures) ∙ not-true _ (c .if1 .taken)))
 
 mantissas-fit-requires : tie.Need-mantissas-fit-requires
 mantissas-fit-requires c κs = let n = lengths c in n .z-long ∙ sym (n .y-long)

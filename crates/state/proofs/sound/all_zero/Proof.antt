@@ -7,11 +7,11 @@ use Rattle.state.proofs.ElementTests.{zeros-pass}
 use Rattle.state.proofs.sound.all_zero.Statement.{statement}
 use Rattle.state.proofs.sound.all_zero.Tie as tie
 
-longest-requires : tie.Need-longest-requires
-longest-requires c κs = search needs
+largest-bits-requires : tie.Need-largest-bits-requires
+largest-bits-requires c κs = search needs
 
 returns : tie.Need-returns
-returns c = ap (λ (n : ℕ). eqb n 0) (c .longest .ensures) ∙ zeros-pass (c .before .args .xs .now)
+returns c = ap (λ (n : ℕ). eqb n 0) (c .largest-bits .ensures) ∙ zeros-pass (c .before .args .xs .now)
 
 pub all-zero-spec : {M : Type 1} → statement M
-all-zero-spec = tie.close (tie.spec longest-requires returns)
+all-zero-spec = tie.close (tie.spec largest-bits-requires returns)

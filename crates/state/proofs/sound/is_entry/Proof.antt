@@ -10,7 +10,7 @@ use mir.Facts.{toZ-ofZ}
 use borrow.Author.Needs.{needs}
 use Rattle.laws.specs.Machine.{abs-fits, one-shifted}
 use Rattle.laws.specs.Powers.{positive}
-use Rattle.steps.proofs.SideLaws.{fits-64}
+use Rattle.steps.proofs.FirLaws.{fits-64}
 use Rattle.state.proofs.sound.is_entry.Statement.{statement}
 use Rattle.state.proofs.sound.is_entry.Tie as tie
 

@@ -10,13 +10,13 @@ use borrow.Author.Needs.{needs, sfits-of}
 use Rattle.laws.specs.Lists.{all}
 use Rattle.laws.specs.Tests.{zero-test, front-is, part-is, rest-is}
 use Rattle.numbers.proofs.ScaleCountLaws.{scale-least}
-use Rattle.steps.specs.Limits.{places, scaleLimit}
+use Rattle.steps.specs.Limits.{slots, scaleLimit}
 use Rattle.steps.specs.Settings.{isEntry, scaleForward}
 use Rattle.state.specs.State.{settings, taps, samples, filler, isZero, isStored}
 use Rattle.state.proofs.sound.sound_past.Statement.{statement}
 use Rattle.state.proofs.sound.sound_past.Tie as tie
 
-long : (c : tie.Start) → length (c .args .e .past) ≡ places
+long : (c : tie.Start) → length (c .args .e .past) ≡ slots
 long c = search needs
 
 abbrev start : tie.After-scale-count → tie.Start
@@ -24,11 +24,11 @@ start c = c .before .before .before .before
 
 stored : (c : tie.After-all-stored) →
     let e = start (c .before .before .before) .args .e in
-    c .all-stored .result ≡ all (isStored (scaleForward (settings e)) (e .b) (e .big)) (samples e)
+    c .all-stored .result ≡ all (isStored (scaleForward (settings e)) (e .b) (e .bmax)) (samples e)
 stored c =
     let e = start (c .before .before .before) .args .e in
     c .all-stored .ensures
-    ∙ ap₂ (λ (s : ℕ) (l : List ℤ). all (isStored s (e .b) (e .big)) l) (c .before .before .before .scale-count .ensures) (front-is (e .p - 1) (e .past))
+    ∙ ap₂ (λ (s : ℕ) (l : List ℤ). all (isStored s (e .b) (e .bmax)) l) (c .before .before .before .scale-count .ensures) (front-is (e .p - 1) (e .past))
 
 part-all-stored-end : tie.Need-part-all-stored-end
 part-all-stored-end c = omega (arith, long (c .before .before .before .before .before))
@@ -51,7 +51,7 @@ returns c =
     ap₂ (λ (a b : Bool). a && b)
     (ap₂ (λ (a b : Bool). a && b) (ap₂ (λ (a b : Bool). a && b) (stored a) (zero-test {z = filler e} (sfits-of (x .before .before .before .before .result .given))))
     (x .all-symbols .ensures ∙ ap (all (isEntry (e .r))) (part-is (e .p) (e .q) (e .past))))
-    (c .all-zero .ensures ∙ ap (all isZero) (rest-is (taps e) places (e .past) (long t)))
+    (c .all-zero .ensures ∙ ap (all isZero) (rest-is (taps e) slots (e .past) (long t)))
 
 pub sound-past-spec : {M : Type 1} → statement M
 sound-past-spec =

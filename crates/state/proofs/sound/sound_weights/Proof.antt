@@ -6,13 +6,13 @@ use lib.ListN.{length}
 use borrow.Author.Needs.{needs}
 use Rattle.laws.specs.Lists.{all}
 use Rattle.laws.specs.Tests.{front-is, rest-is}
-use Rattle.steps.specs.Limits.{places}
-use Rattle.steps.specs.Side.{allSmall}
+use Rattle.steps.specs.Limits.{slots}
+use Rattle.steps.specs.Fir.{allSmall}
 use Rattle.state.specs.State.{taps, isZero}
 use Rattle.state.proofs.sound.sound_weights.Statement.{statement}
 use Rattle.state.proofs.sound.sound_weights.Tie as tie
 
-long : (c : tie.Start) → length (c .args .e .weights) ≡ places
+long : (c : tie.Start) → length (c .args .e .weights) ≡ slots
 long c = search needs
 
 part-all-small-end : tie.Need-part-all-small-end
@@ -27,7 +27,7 @@ returns c =
     let t = a .before .before .before .before .before .before in
     let e = t .args .e in
     ap₂ (λ (a b : Bool). a && b) (a .all-small .ensures ∙ ap allSmall (front-is (taps e) (e .weights)))
-    (c .all-zero .ensures ∙ ap (all isZero) (rest-is (taps e) places (e .weights) (long t)))
+    (c .all-zero .ensures ∙ ap (all isZero) (rest-is (taps e) slots (e .weights) (long t)))
 
 pub sound-weights-spec : {M : Type 1} → statement M
 sound-weights-spec =

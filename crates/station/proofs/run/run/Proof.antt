@@ -5,17 +5,17 @@ use Prim.Native.Nat.{ℕ, _-_, _≤_}
 use lib.ListN.{length, take, replicate}
 use lib.IntN.{ℤ, pos}
 use borrow.Author.Needs.{needs}
-use Rattle.steps.specs.Limits.{blockLimit, places}
-use Rattle.block.specs.Block.{Outputs}
-use Rattle.block.specs.Calls.{outputsOf, OutputsLong}
-use Rattle.block.proofs.BlockLeft.{same-outputs}
+use Rattle.steps.specs.Limits.{blockLimit, slots}
+use Rattle.block.specs.Block.{Outputs, outputsOf}
+use Rattle.block.specs.Calls.{OutputsLong}
+use Rattle.block.proofs.BlockMemory.{same-outputs}
 use Rattle.state.specs.State.{settings}
 use Rattle.state.specs.declared.equaliser.Equaliser.{Equaliser}
-use Rattle.checks.specs.Checks.{Lent, block, checkNumber}
-use Rattle.checks.specs.Calls.{lentOf, Checked}
+use Rattle.checks.specs.Checks.{Buffers, block, checkNumber, buffersOf}
+use Rattle.checks.specs.Calls.{Checked}
 use Rattle.checks.proofs.CheckLaws.{Long, long, checked-is}
-use Rattle.station.specs.Answers.{lentOutputs}
-use Rattle.station.proofs.RunLaws.{area-long, area-room, area-back, area-copied, handed-none, handed-new}
+use Rattle.station.specs.Answers.{outputsBefore}
+use Rattle.station.proofs.RunLaws.{area-long, area-room, area-back, area-copied, block-none, block-new}
 use Rattle.station.proofs.AnswerLaws.{check-fails, refused, answered}
 use Rattle.station.proofs.run.run.Statement.{statement}
 use Rattle.station.proofs.run.run.Tie as tie
@@ -27,9 +27,9 @@ area n x = take (n - 0) (replicate blockLimit x)
 abbrev state : tie.Start → Equaliser
 state c = c .args .e
 
-abbrev lent : tie.Start → Lent
+abbrev lent : tie.Start → Buffers
 lent c =
-    lentOf (c .args .m .now) (c .args .gains .now) (c .args .entries .now) (c .args .y .now) (c .args .xi .now) (c .args .decision .now) (c .args .z .now) (c .args .theta .now)
+    buffersOf (c .args .m .now) (c .args .gains .now) (c .args .entries .now) (c .args .y .now) (c .args .xi .now) (c .args .decision .now) (c .args .z .now) (c .args .theta .now)
 
 abbrev start : tie.After-checked → tie.Start
 start c = c .before .before .before .before .before .before .before .before .before
@@ -39,10 +39,10 @@ passed c = start (c .before)
 
 -- ---- the checks
 
-weights-long : (c : tie.Start) → length (state c .weights) ≡ places
+weights-long : (c : tie.Start) → length (state c .weights) ≡ slots
 weights-long c = search needs
 
-past-long : (c : tie.Start) → length (state c .past) ≡ places
+past-long : (c : tie.Start) → length (state c .past) ≡ slots
 past-long c = search needs
 
 number : (c : tie.Else1) → checkNumber (state (passed c)) (lent (passed c)) ≡ 0
@@ -74,7 +74,7 @@ abbrev going : tie.After-run-checked → tie.After-sixteen-bits
 going c = c .before .before .before .before .before .before .before
 
 abbrev given : tie.After-run-checked → Outputs
-given c = lentOutputs (lent (passed (going c .before)))
+given c = outputsBefore (lent (passed (going c .before)))
 
 abbrev y-out : tie.After-run-checked → List ℤ
 y-out c = c .run-checked .last .1 .1 .1 .1 .0
@@ -146,7 +146,7 @@ returns-2 : tie.Need-returns-2
 returns-2 c =
     let r = c .before .before .before .before .before .before .before in
     let k = going r .before in
-    answered _ (lent (passed k)) (number k) (r .run-checked .ensures) (handed-none (r .run-checked .ensures) (given r) (c .if2 .taken))
+    answered _ (lent (passed k)) (number k) (r .run-checked .ensures) (block-none (r .run-checked .ensures) (given r) (c .if2 .taken))
 
 part-copy32-end : tie.Need-part-copy32-end
 part-copy32-end c = let r = c .before .before .before .before .before .before .before .before in area-room (y-out r) _ (y-long r)
@@ -193,7 +193,7 @@ returns-3 c =
     (d .copy8 .ensures ∙ area-back (decision-out r) _ (decision-long r))
     (z .copy322 .ensures ∙ area-back (z-out r) _ (z-long r))
     (c .before .before .copy-bytes2 .ensures ∙ area-back (theta-out r) _ (theta-long r))
-    ∙ handed-new (r .run-checked .ensures) (given r) (y .before .before .before .before .if2 .left) (areas-long (going r)))
+    ∙ block-new (r .run-checked .ensures) (given r) (y .before .before .before .before .if2 .left) (areas-long (going r)))
 
 pub run-spec : {M : Type 1} → statement M
 run-spec =

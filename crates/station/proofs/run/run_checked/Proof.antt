@@ -44,7 +44,7 @@ window-copy c = let s = third c in copied-part _ (state s .p) (first-part (state
 symbols-copy : (c : tie.After-fronted4) → let e = state (fourth c) in take (e .q - 0) (c .fronted4 .result) ≡ symbols e
 symbols-copy c = let s = fourth c in let e = state s in copied-part _ (e .q) (middle-part (e .p) (e .q) (e .past)) (c .fronted4 .ensures) (sound s .symbols-long)
 
--- each has TAPS places
+-- each has TAPS slots
 forward-long : (c : tie.After-fronted) → length (c .fronted .result) ≡ tapLimit
 forward-long c = search needs
 

@@ -6,9 +6,9 @@ use native.Mathlib.Omega.{arith}
 use lib.ListN.{length, length-set}
 use lib.IntN.{ℤ, pos}
 use borrow.Author.Needs.{needs}
-use Rattle.steps.specs.Limits.{places}
-use Rattle.block.specs.Block.{Block, Outputs}
-use Rattle.block.specs.Calls.{blockOf, outputsOf, BlockResult-is}
+use Rattle.steps.specs.Limits.{slots}
+use Rattle.block.specs.Block.{Block, Outputs, outputsOf}
+use Rattle.block.specs.Calls.{blockOf, BlockResult-is}
 use Rattle.state.specs.State.{settings, memory}
 use Rattle.state.specs.declared.equaliser.Equaliser.{Equaliser}
 use Rattle.station.proofs.RunLaws as R
@@ -57,13 +57,13 @@ result-is c = R.result-is (start c .pre) (c .before .before .before .before .bef
 window-long : (c : tie.After-run) → length (window c) ≡ state (start c) .p
 window-long c = c .run .kept .1 .1 .1 .1 .1 .1 .1 .1 .1 .0 ∙ R.long (start c .pre) .window-long
 
-weights-room : (c : tie.After-run) → length (ahead c) + length (behind c) ≤ places
+weights-room : (c : tie.After-run) → length (ahead c) + length (behind c) ≤ slots
 weights-room c =
     let l = R.long (start c .pre) in
     let w = start c .pre .checked .sound .within in
     omega (arith, c .run .kept .1 .1 .1 .1 .1 .1 .1 .0, c .run .kept .1 .1 .1 .1 .1 .1 .1 .1 .0, l .forward-long, l .back-long, w .p-most, w .q-most)
 
-past-room : (c : tie.After-run) (n : ℕ) → n ≡ length (window c) → n + length (recent c) ≤ places
+past-room : (c : tie.After-run) (n : ℕ) → n ≡ length (window c) → n + length (recent c) ≤ slots
 past-room c n e =
     let w = start c .pre .checked .sound .within in
     omega (arith, window-long c, c .run .kept .1 .1 .1 .1 .1 .1 .1 .1 .1 .1 .0, R.long (start c .pre) .symbols-long, w .p-most, w .q-most)
@@ -110,7 +110,7 @@ run-parts-spec =
     (tie.spec
     (λ c κs. search needs) (λ c. search needs) (λ c. search needs) (λ c. search needs) run-requires
     (λ c. search needs) (λ c. search needs) (λ c. search needs) (λ c. search needs) (λ c. search needs)
-    (λ c. search needs) (λ c. search needs) (λ c. search needs) (λ c. search needs) returns sub-last
+    (λ c. search needs) (λ c. search needs) (λ c. search needs) (λ c. search needs) (λ c. search needs) returns sub-last
     mul-window slice-set-of-window joined-requires joined-requires-2 next-requires (λ c. search needs)
     (λ c. search needs) (λ c. search needs) (λ c. search needs) (λ c. search needs) (λ c. search needs)
     (λ c. search needs) (λ c. search needs) (λ c. search needs) returns-2)

@@ -17,7 +17,7 @@ raise32-requires c κs =
     let s = c .before .before in
     simp (toZ-ofZ (s .fits .h)) (omega (arith, s .pre .1, s .pre .2))
 
--- 31 places leave nothing of a sum
+-- 31 bits leave nothing of a sum
 gave : (c : tie.After-cut32) → c .cut32 .result ≡ cut (c .before .before .args .f) (c .before .before .args .down)
 gave c =
     let s = c .before .before in

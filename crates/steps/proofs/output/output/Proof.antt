@@ -14,15 +14,15 @@ use Rattle.steps.proofs.OutputLaws.{output-raised, output-exponent-form
 use Rattle.steps.proofs.output.output.Statement.{statement}
 use Rattle.steps.proofs.output.output.Tie as tie
 
-between : (c : tie.After-larger) → (c .before .args .g ≤ c .larger .result) × (c .before .args .nu + 30 ≤ c .larger .result) × (c .larger .result ≤ dataExponentLimit + 30)
+between : (c : tie.After-larger) → (c .before .args .gamma30 ≤ c .larger .result) × (c .before .args .nu + 30 ≤ c .larger .result) × (c .larger .result ≤ dataExponentLimit + 30)
 between c =
     let a = c .before .args in
     omega (
       arith,
       c .larger .ensures,
-      le-max-left (a .g) (a .nu + 30),
-      le-max-right (a .g) (a .nu + 30),
-      max-le {a = a .g} {b = a .nu + 30} {k = dataExponentLimit + 30} (c .before .pre .g-most) (omega (arith, c .before .pre .ν-most)),
+      le-max-left (a .gamma30) (a .nu + 30),
+      le-max-right (a .gamma30) (a .nu + 30),
+      max-le {a = a .gamma30} {b = a .nu + 30} {k = dataExponentLimit + 30} (c .before .pre .Γ-most) (omega (arith, c .before .pre .ν-most)),
     )
 
 sub-added : tie.Need-sub-added
@@ -56,8 +56,8 @@ returns c =
     let a = s .args in (
       kept w32 (c .added .result) (c .added .ok) ∙ c .added .ensures
           ∙ simp (toZ-ofZ (s .fits .f), toZ-ofZ (s .fits .h), c .before .larger .ensures)
-          (sym (output-raised (a .f) (a .h) (a .g) (a .nu) (omega (arith, s .pre .g-most)) (omega (arith, s .pre .ν-most)))),
-      omega (arith, c .before .larger .ensures, output-exponent-form (a .psi) (a .g) (a .nu)),
+          (sym (output-raised (a .f) (a .h) (a .gamma30) (a .nu) (omega (arith, s .pre .Γ-most)) (omega (arith, s .pre .ν-most)))),
+      omega (arith, c .before .larger .ensures, output-exponent-form (a .psi) (a .gamma30) (a .nu)),
     )
 
 pub output-spec : {M : Type 1} → statement M

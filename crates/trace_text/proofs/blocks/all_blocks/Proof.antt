@@ -4,8 +4,9 @@ use Prim.Native.Nat.{ℕ, _-_, _≤_, _<_}
 use native.Mathlib.Omega.{arith}
 use lib.ListN.{length}
 use borrow.Author.Needs.{needs}
-use Rattle.steps.specs.Limits.{places}
-use Rattle.trace_text.specs.Trace.{byteAt, countIn}
+use Rattle.steps.specs.Limits.{slots}
+use Rattle.image.specs.Load.{byteAt}
+use Rattle.trace_text.specs.Trace.{countIn}
 use Rattle.trace_text.specs.Calls.{OfTrace}
 use Rattle.trace_text.proofs.ReadLaws.{well-long}
 use Rattle.trace_text.proofs.TextLaws.{Going, going-none, going-next, going-stops, going-all, going-long, going-room}
@@ -20,21 +21,21 @@ abbrev μ-loop : tie.MeasureT-loop
 
 -- ---- the count of blocks
 
-shared-slice-read-number16 : tie.Need-shared-slice-read-number16 Inv-loop μ-loop
-shared-slice-read-number16 c = let s = c .before .before .before in omega (arith, well-long _ (s .pre .trace .well-formed))
+shared-slice-read-unsigned16 : tie.Need-shared-slice-read-unsigned16 Inv-loop μ-loop
+shared-slice-read-unsigned16 c = let s = c .before .before .before in omega (arith, well-long _ (s .pre .trace .well-formed))
 
-shared-slice-read-number16-2 : tie.Need-shared-slice-read-number16-2 Inv-loop μ-loop
-shared-slice-read-number16-2 c = let s = c .before .before .before .before in omega (arith, well-long _ (s .pre .trace .well-formed))
+shared-slice-read-unsigned16-2 : tie.Need-shared-slice-read-unsigned16-2 Inv-loop μ-loop
+shared-slice-read-unsigned16-2 c = let s = c .before .before .before .before in omega (arith, well-long _ (s .pre .trace .well-formed))
 
 -- ---- the turn that calls
 
-abbrev first : tie.After-number16 Inv-loop μ-loop → tie.Start Inv-loop μ-loop
+abbrev first : tie.After-unsigned16 Inv-loop μ-loop → tie.Start Inv-loop μ-loop
 first c = c .before .before .before .before .before
 
-weights-long : (c : tie.After-number16 Inv-loop μ-loop) → length (first c .args .e .weights) ≡ places
+weights-long : (c : tie.After-unsigned16 Inv-loop μ-loop) → length (first c .args .e .weights) ≡ slots
 weights-long c = search needs
 
-past-long : (c : tie.After-number16 Inv-loop μ-loop) → length (first c .args .e .past) ≡ places
+past-long : (c : tie.After-unsigned16 Inv-loop μ-loop) → length (first c .args .e .past) ≡ slots
 past-long c = search needs
 
 loop-holds : tie.Need-loop-holds Inv-loop μ-loop
@@ -44,7 +45,7 @@ abbrev start : tie.At-loop Inv-loop μ-loop → tie.Start Inv-loop μ-loop
 start c = first (c .before)
 
 below : (c : tie.In-loop Inv-loop μ-loop) → c .before .loop .i < countIn (start (c .before) .args .t .now)
-below c = subst (λ (n : ℕ). c .before .loop .i < n) (c .before .before .number16 .ensures) (c .loop-test .taken)
+below c = subst (λ (n : ℕ). c .before .loop .i < n) (c .before .before .unsigned16 .ensures) (c .loop-test .taken)
 
 bytes-below : (c : tie.At-loop Inv-loop μ-loop) (i : ℕ) → byteAt (start c .args .t .now) i < 256
 bytes-below c i = omega (arith, c .before .before .shared-slice-known3 .given i)
@@ -80,7 +81,7 @@ returns c =
     going-stops _ _ _ _ _ _ _ (l .loop .inv) _ _ (below (r .before .before)) (r .block-text .ensures) (c .if1 .taken)
 
 add-i : tie.Need-add-i Inv-loop μ-loop
-add-i c = let h = c .before .before .before .before .before .before .before .loop-test .taken in omega (arith, h, c .before .before .before .before .before .before .before .before .before .number16 .ok)
+add-i c = let h = c .before .before .before .before .before .before .before .loop-test .taken in omega (arith, h, c .before .before .before .before .before .before .before .before .before .unsigned16 .ok)
 
 loop-less : tie.Need-loop-less Inv-loop μ-loop
 loop-less c =
@@ -99,12 +100,12 @@ same-length-2 c = still (c .before)
 returns-2 : tie.Need-returns-2 Inv-loop μ-loop
 returns-2 c =
     going-all _ _ _ _ _ _ _ (c .before .loop .inv)
-    (subst (λ (n : ℕ). n ≤ c .before .loop .i) (c .before .before .number16 .ensures) (c .loop-test .left))
+    (subst (λ (n : ℕ). n ≤ c .before .loop .i) (c .before .before .unsigned16 .ensures) (c .loop-test .left))
 
 pub all-blocks-spec : {M : Type 1} → statement M
 all-blocks-spec =
     tie.close
     (tie.spec
-    Inv-loop μ-loop shared-slice-read-number16 shared-slice-read-number16-2 (λ c κs. search needs)
+    Inv-loop μ-loop shared-slice-read-unsigned16 shared-slice-read-unsigned16-2 (λ c κs. search needs)
     (λ c. search needs) loop-holds block-text-requires same-length returns add-i loop-less loop-again
     same-length-2 returns-2)

@@ -6,14 +6,15 @@ use native.Mathlib.Omega.{arith}
 use lib.ListN.{length, take, drop, replicate}
 use lib.IntN.{ℤ, pos}
 use borrow.Author.Needs.{needs}
-use Rattle.steps.specs.Limits.{blockLimit, places}
-use Rattle.checks.specs.Checks.{Lent}
+use Rattle.steps.specs.Limits.{blockLimit, slots}
+use Rattle.checks.specs.Checks.{Buffers}
 use Rattle.station.proofs.NumberLaws.{run-most}
-use Rattle.trace_text.specs.Trace.{traceLimit, byteAt, lentAt}
+use Rattle.image.specs.Load.{byteAt}
+use Rattle.trace_text.specs.Trace.{traceLimit, buffersAt}
 use Rattle.trace_text.specs.Text.{stopLine}
 use Rattle.trace_text.specs.Calls.{OfTrace, Ran-is}
 use Rattle.trace_text.proofs.TextAtLaws.{text-same}
-use Rattle.trace_text.proofs.BlockLaws.{zeros-long, front-long, front-within, sampled, lent-zeros, block-within, block-few, accepts, handed-long, front-printable, front-lines, refused-text, accepted-text}
+use Rattle.trace_text.proofs.BlockLaws.{zeros-long, front-long, front-within, sampled, buffers-zeros, block-within, block-few, accepts, block-long, front-printable, front-lines, refused-text, accepted-text}
 use Rattle.trace_text.proofs.blocks.block_text.Statement.{statement}
 use Rattle.trace_text.proofs.blocks.block_text.Tie as tie
 
@@ -31,8 +32,8 @@ area s x = zeros-long x (s .args .e .n) (trace s .n-most)
 abbrev start : tie.After-run-block → tie.Start
 start c = c .before .before .before .before .before .before .before
 
-abbrev lent : tie.After-run-block → Lent
-lent c = let a = start c .args in lentAt (a .t .now) (a .i * a .e .n)
+abbrev lent : tie.After-run-block → Buffers
+lent c = let a = start c .args in buffersAt (a .t .now) (a .i * a .e .n)
 
 abbrev y : tie.After-run-block → List ℤ
 y c = c .run-block .last .1 .1 .1 .0
@@ -46,7 +47,7 @@ decision c = c .run-block .last .1 .1 .1 .1 .1 .0
 ran : (c : tie.After-run-block) → Ran-is (start c .args .e) (lent c) (c .run-block .result) (y c) (xi c) (decision c)
 ran c =
     let s = start c in
-    subst (λ (l : Lent). Ran-is (s .args .e) l (c .run-block .result) (y c) (xi c) (decision c)) (lent-zeros _ _ (trace s) (s .args .i * s .args .e .n)) (c .run-block .ensures)
+    subst (λ (l : Buffers). Ran-is (s .args .e) l (c .run-block .result) (y c) (xi c) (decision c)) (buffers-zeros _ _ (trace s) (s .args .i * s .args .e .n)) (c .run-block .ensures)
 
 bytes-below : (c : tie.After-run-block) (i : ℕ) → byteAt (start c .args .t .now) i < 256
 bytes-below c i = omega (arith, c .before .before .before .before .before .before .shared-slice-known .given i)
@@ -96,12 +97,12 @@ returns c =
 
 long : (c : tie.Else1) → let r = c .before .before .before .before .before in
     (length (y r) ≡ start r .args .e .n) × (length (xi r) ≡ start r .args .e .n) × (length (decision r) ≡ start r .args .e .n)
-long c = handed-long (ran (c .before .before .before .before .before)) (c .if1 .left)
+long c = block-long (ran (c .before .before .before .before .before)) (c .if1 .left)
 
-weights-long : (c : tie.After-struct-known) → length (c .before .before .before .args .e .weights) ≡ places
+weights-long : (c : tie.After-struct-known) → length (c .before .before .before .args .e .weights) ≡ slots
 weights-long c = search needs
 
-past-long : (c : tie.After-struct-known) → length (c .before .before .before .args .e .past) ≡ places
+past-long : (c : tie.After-struct-known) → length (c .before .before .before .args .e .past) ≡ slots
 past-long c = search needs
 
 cast-lines : tie.Need-cast-lines

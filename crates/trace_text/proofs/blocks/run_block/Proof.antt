@@ -8,7 +8,7 @@ use lib.IntN.{ℤ, pos}
 use borrow.Author.Needs.{needs}
 use Rattle.steps.specs.Limits.{blockLimit}
 use Rattle.trace_text.specs.Calls.{OfTrace, Read-is}
-use Rattle.trace_text.proofs.BlockLaws.{zeros, zeros-long, front-is, front-long, front-within, read-long, lent-is, ran-is}
+use Rattle.trace_text.proofs.BlockLaws.{zeros, zeros-long, front-is, front-long, front-within, read-long, buffers-is, ran-is}
 use Rattle.trace_text.proofs.blocks.run_block.Statement.{statement}
 use Rattle.trace_text.proofs.blocks.run_block.Tie as tie
 
@@ -87,7 +87,7 @@ returns c =
     let long = read-long (read r) in
     let h = trace s .n-most in
     ran-is
-    (lent-is _ n (s .args .first) _ _ _ _ _ _ _ _ (trace s .n-is)
+    (buffers-is _ n (s .args .first) _ _ _ _ _ _ _ _ (trace s .n-is)
     (record { m-is = front-is (m r) _ n (long .0) ∙ read r .m-is; gains-is = front-is (gains r) _ n (long .1) ∙ read r .gains-is; entries-is = front-is (entries r) _ n (long .2) ∙ read r .entries-is })
     (zeros (pos 0) n h) (zeros 0 n h))
     (w .run .ensures)

@@ -11,7 +11,7 @@ use mir.Facts.{toZ-ofZ, sfits-widen}
 use borrow.Author.Needs.{needs}
 use Rattle.laws.specs.Machine.{abs-fits, lt-tested, lt-refuted}
 use Rattle.trace_text.specs.Decimal.{decimal, signedDecimal}
-use Rattle.trace_text.specs.TextAt.{TextAt}
+use Rattle.trace_text.specs.Calls.{TextAt}
 use Rattle.trace_text.proofs.DecimalLaws.{signed-below, signed-whole}
 use Rattle.trace_text.proofs.TextAtLaws.{text-same, text-byte, text-then, text-long, text-room}
 use Rattle.trace_text.proofs.decimal.signed_decimal.Statement.{statement}

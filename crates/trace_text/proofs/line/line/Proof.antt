@@ -9,7 +9,7 @@ use mir.Val.{SFits, toZ, ofZ}
 use mir.Facts.{toZ-pos, toZ-ofZ, sfits-widen}
 use borrow.Author.Needs.{needs}
 use Rattle.trace_text.specs.Text.{space, newline, field, line}
-use Rattle.trace_text.specs.TextAt.{TextAt}
+use Rattle.trace_text.specs.Calls.{TextAt}
 use Rattle.trace_text.proofs.LineLaws.{line-short}
 use Rattle.trace_text.proofs.TextAtLaws.{text-same, text-then, text-room, room-front}
 use Rattle.trace_text.proofs.line.line.Statement.{statement}

@@ -10,8 +10,8 @@ use mir.Syntax.{w8, w32}
 use mir.Val.{SFits}
 use mir.Facts.{toZ-ofZ}
 use borrow.Author.Needs.{sfits-of}
-use Rattle.trace_text.specs.Text.{line, lines, lineLimit}
-use Rattle.trace_text.specs.TextAt.{TextAt}
+use Rattle.trace_text.specs.Text.{line, lines}
+use Rattle.trace_text.specs.Calls.{lineLimit, TextAt}
 use Rattle.trace_text.proofs.TextAtLaws.{text-none, text-same, text-long, text-then}
 use Rattle.trace_text.proofs.LineLaws.{lines-short}
 use Rattle.trace_text.proofs.line.lines.Statement.{statement}

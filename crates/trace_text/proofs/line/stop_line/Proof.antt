@@ -9,7 +9,7 @@ use mir.Val.{toZ}
 use mir.Facts.{toZ-pos}
 use borrow.Author.Needs.{needs}
 use Rattle.trace_text.specs.Text.{space, newline, field, stopLine}
-use Rattle.trace_text.specs.TextAt.{TextAt}
+use Rattle.trace_text.specs.Calls.{TextAt}
 use Rattle.trace_text.proofs.LineLaws.{stop-short}
 use Rattle.trace_text.proofs.TextAtLaws.{text-same, text-then, text-room, room-front}
 use Rattle.trace_text.proofs.line.stop_line.Statement.{statement}

@@ -12,10 +12,10 @@ cast-result : tie.Need-cast-result
 cast-result c = omega (arith, c .shared-slice-known2 .given 2)
 
 mul-result : tie.Need-mul-result
-mul-result c = omega (arith, few (getD (c .before .before .before .before .before .args .t .now) 2 0) (c .number16 .result) (omega (arith, c .before .before .before .shared-slice-known2 .given 2)) (omega (arith, c .number16 .ensures, c .before .before .before .shared-slice-known2 .given 6, c .before .before .before .shared-slice-known2 .given 7)))
+mul-result c = omega (arith, few (getD (c .before .before .before .before .before .args .t .now) 2 0) (c .unsigned16 .result) (omega (arith, c .before .before .before .shared-slice-known2 .given 2)) (omega (arith, c .unsigned16 .ensures, c .before .before .before .shared-slice-known2 .given 6, c .before .before .before .shared-slice-known2 .given 7)))
 
 returns : tie.Need-returns
-returns c = ap (λ (n : ℕ). getD (c .before .before .before .before .before .args .t .now) 2 0 * n) (c .number16 .ensures)
+returns c = ap (λ (n : ℕ). getD (c .before .before .before .before .before .args .t .now) 2 0 * n) (c .unsigned16 .ensures)
 
 pub samples-spec : {M : Type 1} → statement M
 samples-spec =

@@ -8,7 +8,7 @@ use lib.Dec.{eqb}
 use lib.ListN.{length, getD}
 use borrow.Author.Needs.{needs}
 use borrow.Author.Tests.{eq-eqb, ne-eqb}
-use Rattle.trace_text.specs.Trace.{headerLength, samplesIn, countIn, wellFormed}
+use Rattle.trace_text.specs.Trace.{traceHeaderLength, samplesIn, countIn, wellFormed}
 use Rattle.trace_text.proofs.ReadLaws.{well-short, well-large, well-tested, few}
 use Rattle.trace_text.proofs.read.well_formed.Statement.{statement}
 use Rattle.trace_text.proofs.read.well_formed.Tie as tie
@@ -23,12 +23,12 @@ product c =
 
 -- whether the length is that of the samples in the header
 abbrev right : tie.After-samples → Bool
-right c = eqb (length (bytes c)) (headerLength + 4 * c .samples .result)
+right c = eqb (length (bytes c)) (traceHeaderLength + 4 * c .samples .result)
 
 tested : (c : tie.After-samples) → wellFormed (bytes c) ≡ (right c && eqb (getD (bytes c) 5 0) 0)
 tested c =
     well-tested (bytes c) (c .before .before .if1 .left) (c .before .if2 .left)
-    ∙ ap (λ (n : ℕ). eqb (length (bytes c)) (headerLength + 4 * n) && eqb (getD (bytes c) 5 0) 0) (sym (c .samples .ensures))
+    ∙ ap (λ (n : ℕ). eqb (length (bytes c)) (traceHeaderLength + 4 * n) && eqb (getD (bytes c) 5 0) 0) (sym (c .samples .ensures))
 
 mul-if3 : tie.Need-mul-if3
 mul-if3 c = omega (arith, c .samples .ensures, product c)

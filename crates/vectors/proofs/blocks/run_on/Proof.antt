@@ -2,9 +2,9 @@ use borrow.Author.Needs.{needs}
 use Prim.Native.Nat.{ℕ, _≤_, _<_}
 use native.Mathlib.Omega.{arith}
 use Rattle.vectors.specs.Record.{fill}
-use Rattle.vectors.specs.Block.{listCount, listLimit, lengthAt, fillLong, fillSigned, lentOn}
+use Rattle.vectors.specs.Block.{listCount, listLimit, lengthAt, fillLong, fillSigned, buffersOn}
 use Rattle.laws.specs.Fills.{Lending, lending}
-use Rattle.vectors.proofs.BlockLaws.{list-fits, lent-on, result-on}
+use Rattle.vectors.proofs.BlockLaws.{list-fits, buffers-on, result-on}
 use Rattle.vectors.proofs.blocks.run_on.Statement.{statement}
 use Rattle.vectors.proofs.blocks.run_on.Tie as tie
 
@@ -64,8 +64,8 @@ returns c =
     let r = c .before .before .before .before .before .before in
     let l = r .before .before .before .before .before .before in
     let a = start l .args in
-    result-on (a .v .now) _ _ (lentOn (a .v .now) (a .m .now) (a .gains .now) (a .entries .now)) (r .run .result) _ _ _ _ _ (l .before .before .before .before .before .state .ensures)
-    (lent-on (a .v .now) (a .m .now) (a .gains .now) (a .entries .now) _ _ _ _ _ (y-lent l .front) (xi-lent l .front) (decision-lent l .front) (z-lent l .front) (theta-lent l .front))
+    result-on (a .v .now) _ _ (buffersOn (a .v .now) (a .m .now) (a .gains .now) (a .entries .now)) (r .run .result) _ _ _ _ _ (l .before .before .before .before .before .state .ensures)
+    (buffers-on (a .v .now) (a .m .now) (a .gains .now) (a .entries .now) _ _ _ _ _ (y-lent l .front) (xi-lent l .front) (decision-lent l .front) (z-lent l .front) (theta-lent l .front))
     (r .run .ensures) _ _ _ _ _ (y-lent l .rest) (xi-lent l .rest) (decision-lent l .rest) (z-lent l .rest) (theta-lent l .rest)
 
 pub run-on-spec : {M : Type 1} → statement M

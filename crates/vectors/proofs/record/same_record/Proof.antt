@@ -5,7 +5,7 @@ use mathlib.Core.List.{List}
 use Prim.Native.Nat.{ℕ}
 use lib.ListN.{take}
 use borrow.Author.Tests.{not-true, not-false}
-use Rattle.image.specs.Image.{header, headerLength}
+use Rattle.image.specs.Image.{header, imageHeaderLength}
 use Rattle.laws.specs.Comparisons.{equal}
 use Rattle.vectors.specs.Record.{sameRecord}
 use Rattle.vectors.proofs.record.same_record.Statement.{statement}
@@ -13,10 +13,10 @@ use Rattle.vectors.proofs.record.same_record.Tie as tie
 
 -- the bytes of the header
 headed : (c : tie.After-same-bytes) {b : Bool} → c .same-bytes .result ≡ b → let a = c .before .before .before .before .before .before .before .before .before .args in
-    equal (header (a .s)) (take headerLength (a .v .now)) ≡ b
+    equal (header (a .s)) (take imageHeaderLength (a .v .now)) ≡ b
 headed c e =
     let p = c .before .before .before .before in
-    ap (λ (l : List ℕ). equal l (take headerLength (p .before .before .before .before .before .args .v .now))) (sym (p .put-header .ensures)) ∙ sym (c .same-bytes .ensures) ∙ e
+    ap (λ (l : List ℕ). equal l (take imageHeaderLength (p .before .before .before .before .before .args .v .now))) (sym (p .put-header .ensures)) ∙ sym (c .same-bytes .ensures) ∙ e
 
 returns : tie.Need-returns
 unfolding sameRecord

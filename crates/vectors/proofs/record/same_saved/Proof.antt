@@ -7,9 +7,9 @@ use native.Mathlib.Omega.{arith}
 use lib.Dec.{leb, eqb}
 use lib.ListN.{length}
 use borrow.Author.Tests.{not-true, not-false, le-leb, lt-leb, eq-eqb, ne-eqb}
-use Rattle.steps.specs.Limits.{places}
+use Rattle.steps.specs.Limits.{slots}
 use Rattle.state.specs.State.{taps}
-use Rattle.image.specs.Image.{headerLength, saveNumber}
+use Rattle.image.specs.Image.{imageHeaderLength, saveNumber}
 use Rattle.laws.specs.Comparisons.{equal}
 use Rattle.vectors.specs.Compare.{between}
 use Rattle.vectors.specs.Record.{pastPlace, bufferLength, buffer, saved, sameSaved}
@@ -32,13 +32,13 @@ accepted c = eq-eqb _ _ (number (c .before .before .before) ∙ c .if1 .left)
 
 returns-2 : tie.Need-returns-2
 unfolding sameSaved
-returns-2 c = let a = c .before .before .before in simp (accepted a, lt-leb (taps (a .before .before .before .before .before .before .before .before .args .s)) places (c .if2 .taken))
+returns-2 c = let a = c .before .before .before in simp (accepted a, lt-leb (taps (a .before .before .before .before .before .before .before .before .args .s)) slots (c .if2 .taken))
 
-few : (c : tie.Else2) → leb (taps (c .before .before .before .before .before .before .before .before .before .before .before .args .s)) places ≡ true
+few : (c : tie.Else2) → leb (taps (c .before .before .before .before .before .before .before .before .before .before .before .args .s)) slots ≡ true
 few c = le-leb _ _ (c .if2 .left)
 
 fronts : {b : Bool} (c : tie.After-same-bytes) → c .same-bytes .result ≡ b → let e = c .before .before .before .before in let a = e .before .before .before .before .before .before in let s = a .before .before .before .before .before .args in
-    let mid = headerLength + 2 * taps (s .s) in equal (between 0 mid (saved (s .s))) (between 0 mid (s .v .now)) ≡ b
+    let mid = imageHeaderLength + 2 * taps (s .s) in equal (between 0 mid (saved (s .s))) (between 0 mid (s .v .now)) ≡ b
 fronts c h = let a = c .before .before .before .before .before .before .before .before .before .before in rw (after a) (sym (c .same-bytes .ensures) ∙ h)
 
 returns-3 : tie.Need-returns-3
@@ -46,7 +46,7 @@ unfolding sameSaved
 returns-3 c = let e = c .before .before .before .before .before in simp (accepted (e .before .before .before), few e, fronts (c .before) (not-true _ (c .if3 .taken)))
 
 pasts : {b : Bool} (c : tie.After-same-bytes2) → c .same-bytes2 .result ≡ b → let e = c .before .before .before .before .before .before .before .before .before in let a = e .before .before .before .before .before .before in let s = a .before .before .before .before .before .args in
-    let mid = headerLength + 2 * taps (s .s) in equal (between mid (mid + 2 * taps (s .s)) (saved (s .s))) (between pastPlace (pastPlace + 2 * taps (s .s)) (s .v .now)) ≡ b
+    let mid = imageHeaderLength + 2 * taps (s .s) in equal (between mid (mid + 2 * taps (s .s)) (saved (s .s))) (between pastPlace (pastPlace + 2 * taps (s .s)) (s .v .now)) ≡ b
 pasts c h = let a = c .before .before .before .before .before .before .before .before .before .before .before .before .before .before .before in rw (after a) (sym (c .same-bytes2 .ensures) ∙ h)
 
 returns-4 : tie.Need-returns-4
@@ -62,7 +62,7 @@ part-same-bytes-end-6 c =
     omega (arith, ap length (e .before .before .before .before .before .before .before .before .before .before .filled-buffer .ensures), buffer-length)
 
 abbrev end : tie.After-save → ℕ
-end a = let t = taps (a .before .before .before .before .before .args .s) in headerLength + 2 * t + 2 * t
+end a = let t = taps (a .before .before .before .before .before .args .s) in imageHeaderLength + 2 * t + 2 * t
 
 returns-5 : tie.Need-returns-5
 unfolding sameSaved

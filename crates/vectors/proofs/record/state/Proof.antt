@@ -6,7 +6,7 @@ use Rattle.vectors.proofs.record.state.Tie as tie
 returns : tie.Need-returns
 returns c =
     let w = c .before .before .before .before .before .before .before .before .before .before .before .before .before in
-    record-is (w .before .before .before .before .before .args .v .now) _ _ _ (c .number32 .ensures) (w .before .before .words-in .ensures) (w .words-in2 .ensures)
+    record-is (w .before .before .before .before .before .args .v .now) _ _ _ (c .unsigned32 .ensures) (w .before .before .words-in .ensures) (w .words-in2 .ensures)
 
 pub state-spec : {M : Type 1} → statement M
 state-spec =
