@@ -34,11 +34,11 @@ typedef struct {
     int taps, scale;
     int16_t weights[TAPS], keep[TAPS];
     int16_t data[BLOCK + TAPS];
-} side;
+} fir;
 
 typedef struct {
-    side forward, back;
-    int n, r, top, b, big, gamma, psi;
+    fir forward, back;
+    int n, r, top, b, bmax, gamma, psi;
     uint32_t m;
     // Weights that are all below this are doubled.
     uint16_t least;
@@ -73,8 +73,8 @@ static bool admitted(const tigbulode_equaliser *s) {
 }
 
 static bool sound(const tigbulode_equaliser *s) {
-    if (s->psi > 15 || s->b > s->big || s->big + s->l > 31) return false;
-    int taps = s->p + s->q, scale = s->big + scale_count(s->p), top = (2 << s->r) - 1, bad = 0;
+    if (s->psi > 15 || s->b > s->bmax || s->bmax + s->l > 31) return false;
+    int taps = s->p + s->q, scale = s->bmax + scale_count(s->p), top = (2 << s->r) - 1, bad = 0;
     for (int i = 0; i < taps; i++) bad |= s->weights[i] > 16383 || s->weights[i] < -16383;
     for (int i = taps; i < 32; i++) bad |= s->weights[i] | s->past[i];
     for (int i = 0; i < s->p - 1; i++)
@@ -113,9 +113,9 @@ static void begin(work *k, const tigbulode_equaliser *e, const int16_t *m, const
         any |= size_of(x);
     }
     k->b = any ? 32 - __builtin_clz(any) : 0;
-    k->big = larger(k->b, e->b);
-    k->gamma = k->r - 30 + k->big + k->forward.scale;
-    int places = k->big + k->forward.scale - 15, change = k->big - e->big;
+    k->bmax = larger(k->b, e->b);
+    k->gamma = k->r - 30 + k->bmax + k->forward.scale;
+    int places = k->bmax + k->forward.scale - 15, change = k->bmax - e->bmax;
     int down = larger(places, 0), up = larger(-places, 0);
     for (int i = BLOCK - k->n; i < BLOCK; i++)
         k->forward.data[i] = (int16_t)(cut(received[i], down) * (1 << up));
@@ -125,7 +125,7 @@ static void begin(work *k, const tigbulode_equaliser *e, const int16_t *m, const
 }
 
 // With many taps a whole number of vectors is run.
-INLINE int32_t sum(const side *f, const int16_t *data) {
+INLINE int32_t sum(const fir *f, const int16_t *data) {
     int32_t total = 0;
     if (f->taps <= FEW) {
         for (int i = 0; i < f->taps; i++) total += f->weights[i] * data[i];
@@ -137,7 +137,7 @@ INLINE int32_t sum(const side *f, const int16_t *data) {
 }
 
 // Each weight gains J·a / 2^down, J given as magnitude and sign; the new magnitudes, merged.
-INLINE uint16_t adapt_few(side *f, const int16_t *restrict data, uint32_t j, int16_t sign, int down) {
+INLINE uint16_t adapt_few(fir *f, const int16_t *restrict data, uint32_t j, int16_t sign, int down) {
     int64_t k = (((int64_t)j ^ sign) - sign) * (1 << (30 - down));
     uint16_t merged = 0;
     for (int i = 0; i < f->taps; i++) {
@@ -151,7 +151,7 @@ INLINE uint16_t adapt_few(side *f, const int16_t *restrict data, uint32_t j, int
 }
 
 // The same by products of sixteen bits; J is spread so that compilers see them.
-INLINE uint16_t adapt_many(side *f, const int16_t *restrict data, uint32_t j, int16_t sign, int down) {
+INLINE uint16_t adapt_many(fir *f, const int16_t *restrict data, uint32_t j, int16_t sign, int down) {
     int16_t *restrict w = f->weights;
     const int16_t *restrict keep = f->keep;
     uint16_t merged = 0, high[TAPS], low[TAPS];
@@ -170,7 +170,7 @@ INLINE uint16_t adapt_many(side *f, const int16_t *restrict data, uint32_t j, in
     return merged;
 }
 
-INLINE uint16_t adapt(side *f, const int16_t *data, uint32_t j, int16_t sign, int down) {
+INLINE uint16_t adapt(fir *f, const int16_t *data, uint32_t j, int16_t sign, int down) {
     if (f->taps <= FEW) return adapt_few(f, data, j, sign, down);
     return adapt_many(f, data, j, sign, larger(down - 16, 0));
 }
@@ -246,7 +246,7 @@ INLINE void sample(work *k, int n, int entry) {
     learn(k, a, v, z, theta, c);
 }
 
-static void set_side(side *f, int taps, const int16_t *weights, const int16_t *past) {
+static void set_filter(fir *f, int taps, const int16_t *weights, const int16_t *past) {
     f->taps = taps, f->scale = scale_count(taps);
     for (int i = 0; i < TAPS; i++) {
         f->weights[i] = i < taps ? weights[i] : 0;
@@ -257,8 +257,8 @@ static void set_side(side *f, int taps, const int16_t *weights, const int16_t *p
 
 static void set_work(work *k, const tigbulode_equaliser *e) {
     int p = e->p, q = e->q;
-    set_side(&k->forward, p, e->weights, e->past);
-    set_side(&k->back, q, e->weights + p, e->past + p);
+    set_filter(&k->forward, p, e->weights, e->past);
+    set_filter(&k->back, q, e->weights + p, e->past + p);
     k->n = e->n, k->r = e->r, k->top = (2 << e->r) - 1, k->m = e->step;
     set_exponent(k, e->psi);
     k->older = LANES * (((1u << q) - 1) & 0xfffe);
@@ -268,7 +268,7 @@ static void set_work(work *k, const tigbulode_equaliser *e) {
 
 static void keep_state(tigbulode_equaliser *e, const work *k) {
     size_t p = e->p, q = e->q;
-    e->psi = (uint8_t)k->psi, e->b = (uint8_t)k->b, e->big = (uint8_t)k->big;
+    e->psi = (uint8_t)k->psi, e->b = (uint8_t)k->b, e->bmax = (uint8_t)k->bmax;
     memcpy(e->weights, k->forward.weights, 2 * p);
     memcpy(e->weights + p, k->back.weights, 2 * q);
     memcpy(e->past, k->forward.data + BLOCK - k->n, 2 * (p - 1));

@@ -47,7 +47,7 @@ static void any_weights(int16_t *weights, int taps) {
 
 static void any_contents(tigbulode_equaliser *e) {
     any_weights(e->weights, e->p + e->q);
-    int room = 15 + e->b - e->big - scale_count(e->p);
+    int room = 15 + e->b - e->bmax - scale_count(e->p);
     for (int i = 0; i < e->p - 1; i++) {
         uint32_t size = room > 0 ? any_below(1u << room) : 0;
         e->past[i] = (int16_t)(any_below(2) ? (int)size : -(int)size);
@@ -67,8 +67,8 @@ tigbulode_equaliser any_state(void) {
     e.step = tigbulode_greatest_step(e.p, e.q, e.r, e.l);
     if (any_below(4) == 0) e.step = any_below(e.step + 1);
     e.psi = (uint8_t)(any_below(2) ? any_below(16) : 13 + any_below(3));
-    e.big = (uint8_t)any_below((uint32_t)(32 - e.l));
-    e.b = (uint8_t)any_below((uint32_t)e.big + 1);
+    e.bmax = (uint8_t)any_below((uint32_t)(32 - e.l));
+    e.b = (uint8_t)any_below((uint32_t)e.bmax + 1);
     any_contents(&e);
     return e;
 }

@@ -105,7 +105,7 @@ static tigbulode_equaliser any_state(unsigned p, unsigned q) {
     const uint32_t step = tigbulode_greatest_step((uint8_t)p, (uint8_t)q, 3, 0);
     tigbulode_equaliser s = tigbulode_set_up((uint8_t)p, (uint8_t)q, LONGEST, 3, 0, step).state;
     unsigned i;
-    s.psi = 7, s.b = 29, s.big = 30;
+    s.psi = 7, s.b = 29, s.bmax = 30;
     for (i = 0; i < p + q; i++) s.weights[i] = (int16_t)(1001 * (int)i - 16383);
     for (i = 0; i + 1 < p; i++) s.past[i] = (int16_t)(33 * (int)i - 255);
     for (i = 0; i < q; i++) s.past[p + i] = (int16_t)(15 - 2 * (int)i);
@@ -116,7 +116,7 @@ static uint8_t byte_of(uint32_t word, int place) { return (uint8_t)(word >> (8 *
 
 /* The image that a save should write. */
 static void write_image(const tigbulode_equaliser *s, uint8_t *image) {
-    const uint8_t sizes_and_exponents[8] = {s->p, s->q, s->n, s->r, s->l, s->psi, s->b, s->big};
+    const uint8_t sizes_and_exponents[8] = {s->p, s->q, s->n, s->r, s->l, s->psi, s->b, s->bmax};
     const int taps = s->p + s->q;
     int i;
     memcpy(image, sizes_and_exponents, 8);
@@ -182,13 +182,13 @@ static void try_largest_weights(void) {
     expect(tigbulode_largest_weight(&s) == 1, "largest weight of FF bytes", 0);
     memset(s.weights, 0, sizeof s.weights);
     expect(tigbulode_largest_weight(&s) == 0, "largest weight of zeros", 0);
-    for (place = 0; place < TIGBULODE_PLACES; place++) {
+    for (place = 0; place < TIGBULODE_SLOTS; place++) {
         for (value = -32768; value <= 32767; value++) {
             s.weights[place] = (int16_t)value;
             expect(tigbulode_largest_weight(&s) == (value < 0 ? -value : value), "largest weight, place", place);
         }
         s.weights[place] = 0;
-        for (other = 0; other < TIGBULODE_PLACES; other++)
+        for (other = 0; other < TIGBULODE_SLOTS; other++)
             if (other != place) try_two_weights(s, place, other), pairs++;
     }
     printf("largest weight: 65536 values in each of %u places, %u pairs of places\n", place, pairs);

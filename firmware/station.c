@@ -147,7 +147,7 @@ static void run_blocks(cable *c, unsigned first, bool trained) {
         sum = add_outputs(sum, &out);
     }
     printf("%s blocks %u to %u: wrong decisions %u of 256, psi %u, b %u, B %u, outputs %08" PRIX32 "\n",
-           trained ? "trained" : "decided", first, first + 15, wrong, record.psi, record.b, record.big, sum);
+           trained ? "trained" : "decided", first, first + 15, wrong, record.psi, record.b, record.bmax, sum);
 }
 
 static const char *unchanged(bool same) {

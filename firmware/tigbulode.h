@@ -32,10 +32,11 @@
 #include <stddef.h>
 #include <stdint.h>
 
-/* Of this interface. A larger minor number only adds to it, a larger major number changes a call. */
-#define TIGBULODE_VERSION_MAJOR 1
+/* Of this interface. A larger minor number only adds to it, a larger major number changes a call, a field or a name.
+ * 2.0: the field big is bmax, TIGBULODE_PLACES is TIGBULODE_SLOTS; calls and layout are those of 1.0. */
+#define TIGBULODE_VERSION_MAJOR 2
 #define TIGBULODE_VERSION_MINOR 0
-#define TIGBULODE_VERSION "1.0"
+#define TIGBULODE_VERSION "2.0"
 
 #ifdef __cplusplus
 extern "C" {
@@ -76,7 +77,7 @@ enum tigbulode_limit {
 };
 
 enum tigbulode_room {
-    TIGBULODE_PLACES = 32,       /* for weights, and as many for data: the taps of both filters */
+    TIGBULODE_SLOTS = 32,        /* for weights, and as many for data: the taps of both filters */
     TIGBULODE_HEADER_BYTES = 12, /* an image has 12 + 4(p + q) bytes */
     TIGBULODE_IMAGE_BYTES = 140  /* the longest image */
 };
@@ -84,7 +85,7 @@ enum tigbulode_room {
 /* The length of an image with these tap counts. */
 #define TIGBULODE_IMAGE_LENGTH(p, q) (TIGBULODE_HEADER_BYTES + 4 * ((size_t)(p) + (size_t)(q)))
 
-/* The equaliser record, in the saved image's order. Places at p + q and beyond are spare and 0. */
+/* The equaliser record, in the saved image's order. Slots at p + q and beyond are spare and 0. */
 typedef struct tigbulode_equaliser {
     uint8_t p;                         /* feed forward taps */
     uint8_t q;                         /* feedback taps */
@@ -93,10 +94,10 @@ typedef struct tigbulode_equaliser {
     uint8_t l;                         /* the least gain L */
     uint8_t psi;                       /* the exponent that all weights share */
     uint8_t b;                         /* the last block's b */
-    uint8_t big;                       /* the last block's B */
+    uint8_t bmax;                      /* the last block's B: the larger of its b and the previous block's b */
     uint32_t step;                     /* M: the step size is M / 2^30 */
-    int16_t weights[TIGBULODE_PLACES]; /* feed forward, then feedback */
-    int16_t past[TIGBULODE_PLACES];    /* p - 1 stored samples newest first, a 0, q symbols newest first */
+    int16_t weights[TIGBULODE_SLOTS];  /* feed forward, then feedback */
+    int16_t past[TIGBULODE_SLOTS];     /* p - 1 stored samples newest first, a 0, q symbols newest first */
 } tigbulode_equaliser;
 
 /* A number beside a state. */
@@ -113,7 +114,7 @@ typedef struct tigbulode_saved {
 
 TIGBULODE_ASSERT(record, sizeof(tigbulode_equaliser) == 140);
 TIGBULODE_ASSERT(p, offsetof(tigbulode_equaliser, p) == 0);
-TIGBULODE_ASSERT(big, offsetof(tigbulode_equaliser, big) == 7);
+TIGBULODE_ASSERT(bmax, offsetof(tigbulode_equaliser, bmax) == 7);
 TIGBULODE_ASSERT(step, offsetof(tigbulode_equaliser, step) == 8);
 TIGBULODE_ASSERT(weights, offsetof(tigbulode_equaliser, weights) == 12);
 TIGBULODE_ASSERT(past, offsetof(tigbulode_equaliser, past) == 76);
@@ -229,11 +230,11 @@ static inline tigbulode_answer tigbulode_trial_block(const tigbulode_equaliser *
 
 /* The largest magnitude of a weight, in units of 2^(psi - 15): at most 16383 in a sound state. A block may raise psi or
  * lower it, so beside another record's compare this number times 2^psi. A record with anything in it is read at its 32
- * places alone; -32768 counts as 32768. */
+ * slots alone; -32768 counts as 32768. */
 static inline uint16_t tigbulode_largest_weight(const tigbulode_equaliser *s) {
     int32_t largest = 0;
     int i;
-    for (i = 0; i < TIGBULODE_PLACES; i++) {
+    for (i = 0; i < TIGBULODE_SLOTS; i++) {
         const int32_t weight = s->weights[i];
         const int32_t magnitude = weight < 0 ? -weight : weight;
         if (magnitude > largest) largest = magnitude;

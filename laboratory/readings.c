@@ -1,16 +1,26 @@
 /* Gives the readings of every block of a file that the second implementation made and compares: `readings FILE`. The number,
  * whether the power is a floor, every bit of the power and of each reading, what lies around the readings, and the lists,
- * which stay; lists that are turned down leave everything as it was. Each answer is also compared with changed
- * expectations, which must be told apart. Exit status 1: a difference, with its place; 2: no such file, or one that breaks
- * off. */
+ * which stay; lists that are turned down leave everything as it was, every bit of the NaNs that the readings hold too. Each
+ * answer is also compared with changed expectations, which must be told apart. Exit status 1: a difference, with its place;
+ * 2: no such file, or one that breaks off. */
 #include "records.h"
 #include "tigbulode_laboratory.h"
 
 #include <stdbool.h>
 
 enum {
-    AROUND = 4,  /* readings */
-    LENGTHS = 10 /* bytes before the lists */
+    AROUND = 4,   /* readings */
+    LENGTHS = 10, /* bytes before the lists */
+    QUIET = 51,   /* the bit of a double that tells a quiet NaN from a signalling one */
+    SIGN = 63
+};
+
+/* What lent readings hold before a call: NaNs, quiet and signalling, of both signs, with the least, the largest and other
+ * payloads. The proof knows only that a NaN is one, so their bits are compared here. */
+static const uint64_t nans[] = {
+    UINT64_C(0x7FF8000000000000), UINT64_C(0xFFF8000000000000), UINT64_C(0x7FF0000000000001), UINT64_C(0xFFF0000000000001),
+    UINT64_C(0x7FF7FFFFFFFFFFFF), UINT64_C(0xFFF7FFFFFFFFFFFF), UINT64_C(0x7FFFFFFFFFFFFFFF), UINT64_C(0xFFFFFFFFFFFFFFFF),
+    UINT64_C(0x7FF8000000000001), UINT64_C(0xFFFDEADBEEF00055), UINT64_C(0x7FF4000000000000),
 };
 
 /* What a call reads and writes, each list with room for its own length. */
@@ -30,8 +40,14 @@ typedef struct {
 /* What is lent of the file, and what that is to be after the call. */
 static lists lent, after;
 
+/* The readings and what is around them, byte by byte: no NaN goes through a register of floats. */
+static void hold_nans(lists *l, const block *b) {
+    const size_t bytes = (b->readings + 2 * AROUND) * sizeof *l->readings;
+    for (size_t i = 0; i < bytes; i++) ((uint8_t *)l->readings)[i] = ((const uint8_t *)nans)[i % sizeof nans];
+}
+
 static tigbulode_power call(const block *b) {
-    memset(lent.readings, SENTINEL, (b->readings + 2 * AROUND) * sizeof *lent.readings);
+    hold_nans(&lent, b);
     return tigbulode_readings(lent.y, b->y, lent.xi, b->xi, lent.z, b->z, lent.theta, b->theta,
                               lent.readings + AROUND, b->readings);
 }
@@ -71,16 +87,18 @@ static void try_other_answers(block b, tigbulode_power answer, size_t place) {
     try_changed(&b, answer);
     b.answer.is_floor ^= 1;
     try_other_bit(&b, answer, &b.answer.power, sizeof b.answer.power, place);
-    try_other_bit(&b, answer, &b.answer.power, sizeof b.answer.power, 63);
+    try_other_bit(&b, answer, &b.answer.power, sizeof b.answer.power, SIGN);
 }
 
-/* A bit of what is around the readings, of the readings, of one reading's sign, and of each list. */
+/* A bit of what is around the readings, of the readings, the sign of one number of them and the bit by which a NaN is quiet,
+ * and a bit of each list. */
 static void try_other_lists(const block *b, tigbulode_power answer, size_t place) {
     const size_t around = AROUND * sizeof *after.readings, bytes = b->readings * sizeof *after.readings;
     tigbulode_reading *first = after.readings + AROUND;
     try_other_bit(b, answer, after.readings, around, place);
     try_other_bit(b, answer, first, bytes, 7919 * place);
-    try_other_bit(b, answer, first, bytes, 64 * place + 63);
+    try_other_bit(b, answer, first, bytes, 64 * place + SIGN);
+    try_other_bit(b, answer, first, bytes, 64 * place + QUIET);
     try_other_bit(b, answer, first + b->readings, around, place);
     try_other_bit(b, answer, after.y, b->y * sizeof *after.y, place);
     try_other_bit(b, answer, after.xi, b->xi, place);
@@ -115,7 +133,7 @@ static void take_lists(lists *l, const block *b, size_t place) {
 
 /* What the readings hold after the call: those at a place of the file, or what they held. */
 static void expect_readings(const block *b, size_t place) {
-    memset(after.readings, SENTINEL, (b->readings + 2 * AROUND) * sizeof *after.readings);
+    hold_nans(&after, b);
     if (b->answer.number != TIGBULODE_LABORATORY_ACCEPTED) return;
     for (size_t i = 0; i < b->readings; i++, place += 16) {
         after.readings[AROUND + i].y = double_at(place);
@@ -143,13 +161,17 @@ static block block_at(size_t place) {
     return b;
 }
 
-/* Blocks that were accepted, those of them with a floor, their readings, and the zeros among these. */
+/* Blocks that were accepted, those of them with a floor, their readings, and the zeros among these; the NaNs that were lent
+ * to the others. */
 static struct {
-    unsigned accepted, floors, readings, zero_y, zero_error;
+    unsigned accepted, floors, readings, zero_y, zero_error, nans;
 } counts;
 
 static void count(const block *b) {
-    if (b->answer.number != TIGBULODE_LABORATORY_ACCEPTED) return;
+    if (b->answer.number != TIGBULODE_LABORATORY_ACCEPTED) {
+        counts.nans += 2 * (unsigned)b->readings;
+        return;
+    }
     counts.accepted++;
     counts.floors += b->answer.is_floor;
     counts.readings += (unsigned)b->readings;
@@ -163,6 +185,7 @@ static void print_counts(unsigned blocks) {
     printf("blocks %u: accepted %u, turned down %u\n", blocks, counts.accepted, blocks - counts.accepted);
     printf("means %u, floors %u\n", counts.accepted - counts.floors, counts.floors);
     printf("readings %u: zero in y %u, in the error %u\n", counts.readings, counts.zero_y, counts.zero_error);
+    printf("NaNs lent to blocks that were turned down: %u, every bit as it was\n", counts.nans);
 }
 
 static const char *compare(size_t place, unsigned before, size_t *bytes) {

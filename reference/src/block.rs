@@ -100,7 +100,8 @@ pub struct SampleDetail {
 #[derive(Clone, Debug)]
 pub struct BlockDetail {
     pub b: i32,
-    pub big_b: i32,
+    /// B.
+    pub bmax: i32,
     /// γ.
     pub gamma: i32,
     /// X of each sample.
@@ -272,21 +273,21 @@ fn before_the_samples(state: &State, inputs: Inputs<'_>) -> BlockDetail {
         .collect();
     let largest = x.iter().map(|x| x.abs()).max().unwrap_or(0);
     let b = bit_length(largest);
-    let big_b = b.max(i32::from(state.b));
-    let gamma = r - 30 + big_b + s;
+    let bmax = b.max(i32::from(state.b));
+    let gamma = r - 30 + bmax + s;
 
     // Block step 2: the stored samples of this block and of the one before.
     let stored = x
         .iter()
-        .map(|&x| Dyadic::new(x, 15 - big_b - s).cut())
+        .map(|&x| Dyadic::new(x, 15 - bmax - s).cut())
         .collect();
     let past = widened(state.past_samples())
         .into_iter()
-        .map(|a| Dyadic::new(a, i32::from(state.big_b) - big_b).cut())
+        .map(|a| Dyadic::new(a, i32::from(state.bmax) - bmax).cut())
         .collect();
     BlockDetail {
         b,
-        big_b,
+        bmax,
         gamma,
         x,
         stored,
@@ -359,7 +360,7 @@ impl Moving {
         let mut after = state.clone();
         after.psi = u8::try_from(self.psi).expect("ψ is a byte");
         after.b = u8::try_from(detail.b).expect("b is a byte");
-        after.big_b = u8::try_from(detail.big_b).expect("B is a byte");
+        after.bmax = u8::try_from(detail.bmax).expect("B is a byte");
         for (place, &w) in after.weights.iter_mut().zip(&self.weights) {
             *place = narrow(w);
         }

@@ -14,18 +14,7 @@ pub fn header(state: &State) -> [u8; 12] {
     let s = &state.settings;
     let m = s.m.to_le_bytes();
     [
-        s.p,
-        s.q,
-        s.n,
-        s.r,
-        s.l,
-        state.psi,
-        state.b,
-        state.big_b,
-        m[0],
-        m[1],
-        m[2],
-        m[3],
+        s.p, s.q, s.n, s.r, s.l, state.psi, state.b, state.bmax, m[0], m[1], m[2], m[3],
     ]
 }
 
@@ -89,7 +78,7 @@ fn read(bytes: &[u8]) -> Result<State, u8> {
         settings,
         psi: bytes[5],
         b: bytes[6],
-        big_b: bytes[7],
+        bmax: bytes[7],
         weights: weights.to_vec(),
         data: data.to_vec(),
     };

@@ -132,15 +132,15 @@ impl Random {
     /// without spare places.
     pub fn sound_state(&mut self, settings: Settings) -> State {
         let most = 31 - settings.l;
-        let big_b = match self.below(4) {
+        let bmax = match self.below(4) {
             0 => most,
             1 => self.byte(0, 4.min(most)),
             _ => self.byte(0, most),
         };
         let b = match self.below(4) {
-            0 | 1 => big_b,
-            2 => big_b - self.byte(0, 6.min(big_b)),
-            _ => self.byte(0, big_b),
+            0 | 1 => bmax,
+            2 => bmax - self.byte(0, 6.min(bmax)),
+            _ => self.byte(0, bmax),
         };
         let psi = match self.below(4) {
             0 => 0,
@@ -150,7 +150,7 @@ impl Random {
         let mut state = State::zeros(settings);
         state.psi = psi;
         state.b = b;
-        state.big_b = big_b;
+        state.bmax = bmax;
         let style = self.below(6);
         for place in 0..settings.taps() {
             let own = if style == 5 { self.below(5) } else { style };
@@ -158,7 +158,7 @@ impl Random {
         }
         // |A| is below 2^room, or 0 where room is not positive.
         let s = scale_count(settings.p);
-        let room = 15 + i32::from(b) - i32::from(big_b) - s;
+        let room = 15 + i32::from(b) - i32::from(bmax) - s;
         let bound = if room > 0 { (1i64 << room) - 1 } else { 0 };
         let style = self.below(4);
         let p = usize::from(settings.p);

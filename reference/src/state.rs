@@ -6,14 +6,14 @@ use crate::settings::Settings;
 use crate::{ACCEPTED, UNSOUND};
 
 /// The places for weights, and as many for data, in a lent record.
-pub const PLACES: usize = 32;
+pub const SLOTS: usize = 32;
 
 /// A state of the equaliser.
 ///
 /// The first p + q weights and data are those of the saved image, in its
 /// order. Any place beyond them is spare and is 0 in a sound state. A state
 /// from set-up or load has no spare places; a record that the firmware lends
-/// has [`PLACES`] places for weights and as many for data.
+/// has [`SLOTS`] slots for weights and as many for data.
 #[derive(Clone, Debug, PartialEq, Eq)]
 pub struct State {
     /// Sizes and M.
@@ -23,7 +23,7 @@ pub struct State {
     /// The last block's b.
     pub b: u8,
     /// The last block's B.
-    pub big_b: u8,
+    pub bmax: u8,
     /// Feed forward weights, then feedback weights.
     pub weights: Vec<i16>,
     /// The last p − 1 stored samples newest first, a 0, then q symbols newest
@@ -38,7 +38,7 @@ impl State {
             settings,
             psi: 0,
             b: 0,
-            big_b: 0,
+            bmax: 0,
             weights: vec![0; settings.taps()],
             data: vec![0; settings.taps()],
         }
@@ -59,8 +59,8 @@ impl State {
     /// The same state as a lent record, with its spare places 0.
     pub fn lent(&self) -> State {
         let mut record = self.clone();
-        record.weights.resize(PLACES, 0);
-        record.data.resize(PLACES, 0);
+        record.weights.resize(SLOTS, 0);
+        record.data.resize(SLOTS, 0);
         record
     }
 
@@ -94,17 +94,17 @@ impl State {
             return false;
         }
         let s = scale_count(self.settings.p);
-        let (b, big_b) = (i32::from(self.b), i32::from(self.big_b));
+        let (b, bmax) = (i32::from(self.b), i32::from(self.bmax));
         let l = i32::from(self.settings.l);
         let exponent = self.psi <= Settings::MOST_EXPONENT;
-        let lengths = b <= big_b && big_b <= 31 - l;
+        let lengths = b <= bmax && bmax <= 31 - l;
         let weights = self.weights[..taps]
             .iter()
             .all(|&w| i128::from(w).abs() <= 16383);
         // b and B may be any bytes here, so both sides may be very long.
         let samples = self.past_samples().iter().all(|&a| {
             let a = i128::from(a).abs();
-            Exact::new(a, big_b + s).less(&Exact::new(1, 15 + b))
+            Exact::new(a, bmax + s).less(&Exact::new(1, 15 + b))
         });
         let filler = self.filler() == 0;
         let symbols = self

@@ -87,7 +87,7 @@ pub fn unpaired(one: &State, two: &State) -> Option<&'static str> {
     let parts = [
         ("ψ", one.psi == two.psi),
         ("b", one.b == two.b),
-        ("B", one.big_b == two.big_b),
+        ("B", one.bmax == two.bmax),
         ("feed forward weights", negatives(forward, other_forward)),
         ("feedback weights", feedback == other_feedback),
         (

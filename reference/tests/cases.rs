@@ -91,10 +91,10 @@ fn the_lowest_sample() {
     };
     let (detail, after) = work(&state, inputs).unwrap();
     assert_eq!(detail.b, 31);
-    assert_eq!(detail.big_b, 31);
+    assert_eq!(detail.bmax, 31);
     assert_eq!(detail.stored, [-8192]);
     assert_eq!(detail.gamma, 2);
-    assert_eq!((after.b, after.big_b), (31, 31));
+    assert_eq!((after.b, after.bmax), (31, 31));
 }
 
 #[test]
@@ -336,10 +336,10 @@ fn an_all_zero_block() {
         };
         let (detail, after) = work(&state, inputs).unwrap();
         assert_eq!(detail.b, 0);
-        assert_eq!(detail.big_b, 0);
+        assert_eq!(detail.bmax, 0);
         let s = reference::numbers::scale_count(p);
         assert_eq!(detail.gamma, 1 - 30 + s);
-        assert_eq!((after.b, after.big_b), (0, 0));
+        assert_eq!((after.b, after.bmax), (0, 0));
         assert!(detail.samples.iter().all(|d| d.y == 0 && d.decision == 1));
     }
 }
@@ -355,7 +355,7 @@ fn the_previous_b_holds_b_up_for_one_block() {
             training: &[0],
         };
         assert_eq!(run(state, inputs, &mut outputs), 0);
-        (state.b, state.big_b, state.data[0])
+        (state.b, state.bmax, state.data[0])
     };
     // S(2) = 2. X = m with gain 15.
     assert_eq!(block(&mut state, 0x4000), (15, 15, 0x1000));
@@ -394,7 +394,7 @@ fn the_past_is_rescaled_from_what_was_stored() {
     let (third, after) = work(&state, inputs(&[1, -1], &[15, 15])).unwrap();
     assert_eq!(third.past, [-65 << 5, 64 << 5]);
     let (fourth, _) = work(&after, inputs(&[1, -1], &[15, 15])).unwrap();
-    assert_eq!((fourth.b, fourth.big_b), (1, 1));
+    assert_eq!((fourth.b, fourth.bmax), (1, 1));
     assert_eq!(third.stored, [1 << 5, -1 << 5]);
     assert_eq!(fourth.past, [-1 << 11, 1 << 11]);
 }
@@ -417,6 +417,6 @@ fn cut_bits_stay_lost() {
     assert_eq!(quiet.stored, [-1]);
     let (next, _) = block(&state, 1);
     // B falls from 15 to 3, so −1 becomes −2^12, not −7·2^10.
-    assert_eq!(next.big_b, 3);
+    assert_eq!(next.bmax, 3);
     assert_eq!(next.past, [-1 << 12]);
 }

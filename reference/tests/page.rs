@@ -18,8 +18,37 @@ fn file(name: &str) -> Vec<u8> {
     std::fs::read(&path).unwrap_or_else(|error| panic!("{name}: {error}"))
 }
 
+/// Whether this line goes on with the sentence of the line before it.
+fn goes_on(before: &str, line: &str) -> bool {
+    let apart =
+        |line: &str| line.is_empty() || line.starts_with(['|', '#']) || line.starts_with("    ");
+    let item = |line: &str| {
+        let word = line.trim_start().split(' ').next().unwrap_or("");
+        word == "-"
+            || word
+                .strip_suffix('.')
+                .is_some_and(|n| n.parse::<u8>().is_ok())
+    };
+    !apart(before) && !apart(line) && !item(line)
+}
+
+/// The page, each paragraph, list entry, row of a table and line of an example on one line.
 fn page() -> String {
-    String::from_utf8(file("docs/EQUALISER.md")).expect("the page is UTF-8")
+    let text = String::from_utf8(file("docs/EQUALISER.md")).expect("the page is UTF-8");
+    let mut page = String::new();
+    let mut before = "";
+    for line in text.lines() {
+        if goes_on(before, line) {
+            page.pop();
+            page += " ";
+            page += line.trim_start();
+        } else {
+            page += line;
+        }
+        page += "\n";
+        before = line;
+    }
+    page
 }
 
 fn hexadecimal(bytes: &[u8]) -> String {
@@ -73,7 +102,7 @@ fn row(place: usize, entry: (i16, u8, i8), block: &BlockDetail, d: &SampleDetail
     let cells = [
         place.to_string(),
         given,
-        format!("{}, {}, {}", block.b, block.big_b, block.gamma),
+        format!("{}, {}, {}", block.b, block.bmax, block.gamma),
         words(&d.a),
         format!("{}, {}", d.nu, words(&d.held)),
         pair(d.f, d.h),
@@ -640,7 +669,7 @@ fn lowest_row(sample: i16) -> (String, State) {
     let cells = [
         words([sample]),
         words([block.x[0]]),
-        format!("{}, {}, {}", block.b, block.big_b, block.gamma),
+        format!("{}, {}, {}", block.b, block.bmax, block.gamma),
         words([d.a[0]]),
         pair(d.y, d.xi),
         words([d.decision]),
@@ -672,7 +701,7 @@ fn the_kept_weights_are_on_the_page() {
     let said = format!(
         "weights {} and {}, a block of m = 16384 with gain 0 and no entry gives Y = {}, \
          and one of m = −16384 gives Y = {}; on its partner, weights {} and {}, \
-         m = −16384 gives {} again.\n",
+         m = −16384 gives {} again.",
         kept.weights[0],
         kept.weights[1],
         y(&kept, 16384),

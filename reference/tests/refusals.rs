@@ -2,7 +2,7 @@
 
 use reference::block::work;
 use reference::lists::Lists;
-use reference::state::PLACES;
+use reference::state::SLOTS;
 use reference::vectors::gathering::{gathering, Gathering};
 use reference::{load, run, run_by, save, set_up, trace, Inputs, Outputs, Rule, Settings, State};
 
@@ -22,7 +22,7 @@ fn record() -> State {
     let mut state = State::zeros(sizes());
     state.psi = 3;
     state.b = 20;
-    state.big_b = 22;
+    state.bmax = 22;
     state.weights = vec![16383, -16383, 5, -7, 0];
     state.data = vec![1, -1, 0, 3, -1];
     let state = state.lent();
@@ -105,8 +105,8 @@ fn unsound_records() -> Vec<State> {
     with(&|s| s.psi = 16);
     with(&|s| s.psi = 255);
     with(&|s| s.b = 23);
-    with(&|s| s.big_b = 30);
-    with(&|s| s.big_b = 255);
+    with(&|s| s.bmax = 30);
+    with(&|s| s.bmax = 255);
     for place in 0..5 {
         for w in [16384, -16384, 32767, -32768] {
             with(&move |s| s.weights[place] = w);
@@ -126,7 +126,7 @@ fn unsound_records() -> Vec<State> {
             with(&move |s| s.data[place] = v);
         }
     }
-    for place in 5..PLACES {
+    for place in 5..SLOTS {
         with(&move |s| s.weights[place] = 1);
         with(&move |s| s.data[place] = -1);
     }
@@ -224,7 +224,7 @@ fn the_sound_neighbours_pass() {
     with(&|s| s.psi = 0);
     with(&|s| s.b = 22);
     with(&|s| {
-        s.big_b = 29;
+        s.bmax = 29;
         s.b = 29;
     });
     with(&|s| s.data[0] = 1023);

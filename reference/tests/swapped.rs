@@ -160,7 +160,7 @@ impl Seen {
         for &a in &detail.stored {
             self.stored[(a.signum() + 1) as usize] += 1;
         }
-        let places = detail.big_b - i32::from(before.big_b);
+        let places = detail.bmax - i32::from(before.bmax);
         for &a in before.past_samples() {
             let cut = !Dyadic::new(a.into(), -places).is_whole();
             self.cut[usize::from(a > 0)] += u64::from(cut);
@@ -251,7 +251,7 @@ type Wrong = (&'static str, fn(&mut State));
 const WRONG_PARTNERS: [Wrong; 8] = [
     ("ψ", |state| state.psi ^= 1),
     ("b", |state| state.b = state.b.saturating_sub(1)),
-    ("B", |state| state.big_b += 1),
+    ("B", |state| state.bmax += 1),
     ("feed forward weights", |state| {
         let p = usize::from(state.settings.p);
         state.weights[..p].iter_mut().for_each(|w| *w = -*w);
@@ -342,7 +342,7 @@ fn the_lowest_sample_has_no_negative() {
         let (handed, state) = one_sample(&fresh, sample, 1);
         assert_eq!(handed_out(&handed), outputs, "{sample}");
         let mut wanted = State::zeros(worked_settings());
-        (wanted.b, wanted.big_b) = (b, b);
+        (wanted.b, wanted.bmax) = (b, b);
         (wanted.weights, wanted.data) = (vec![weight, 0], vec![0, 1]);
         assert_eq!(state, wanted, "{sample}");
         after.push(state);

@@ -6,7 +6,7 @@ mod wrong_trial;
 use reference::lists::Lists;
 use reference::numbers::scale_count;
 use reference::random::{Aim, Random};
-use reference::state::PLACES;
+use reference::state::SLOTS;
 use reference::vectors::block_vectors;
 use reference::{image_length, load, run, save, Inputs, Outputs, Settings, State};
 use std::cell::RefCell;
@@ -151,13 +151,13 @@ fn spoil_size(random: &mut Random, s: &mut Settings) {
 fn spoil_soundness(random: &mut Random, state: &mut State) {
     let (p, q) = (state.settings.p, state.settings.q);
     let (taps, r) = (state.settings.taps(), state.settings.r);
-    let room = 15 + i32::from(state.b) - i32::from(state.big_b) - scale_count(p);
+    let room = 15 + i32::from(state.b) - i32::from(state.bmax) - scale_count(p);
     let mut below = |end: usize| random.below(end as u64) as usize;
     let (place, tap, past, back) = (below(64), below(taps), below(p.into()), below(q.into()));
     let sign = random.sign() as i16;
     match random.below(8) {
-        0 => state.b = random.byte(state.big_b + 1, 255),
-        1 => state.big_b = random.byte(32 - state.settings.l, 255),
+        0 => state.b = random.byte(state.bmax + 1, 255),
+        1 => state.bmax = random.byte(32 - state.settings.l, 255),
         2 => state.weights[tap] = random.pick(&[16384, -16384, 32767, -32768]),
         // The filler, or the least sample that is too large.
         3 if past + 1 == p.into() => state.data[past] = sign,
@@ -226,9 +226,9 @@ fn any_call(random: &mut Random) -> Call {
         settings,
         psi: random.byte(0, 255),
         b: random.byte(0, 255),
-        big_b: random.byte(0, 255),
-        weights: random.list(PLACES, |bits| bits as i16),
-        data: random.list(PLACES, |bits| bits as i16),
+        bmax: random.byte(0, 255),
+        weights: random.list(SLOTS, |bits| bits as i16),
+        data: random.list(SLOTS, |bits| bits as i16),
     };
     Call { state, lists }
 }

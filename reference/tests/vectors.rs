@@ -35,7 +35,7 @@ impl Reader<'_> {
             },
             psi: h[5],
             b: h[6],
-            big_b: h[7],
+            bmax: h[7],
             weights: places(),
             data: places(),
         }
@@ -350,7 +350,7 @@ fn images_replay() {
 /// bytes.
 fn reasons(image: &[u8]) -> Vec<&'static str> {
     let byte = |place: usize| i32::from(image[place]);
-    let (p, r, l, psi, b, big_b) = (byte(0), byte(3), byte(4), byte(5), byte(6), byte(7));
+    let (p, r, l, psi, b, bmax) = (byte(0), byte(3), byte(4), byte(5), byte(6), byte(7));
     let numbers: Vec<i32> = image[12..]
         .chunks(2)
         .map(|two| i32::from(i16::from_le_bytes([two[0], two[1]])))
@@ -359,14 +359,14 @@ fn reasons(image: &[u8]) -> Vec<&'static str> {
     let (samples, rest) = data.split_at(p as usize - 1);
     let (filler, symbols) = rest.split_at(1);
     let s = (1..).find(|&s| 1 << s >= 2 * p).unwrap();
-    let room = (15 + b - big_b - s).clamp(0, 62);
+    let room = (15 + b - bmax - s).clamp(0, 62);
     let even = |v: &i32| *v != 0 && v % 2 == 0;
     let large = |v: &i32| v % 2 != 0 && v.abs() >= 2 << r;
     let other = |w: &i32| w.abs() > 16384 && *w != -32768;
     let found = [
         (psi > 15, "psi"),
-        (b > big_b, "b above B"),
-        (big_b + l > 31, "B + L above 31"),
+        (b > bmax, "b above B"),
+        (bmax + l > 31, "B + L above 31"),
         (weights.contains(&16384), "weight 16384"),
         (weights.contains(&-16384), "weight -16384"),
         (weights.contains(&-32768), "weight -32768"),

@@ -27,23 +27,23 @@ fn whole(list: &[i16]) -> Vec<i128> {
 pub fn detail(library: &dyn Operations, block: &Accepted) -> Result<BlockDetail, String> {
     let settings = settings_of(&block.before);
     let records = records(library, block)?;
-    let (b, big_b) = (i32::from(block.after.b), i32::from(block.after.big));
+    let (b, bmax) = (i32::from(block.after.b), i32::from(block.after.bmax));
     let s = scale_count(settings.p);
     let gains = &block.lists.gains;
     let sample = |(&m, &g)| scaled_sample(m, g);
     let x: Vec<i128> = block.lists.m.iter().zip(gains).map(sample).collect();
-    let cut = |x: &i128| Dyadic::new(*x, 15 - big_b - s).cut();
+    let cut = |x: &i128| Dyadic::new(*x, 15 - bmax - s).cut();
     let mut stored: Vec<i128> = x.iter().map(cut).collect();
     for (end, record) in records.iter().enumerate().skip(1) {
         let past = record.iter().flat_map(samples_of);
         let newest_first = stored[..end].iter_mut().rev();
         newest_first.zip(past).for_each(|(a, seen)| *a = seen);
     }
-    let past = rescaled(&block.before, block.after.big);
+    let past = rescaled(&block.before, block.after.bmax);
     let mut detail = BlockDetail {
         b,
-        big_b,
-        gamma: i32::from(settings.r) - 30 + big_b + s,
+        bmax,
+        gamma: i32::from(settings.r) - 30 + bmax + s,
         x,
         stored,
         past,
@@ -125,7 +125,7 @@ pub fn as_the_steps_give(block: &Accepted, detail: &BlockDetail) -> Result<(), S
     let settings = settings_of(&block.before);
     let largest = detail.x.iter().map(|x| x.abs()).max().unwrap_or(0);
     let b = bit_length(largest);
-    if (detail.b, detail.big_b) != (b, b.max(block.before.b.into())) {
+    if (detail.b, detail.bmax) != (b, b.max(block.before.b.into())) {
         return Err("b or B is not the number that its step gives".to_string());
     }
     let s = scale_count(settings.p);

@@ -7,7 +7,7 @@ use std::io::{Read, Write as _};
 use std::path::Path;
 use std::str::FromStr;
 use tigbulode::calls::{Call, CallOfLists, Lists};
-use tigbulode::{Equaliser, PLACES};
+use tigbulode::{Equaliser, SLOTS};
 
 /// The first line of every file.
 pub const HEADING: &str = "tigbulode calls 1";
@@ -32,7 +32,7 @@ pub fn words<T: ToString>(list: &[T]) -> String {
 
 /// The bytes of a record as the library has it in memory.
 fn record_bytes(e: &Equaliser) -> Vec<u8> {
-    let mut bytes = vec![e.p, e.q, e.n, e.r, e.l, e.psi, e.b, e.big];
+    let mut bytes = vec![e.p, e.q, e.n, e.r, e.l, e.psi, e.b, e.bmax];
     bytes.extend(e.step.to_le_bytes());
     for place in e.weights.iter().chain(&e.past) {
         bytes.extend(place.to_le_bytes());
@@ -110,7 +110,7 @@ fn bytes(word: &str) -> Result<Vec<u8>, String> {
 
 fn record(word: &str) -> Result<Equaliser, String> {
     let bytes = bytes(word)?;
-    if bytes.len() != 12 + 4 * PLACES {
+    if bytes.len() != 12 + 4 * SLOTS {
         return Err(format!("a record of {} bytes", bytes.len()));
     }
     let place = |at: usize| i16::from_le_bytes([bytes[at], bytes[at + 1]]);
@@ -122,10 +122,10 @@ fn record(word: &str) -> Result<Equaliser, String> {
         l: bytes[4],
         psi: bytes[5],
         b: bytes[6],
-        big: bytes[7],
+        bmax: bytes[7],
         step: u32::from_le_bytes([bytes[8], bytes[9], bytes[10], bytes[11]]),
         weights: std::array::from_fn(|i| place(12 + 2 * i)),
-        past: std::array::from_fn(|i| place(12 + 2 * (PLACES + i))),
+        past: std::array::from_fn(|i| place(12 + 2 * (SLOTS + i))),
     })
 }
 

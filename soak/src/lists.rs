@@ -342,8 +342,8 @@ impl Lister {
         let mut e = record_of(&reference::State::zeros(settings));
         let psi = random.byte(0, 15);
         e.psi = random.pick(&[0, 0, 1, psi]);
-        e.big = 30 - e.l;
-        e.b = e.big;
+        e.bmax = 30 - e.l;
+        e.b = e.bmax;
         let (p, taps) = (usize::from(e.p), settings.taps());
         let [weight, forward, back] = [(); 3].map(|()| random.sign() as i16);
         let bound = (1i16 << (15 - scale_count(e.p))) - 1;

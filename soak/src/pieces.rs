@@ -25,23 +25,23 @@ pub struct Accepted<'a> {
 pub const OUTPUTS: [&str; 5] = ["Y", "xi", "decision", "Z", "theta"];
 
 /// The past samples of a record at another B.
-pub fn rescaled(record: &Equaliser, big: u8) -> Vec<i128> {
-    let places = i32::from(record.big) - i32::from(big);
+pub fn rescaled(record: &Equaliser, bmax: u8) -> Vec<i128> {
+    let places = i32::from(record.bmax) - i32::from(bmax);
     let past = record.past[..usize::from(record.p) - 1].iter();
     past.map(|&a| Dyadic::new(a.into(), places).cut()).collect()
 }
 
 /// The record that a piece of `n` samples starts from.
-fn start(record: &Equaliser, n: usize, big: u8) -> Option<Equaliser> {
+fn start(record: &Equaliser, n: usize, bmax: u8) -> Option<Equaliser> {
     let mut start = *record;
     start.n = u8::try_from(n).ok()?;
-    if big > record.big {
-        for (place, a) in start.past.iter_mut().zip(rescaled(record, big)) {
+    if bmax > record.bmax {
+        for (place, a) in start.past.iter_mut().zip(rescaled(record, bmax)) {
             *place = i16::try_from(a).ok()?;
         }
-        start.big = big;
+        start.bmax = bmax;
     }
-    start.b = big;
+    start.b = bmax;
     Some(start)
 }
 
@@ -62,8 +62,8 @@ fn piece(
     record: &Equaliser,
     (first, end): (usize, usize),
 ) -> Result<Equaliser, String> {
-    let big = block.after.big;
-    let mut record = start(record, end - first, big).ok_or("a past sample is too long")?;
+    let bmax = block.after.bmax;
+    let mut record = start(record, end - first, bmax).ok_or("a past sample is too long")?;
     let call = Call::Block(part_of(block.lists, first, end), None);
     let outcome = perform(library, &call, &mut record);
     if outcome.number != 0 {
@@ -74,7 +74,7 @@ fn piece(
             return Err(format!("{name} of a piece differs from the block's"));
         }
     }
-    if record.big != big {
+    if record.bmax != bmax {
         return Err("B of a piece differs from the block's".to_string());
     }
     record.n = block.before.n;

@@ -438,7 +438,7 @@ fn exponent_and_gain(view: &View) -> Panel {
 
 fn lengths(view: &View) -> Panel {
     let block = view.means(|x| Some(x.record.b.into()));
-    let window = view.means(|x| Some(x.record.big.into()));
+    let window = view.means(|x| Some(x.record.bmax.into()));
     let (low, high) = ends(&window, f64::INFINITY, f64::NEG_INFINITY);
     let (low, high) = ends(&block, low, high);
     let mut curves = line(&window, WIDE, Some("B"));

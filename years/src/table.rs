@@ -106,7 +106,7 @@ fn row(given: &Assumptions, reading: &Reading) -> String {
     fields.extend([largest_forward, largest_back].map(|of| format!("{:.6}", of(reading))));
     let record = &reading.record;
     let gains = [reading.gain_least, reading.gain_most];
-    fields.extend([record.psi, record.b, record.big].map(|n| n.to_string()));
+    fields.extend([record.psi, record.b, record.bmax].map(|n| n.to_string()));
     fields.extend(gains.map(|n| n.to_string()));
     fields.push(reading.clipped.to_string());
     let marks = [reading.loud, reading.faint, reading.joint, reading.saved];

@@ -1,7 +1,7 @@
 //! A list of calls, made one by one from the state that the list has led to.
 
 use crate::sides::{record_of, settings_of};
-use crate::{Equaliser, IMAGE_BYTES, PLACES};
+use crate::{Equaliser, IMAGE_BYTES, SLOTS};
 use reference::random::Random;
 use reference::{image_length, Settings, State};
 
@@ -257,18 +257,18 @@ impl Maker {
         let (p, taps) = (usize::from(e.p), usize::from(e.p + e.q));
         let tap = self.random.below(taps as u64) as usize;
         let symbol = self.random.between(p as i64, taps as i64 - 1) as usize;
-        let spare = taps.min(PLACES - 1);
+        let spare = taps.min(SLOTS - 1);
         match self.random.below(10) {
             0 => e.psi = self.random.byte(16, 255),
-            1 => e.b = e.big + 1,
-            2 => (e.b, e.big) = (32 - e.l, 32 - e.l),
+            1 => e.b = e.bmax + 1,
+            2 => (e.b, e.bmax) = (32 - e.l, 32 - e.l),
             3 => e.weights[tap] = self.random.pick(&[16384, -16384, 32767, -32768]),
             4 => e.past[0] = self.random.pick(&[-32768, 32767, 16384]),
             5 => e.past[p - 1] = self.random.pick(&[1, -1, 256]),
             6 => e.past[symbol] = self.random.pick(&[2, -2, 17, -17, 256]),
             7 => e.weights[self.random.between(spare as i64, 31) as usize] = -32768,
             8 => e.past[self.random.between(spare as i64, 31) as usize] = 256,
-            _ => (e.b, e.big) = (255, 255),
+            _ => (e.b, e.bmax) = (255, 255),
         }
     }
 
@@ -282,7 +282,7 @@ impl Maker {
             l: any() as u8,
             psi: any() as u8,
             b: any() as u8,
-            big: any() as u8,
+            bmax: any() as u8,
             step: any() as u32,
             weights: std::array::from_fn(|_| any() as i16),
             past: std::array::from_fn(|_| any() as i16),
@@ -378,8 +378,8 @@ impl Maker {
 /// The image of any record, sound or not, with all its taps if they fit its
 /// places.
 pub fn raw_image(e: &Equaliser) -> Vec<u8> {
-    let taps = PLACES.min(usize::from(e.p) + usize::from(e.q));
-    let mut bytes = vec![e.p, e.q, e.n, e.r, e.l, e.psi, e.b, e.big];
+    let taps = SLOTS.min(usize::from(e.p) + usize::from(e.q));
+    let mut bytes = vec![e.p, e.q, e.n, e.r, e.l, e.psi, e.b, e.bmax];
     bytes.extend(e.step.to_le_bytes());
     for place in e.weights[..taps].iter().chain(&e.past[..taps]) {
         bytes.extend(place.to_le_bytes());

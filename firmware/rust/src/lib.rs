@@ -29,7 +29,7 @@ pub mod station;
 pub use number::number_text;
 
 /// The version of the interface, that of `tigbulode.h`.
-pub const VERSION: &str = "1.0";
+pub const VERSION: &str = "2.0";
 /// The most taps of one filter.
 pub const MOST_TAPS: u8 = 16;
 /// The most samples of a block.
@@ -42,8 +42,8 @@ pub const MOST_GAIN: u8 = 15;
 pub const MOST_EXPONENT: u8 = 15;
 /// The greatest magnitude of a stored weight.
 pub const MOST_WEIGHT: i16 = 16383;
-/// The places for weights, and as many for data: the taps of both filters.
-pub const PLACES: usize = 32;
+/// The slots for weights, and as many for data: the taps of both filters.
+pub const SLOTS: usize = 32;
 /// The length of an image's sizes and M.
 pub const HEADER_BYTES: usize = 12;
 /// The length of the longest image.
@@ -61,11 +61,12 @@ pub struct Equaliser {
     pub l: u8,
     pub psi: u8,
     pub b: u8,
-    pub big: u8,
+    /// The last block's B: the larger of its b and the previous block's b.
+    pub bmax: u8,
     /// M: the step size is M / 2^30.
     pub step: u32,
-    pub weights: [i16; PLACES],
-    pub past: [i16; PLACES],
+    pub weights: [i16; SLOTS],
+    pub past: [i16; SLOTS],
 }
 
 /// A number beside a state.

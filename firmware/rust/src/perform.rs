@@ -185,7 +185,7 @@ fn plain(name: &'static str, numbers: Vec<i64>) -> Part {
 /// The numbers of a record in the image's order: eight bytes, M, 32 weights,
 /// 32 data.
 fn numbers_of(e: &Equaliser) -> Vec<i64> {
-    let bytes = [e.p, e.q, e.n, e.r, e.l, e.psi, e.b, e.big];
+    let bytes = [e.p, e.q, e.n, e.r, e.l, e.psi, e.b, e.bmax];
     let mut numbers: Vec<i64> = bytes.map(i64::from).to_vec();
     numbers.push(e.step.into());
     numbers.extend(e.weights.map(i64::from));

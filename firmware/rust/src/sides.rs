@@ -128,7 +128,7 @@ pub fn state_of(e: &Equaliser) -> State {
         settings: settings_of(e),
         psi: e.psi,
         b: e.b,
-        big_b: e.big,
+        bmax: e.bmax,
         weights: e.weights.to_vec(),
         data: e.past.to_vec(),
     }
@@ -146,7 +146,7 @@ pub fn record_of(state: &State) -> Equaliser {
         l: lent.settings.l,
         psi: lent.psi,
         b: lent.b,
-        big: lent.big_b,
+        bmax: lent.bmax,
         step: lent.settings.m,
         weights: places(lent.weights),
         past: places(lent.data),

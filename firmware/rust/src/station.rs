@@ -278,11 +278,11 @@ impl Station<'_> {
             sum = out.add_to(sum);
         }
         let kind = if trained { "trained" } else { "decided" };
-        let Equaliser { psi, b, big, .. } = self.record;
+        let Equaliser { psi, b, bmax, .. } = self.record;
         let last = first + 15;
         let blocks = format!("{kind} blocks {first} to {last}: wrong decisions {wrong} of 256");
         self.line(format!(
-            "{blocks}, psi {psi}, b {b}, B {big}, outputs {sum:08X}"
+            "{blocks}, psi {psi}, b {b}, B {bmax}, outputs {sum:08X}"
         ));
     }
 
@@ -419,10 +419,10 @@ impl Station<'_> {
             l: 0xFF,
             psi: 0xFF,
             b: 0xFF,
-            big: 0xFF,
+            bmax: 0xFF,
             step: u32::MAX,
-            weights: [-1; crate::PLACES],
-            past: [-1; crate::PLACES],
+            weights: [-1; crate::SLOTS],
+            past: [-1; crate::SLOTS],
         };
         self.line("power lost".to_string());
         self.refuse_block(

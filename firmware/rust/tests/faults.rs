@@ -102,7 +102,7 @@ impl Operations for Faulty {
         let number = Second.run(s, block, Outputs { y, xi, ..out });
         match (self.fault, number) {
             (Fault::Frozen, 0) => (s.weights, s.psi) = (before.weights, before.psi),
-            (Fault::LostB, 0) => s.b = s.big,
+            (Fault::LostB, 0) => s.b = s.bmax,
             (Fault::Marked(wanted), _) if wanted == number => cleared(xi),
             (Fault::Early, 0) if s.psi == 15 && before.psi < 15 => {
                 *s = before;

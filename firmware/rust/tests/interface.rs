@@ -4,9 +4,10 @@
 use reference::Settings;
 use tigbulode::sides::{Library, Operations, Second};
 use tigbulode::{check_sum, greatest_step, image_length, number_text};
-use tigbulode::{set_up, Equaliser, IMAGE_BYTES, PLACES, VERSION};
+use tigbulode::{set_up, Equaliser, IMAGE_BYTES, SLOTS, VERSION};
 
 const HEADER: &str = include_str!("../../tigbulode.h");
+const README: &str = include_str!("../../README.md");
 const STORED: &str = include_str!("../../interface.out");
 
 /// All sizes up to one more than their limits: p, q, r, L.
@@ -78,7 +79,7 @@ fn the_image_length_is_the_librarys() {
 fn any_state(p: u8, q: u8) -> Equaliser {
     let step = greatest_step(p, q, 3, 0).unwrap();
     let mut s = set_up(p, q, 128, 3, 0, step).state;
-    (s.psi, s.b, s.big) = (7, 29, 30);
+    (s.psi, s.b, s.bmax) = (7, 29, 30);
     let (p, q) = (usize::from(p), usize::from(q));
     let fill = |places: &mut [i16], first: i16, apart: i16| {
         let values = (0..).map(|i| first + i * apart);
@@ -126,23 +127,23 @@ const NOTHING: Equaliser = Equaliser {
     l: 255,
     psi: 255,
     b: 255,
-    big: 255,
+    bmax: 255,
     step: u32::MAX,
-    weights: [0; PLACES],
-    past: [-1; PLACES],
+    weights: [0; SLOTS],
+    past: [-1; SLOTS],
 };
 
 #[test]
 fn the_largest_weight_is_that_of_every_place() {
     assert_eq!(NOTHING.largest_weight(), 0);
-    for place in 0..PLACES {
+    for place in 0..SLOTS {
         let mut s = NOTHING;
         for value in i16::MIN..=i16::MAX {
             s.weights[place] = value;
             assert_eq!(i32::from(s.largest_weight()), i32::from(value).abs());
         }
         s.weights[place] = -300;
-        for other in (0..PLACES).filter(|other| *other != place) {
+        for other in (0..SLOTS).filter(|other| *other != place) {
             let mut s = s;
             s.weights[other] = 299;
             assert_eq!(s.largest_weight(), 300);
@@ -203,7 +204,8 @@ fn the_header_has_the_same_version_and_sizes() {
     assert!(HEADER.contains(&format!("#define TIGBULODE_VERSION_MAJOR {major}\n")));
     assert!(HEADER.contains(&format!("#define TIGBULODE_VERSION_MINOR {minor}\n")));
     assert_eq!(env!("CARGO_PKG_VERSION"), format!("{VERSION}.0"));
-    assert!(HEADER.contains(&format!("TIGBULODE_PLACES = {PLACES},")));
+    assert!(README.contains(&format!("The version of the interface is {VERSION}.")));
+    assert!(HEADER.contains(&format!("TIGBULODE_SLOTS = {SLOTS},")));
     assert!(HEADER.contains(&format!("TIGBULODE_IMAGE_BYTES = {IMAGE_BYTES} ")));
 }
 

@@ -40,31 +40,33 @@ fn the_cables() {
 
 /// How many changed expectations readings.c has for a vector: another number,
 /// another sort of power, two other powers, a bit on either side of the
-/// readings, two in them, and a bit of each list that has one.
+/// readings, three in them, and a bit of each list that has one.
 fn changes_of_readings(vector: &ReadingsVector) -> usize {
     let lists = &vector.lists;
-    let two = 2 * usize::from(lists.readings > 0);
+    let three = 3 * usize::from(lists.readings > 0);
     let lengths = [
         lists.y.len(),
         lists.xi.len(),
         lists.z.len(),
         lists.theta.len(),
     ];
-    6 + two + lengths.iter().filter(|&&length| length > 0).count()
+    6 + three + lengths.iter().filter(|&&length| length > 0).count()
 }
 
 #[test]
 fn the_readings() {
     let blocks = readings_vectors();
-    let good: Vec<_> = blocks.iter().filter(|block| block.number == 0).collect();
+    let (good, other): (Vec<_>, Vec<_>) = blocks.iter().partition(|block| block.number == 0);
     let floors = good.iter().filter(|block| block.is_floor).count();
     let read: Vec<_> = good.iter().flat_map(|block| &block.readings).collect();
     let zero = |part: usize| read.iter().filter(|bits| bits[part] == 0).count();
     let (all, accepted) = (blocks.len(), good.len());
+    let nans: usize = other.iter().map(|block| 2 * block.lists.readings).sum();
     let changes: usize = blocks.iter().map(changes_of_readings).sum();
     let text = format!(
         "blocks {all}: accepted {accepted}, turned down {}\nmeans {}, floors {floors}\n\
          readings {}: zero in y {}, in the error {}\n\
+         NaNs lent to blocks that were turned down: {nans}, every bit as it was\n\
          changed expectations told apart: {changes} of {changes}\nno difference\n",
         all - accepted,
         accepted - floors,

@@ -6,7 +6,7 @@ use crate::image::header;
 use crate::numbers::{bit_length, scale_count, Dyadic};
 use crate::random::{Aim, Loudness, Random};
 use crate::settings::Settings;
-use crate::state::{State, PLACES};
+use crate::state::{State, SLOTS};
 
 /// A block on a lent record with its answer.
 #[derive(Clone, Debug)]
@@ -27,8 +27,8 @@ pub struct BlockVector {
 
 /// A record: 12 bytes as in the image, 32 weights, 32 data.
 fn record(state: &State) -> Vec<u8> {
-    assert_eq!(state.weights.len(), PLACES);
-    assert_eq!(state.data.len(), PLACES);
+    assert_eq!(state.weights.len(), SLOTS);
+    assert_eq!(state.data.len(), SLOTS);
     let mut bytes = header(state).to_vec();
     for a in state.weights.iter().chain(&state.data) {
         bytes.extend(a.to_le_bytes());
@@ -228,8 +228,8 @@ fn records_at_their_bounds(all: &mut Collection) {
             let settings = settings.with_m(settings.largest_m());
             let mut state = State::zeros(settings);
             state.psi = psi;
-            state.big_b = 31 - settings.l;
-            state.b = state.big_b;
+            state.bmax = 31 - settings.l;
+            state.b = state.bmax;
             // Every place at its bound, with the weights' signs alternating
             // in some, agreeing with the data in others, and any in the rest.
             let style = all.random.below(3);
@@ -263,7 +263,7 @@ fn records_at_their_bounds(all: &mut Collection) {
 }
 
 fn rescaled_past(all: &mut Collection) {
-    for (b, big_b, loudness) in [
+    for (b, bmax, loudness) in [
         (31, 31, Loudness::Zero),
         (31, 31, Loudness::Lowest),
         (20, 31, Loudness::Faint),
@@ -291,8 +291,8 @@ fn rescaled_past(all: &mut Collection) {
             let settings = settings.with_m(settings.largest_m());
             let mut state = all.random.sound_state(settings);
             state.psi = 1;
-            (state.b, state.big_b) = (b, big_b);
-            let room = 15 + i32::from(b) - i32::from(big_b) - scale_count(p);
+            (state.b, state.bmax) = (b, bmax);
+            let room = 15 + i32::from(b) - i32::from(bmax) - scale_count(p);
             let bound = if room > 0 { (1i64 << room) - 1 } else { 0 };
             for place in 0..usize::from(p) - 1 {
                 let a = all.random.sign() * (bound - (place as i64 / 4).min(bound));
@@ -344,8 +344,8 @@ fn cut_errors(all: &mut Collection) {
             let mut state = all.random.sound_state(settings);
             state.psi = 0;
             // γ is at most 9; a B of some 25 brings it beside ν.
-            state.big_b = state.big_b.min(24);
-            state.b = state.big_b;
+            state.bmax = state.bmax.min(24);
+            state.b = state.bmax;
             let p = usize::from(settings.p);
             for place in p..settings.taps() {
                 state.data[place] = all.random.pick(&[0, 1, -1]);
@@ -664,14 +664,14 @@ fn unsound_records(all: &mut Collection) {
     let changes: [Change; 30] = [
         |s, _| s.psi = 16,
         |s, _| s.psi = 255,
-        |s, _| s.b = s.big_b + 1,
+        |s, _| s.b = s.bmax + 1,
         |s, _| s.b = 255,
         |s, _| {
-            s.big_b = 32 - s.settings.l;
-            s.b = s.big_b;
+            s.bmax = 32 - s.settings.l;
+            s.b = s.bmax;
         },
-        |s, _| s.big_b = 255,
-        |s, _| (s.b, s.big_b) = (255, 255),
+        |s, _| s.bmax = 255,
+        |s, _| (s.b, s.bmax) = (255, 255),
         |s, _| s.weights[0] = 16384,
         |s, _| s.weights[0] = -16384,
         |s, _| s.weights[s.settings.taps() - 1] = 16384,
@@ -683,20 +683,20 @@ fn unsound_records(all: &mut Collection) {
         },
         // A stored sample at its bound, with b = B and with less room.
         |s, _| {
-            s.b = s.big_b;
+            s.b = s.bmax;
             s.data[0] = 1 << (15 - scale_count(s.settings.p));
         },
         |s, _| {
-            s.b = s.big_b;
+            s.b = s.bmax;
             s.data[usize::from(s.settings.p) - 2] = -(1 << (15 - scale_count(s.settings.p)));
         },
         |s, _| {
-            (s.b, s.big_b) = (3, 6);
+            (s.b, s.bmax) = (3, 6);
             s.data[..usize::from(s.settings.p) - 1].fill(0);
             s.data[0] = 1 << (12 - scale_count(s.settings.p));
         },
         |s, _| {
-            (s.b, s.big_b) = (0, 16);
+            (s.b, s.bmax) = (0, 16);
             s.data[..usize::from(s.settings.p) - 1].fill(0);
             s.data[0] = -1;
         },
@@ -710,11 +710,11 @@ fn unsound_records(all: &mut Collection) {
         |s, _| s.data[s.settings.taps() - 1] = -32768,
         // Spare places.
         |s, _| s.weights[s.settings.taps()] = 1,
-        |s, _| s.weights[PLACES - 1] = -1,
+        |s, _| s.weights[SLOTS - 1] = -1,
         |s, _| s.data[s.settings.taps()] = 1,
-        |s, _| s.data[PLACES - 1] = -32768,
+        |s, _| s.data[SLOTS - 1] = -32768,
         |s, random| {
-            let spare = (PLACES - s.settings.taps()) as u64;
+            let spare = (SLOTS - s.settings.taps()) as u64;
             let place = s.settings.taps() + random.below(spare) as usize;
             s.data[place] = 256;
         },
@@ -734,7 +734,7 @@ fn unsound_records(all: &mut Collection) {
     for _ in 0..6 {
         let mut call = good_call(all);
         let settings = call.state.settings;
-        call.state.b = call.state.big_b;
+        call.state.b = call.state.bmax;
         let bound = (1i16 << (15 - scale_count(settings.p))) - 1;
         call.state.data[0] = bound;
         call.state.weights[0] = -16383;

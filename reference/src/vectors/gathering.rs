@@ -56,7 +56,7 @@ pub fn gathering(size: i16, larger: usize) -> Gathering {
         m: 0,
     };
     let mut state = State::zeros(settings.with_m(settings.largest_m()));
-    (state.psi, state.b, state.big_b) = (15, 30, 30);
+    (state.psi, state.b, state.bmax) = (15, 30, 30);
     for (place, sign) in signs(WEIGHTS).into_iter().enumerate() {
         state.weights[place] = sign * (size + i16::from(place < larger));
     }

@@ -141,7 +141,7 @@ fn good_images(all: &mut Collection) {
             let mut state = State::zeros(settings.with_m(settings.largest_m()));
             state.psi = 15;
             state.b = 31 - l;
-            state.big_b = 31 - l;
+            state.bmax = 31 - l;
             state.weights.fill(16383 * sign);
             let bound = (1i16 << (15 - scale_count(p))) - 1;
             let forward = usize::from(p);
@@ -250,14 +250,14 @@ fn unsound_images(all: &mut Collection) {
         |s, _| s.psi = 16,
         |s, _| s.psi = 128,
         |s, _| s.psi = 255,
-        |s, _| s.b = s.big_b + 1,
+        |s, _| s.b = s.bmax + 1,
         |s, _| s.b = 255,
         |s, _| {
-            s.big_b = 32 - s.settings.l;
-            s.b = s.big_b;
+            s.bmax = 32 - s.settings.l;
+            s.b = s.bmax;
         },
-        |s, _| s.big_b = 255,
-        |s, _| (s.b, s.big_b) = (255, 255),
+        |s, _| s.bmax = 255,
+        |s, _| (s.b, s.bmax) = (255, 255),
         |s, _| s.weights[0] = 16384,
         |s, _| s.weights[0] = -16384,
         |s, random| {
@@ -271,20 +271,20 @@ fn unsound_images(all: &mut Collection) {
         |s, _| s.weights[s.settings.taps() - 1] = -16384,
         |s, _| s.weights[s.settings.taps() - 1] = 32767,
         |s, _| {
-            s.b = s.big_b;
+            s.b = s.bmax;
             s.data[0] = 1 << (15 - scale_count(s.settings.p));
         },
         |s, _| {
-            s.b = s.big_b;
+            s.b = s.bmax;
             s.data[usize::from(s.settings.p) - 2] = -(1 << (15 - scale_count(s.settings.p)));
         },
         |s, _| {
-            (s.b, s.big_b) = (3, 6);
+            (s.b, s.bmax) = (3, 6);
             s.data[..usize::from(s.settings.p) - 1].fill(0);
             s.data[0] = -(1 << (12 - scale_count(s.settings.p)));
         },
         |s, _| {
-            (s.b, s.big_b) = (0, 16);
+            (s.b, s.bmax) = (0, 16);
             s.data[..usize::from(s.settings.p) - 1].fill(0);
             s.data[0] = 1;
         },
@@ -349,13 +349,13 @@ fn every_length_of_samples(all: &mut Collection) {
         };
         let mut state = State::zeros(settings);
         state.psi = l;
-        state.big_b = 31 - l;
+        state.bmax = 31 - l;
         all.expect("the largest B", raw_image(&state), 0);
-        state.b = state.big_b;
+        state.b = state.bmax;
         all.expect("the largest b and B", raw_image(&state), 0);
-        state.b = state.big_b + 1;
+        state.b = state.bmax + 1;
         all.expect("b above B", raw_image(&state), 9);
-        (state.b, state.big_b) = (0, 32 - l);
+        (state.b, state.bmax) = (0, 32 - l);
         all.expect("B above 31 - L", raw_image(&state), 9);
     }
 }
@@ -372,7 +372,7 @@ fn every_place(all: &mut Collection) {
         m: 7,
     };
     let mut zeros = State::zeros(settings);
-    (zeros.b, zeros.big_b) = (20, 20);
+    (zeros.b, zeros.bmax) = (20, 20);
     for sign in [1, -1] {
         for place in 0..32 {
             let mut state = zeros.clone();

@@ -110,12 +110,12 @@ fn entry(v: i64, r: u8) -> bool {
 
 fn sound(state: &State, fault: &str) -> bool {
     let (s, p) = (&state.settings, usize::from(state.settings.p));
-    if state.psi > 15 || state.b > state.big_b || state.big_b > 31 - s.l {
+    if state.psi > 15 || state.b > state.bmax || state.bmax > 31 - s.l {
         return false;
     }
     let (weights, spare) = state.weights.split_at(s.taps());
     let (data, more) = state.data.split_at(s.taps());
-    let reach = i64::from(state.big_b) + count(s.p);
+    let reach = i64::from(state.bmax) + count(s.p);
     let small = |a: &i16| i64::from(*a).abs() << reach < 1 << (15 + state.b);
     let zeros = spare.iter().chain(more).all(|&place| place == 0);
     weights.iter().all(|w| (-16383..=16383).contains(w))
@@ -305,9 +305,9 @@ fn block(given: &State, inputs: Inputs<'_>, fault: &str) -> (u8, State, Vec<[i64
     let received = inputs.samples.iter().zip(inputs.gains);
     let x: Vec<i64> = received.map(|(&m, &g)| i64::from(m) << (15 - g)).collect();
     let b = x.iter().map(|&x| bits(x)).max().unwrap_or(0);
-    let big_b = b.max(given.b.into());
-    let gamma = i64::from(s.r) - 30 + big_b + scale;
-    let mut walk = Walk::start(given, i64::from(given.big_b) - big_b, fault);
+    let bmax = b.max(given.b.into());
+    let gamma = i64::from(s.r) - 30 + bmax + scale;
+    let mut walk = Walk::start(given, i64::from(given.bmax) - bmax, fault);
     let mut handed = Vec::new();
     let most = match fault {
         "6 goes unseen" => 255,
@@ -315,12 +315,12 @@ fn block(given: &State, inputs: Inputs<'_>, fault: &str) -> (u8, State, Vec<[i64
         _ => 15,
     };
     for (&x, &t) in x.iter().zip(inputs.training) {
-        let before = walk.state(given, b, big_b);
+        let before = walk.state(given, b, bmax);
         if !entry(t.into(), s.r) {
             return (5, before, handed);
         }
         let down = fault == "samples are rounded down";
-        walk.samples.insert(0, cut(x, 15 - big_b - scale, down));
+        walk.samples.insert(0, cut(x, 15 - bmax - scale, down));
         walk.samples.truncate(s.p.into());
         let sample = walk.sample(s, gamma, t.into(), fault);
         if walk.psi > most {
@@ -328,7 +328,7 @@ fn block(given: &State, inputs: Inputs<'_>, fault: &str) -> (u8, State, Vec<[i64
         }
         handed.push(sample);
     }
-    (0, walk.state(given, b, big_b), handed)
+    (0, walk.state(given, b, bmax), handed)
 }
 
 impl Walk {
@@ -347,11 +347,11 @@ impl Walk {
     }
 
     /// The state that holds this, with the spare places as given.
-    fn state(&self, given: &State, b: i64, big_b: i64) -> State {
+    fn state(&self, given: &State, b: i64, bmax: i64) -> State {
         let mut state = given.clone();
         state.psi = self.psi as u8;
         state.b = b as u8;
-        state.big_b = big_b as u8;
+        state.bmax = bmax as u8;
         for (place, &w) in state.weights.iter_mut().zip(&self.weights) {
             *place = w as i16;
         }
@@ -415,7 +415,7 @@ fn hand_back(number: u8, given: &State, reached: &State, fault: &str) -> State {
         (0, "accepted, the given state comes back") => back = given.clone(),
         (0, "accepted, ψ comes back as given") => back.psi = given.psi,
         (0, "accepted, b comes back as given") => back.b = given.b,
-        (0, "accepted, B comes back as given") => back.big_b = given.big_b,
+        (0, "accepted, B comes back as given") => back.bmax = given.bmax,
         (0, "accepted, weights come back as given") => back.weights = given.weights.clone(),
         (0, "accepted, data come back as given") => back.data = given.data.clone(),
         (0, "accepted, a spare place is written") => {
@@ -437,7 +437,7 @@ fn leave(number: u8, given: &mut State, reached: &State, fault: &str) {
         (1.., "refused, the given state is fresh") => *given = State::fresh(),
         (1.., "refused, spare places are put to 0") => *given = cleared(given),
         (6, "6 advances the given state") => *given = reached.clone(),
-        (_, "the given b is put to B") => given.b = given.big_b,
+        (_, "the given b is put to B") => given.b = given.bmax,
         _ => {}
     }
 }

@@ -35,8 +35,8 @@ impl Blocks {
         self.falls_from_15 += u64::from(after.psi < 15 && before.psi == 15);
         self.falls_to_0 += u64::from(after.psi == 0 && before.psi > 0);
         self.falls_by_more += u64::from(after.psi + 1 < before.psi);
-        self.larger += u64::from(after.big > before.big);
-        self.smaller += u64::from(after.big < before.big);
+        self.larger += u64::from(after.bmax > before.bmax);
+        self.smaller += u64::from(after.bmax < before.bmax);
         self.other_b += u64::from(after.b != before.b);
     }
 
