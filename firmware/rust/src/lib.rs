@@ -49,7 +49,7 @@ pub const HEADER_BYTES: usize = 12;
 /// The length of the longest image.
 pub const IMAGE_BYTES: usize = 140;
 
-/// The equaliser record, in the saved image's order. Places at p + q and
+/// The equaliser record, in the saved image's order. Slots at p + q and
 /// beyond are spare and 0.
 #[repr(C)]
 #[derive(Clone, Copy, Debug, PartialEq, Eq)]
