@@ -6,7 +6,7 @@ use Prim.Native.Nat.{ℕ, _-_}
 use lib.Dec.{leb}
 use lib.ListN.{take}
 use lib.IntN.{ℤ}
-use Rattle.laws.specs.Lists.{overlay-all}
+use Rattle.laws.specs.Loops.{overlay-all}
 use Rattle.steps.specs.Limits.{exponentLimit}
 use Rattle.steps.specs.Settings.{Settings}
 use Rattle.filter.specs.Sample.{FilterState}

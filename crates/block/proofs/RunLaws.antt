@@ -11,7 +11,7 @@ use lib.IntN.{ℤ, pos}
 use mir.Syntax.{w64}
 use mir.Val.{Fits}
 use borrow.Author.Tests.{le-leb}
-use Rattle.laws.specs.Lists.{Written, written-none, written-next}
+use Rattle.laws.specs.Loops.{Written, written-none, written-next}
 use Rattle.laws.specs.Sums.{each-at}
 use Rattle.steps.specs.Limits.{tapLimit, blockLimit, exponentLimit}
 use Rattle.steps.specs.Sound.{lineLength}

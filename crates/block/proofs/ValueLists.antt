@@ -7,7 +7,7 @@ use native.Mathlib.Omega.{arith}
 use native.Mathlib.Nat.{eq-or-lt-of-le}
 use lib.ListN.{length, take, set, replicate, length-replicate}
 use lib.Seq.{take-all, take-append-le}
-use Rattle.laws.specs.Lists.{Written, written-next, written-all}
+use Rattle.laws.specs.Loops.{Written, written-next, written-all}
 use Rattle.block.specs.Block.{values}
 use Rattle.block.proofs.ValuesLaws.{values-length, values-at}
 

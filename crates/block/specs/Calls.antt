@@ -5,7 +5,7 @@ use mathlib.Core.List.{List, [], _∷_, _++_}
 use Prim.Native.Nat.{ℕ, zero, suc, _+_, _-_, _≤_, _<_, max}
 use lib.ListN.{length, take}
 use lib.IntN.{ℤ, pos}
-use Rattle.laws.specs.Lists.{overlay}
+use Rattle.laws.specs.Loops.{overlay}
 use Rattle.laws.specs.Negated.{negated}
 use Rattle.numbers.specs.BitLength.{bitLength}
 use Rattle.steps.specs.Limits.{tapLimit, blockLimit, lengthLimit}

@@ -7,7 +7,7 @@ use native.Mathlib.Omega.{arith}
 use lib.Dec.{leb}
 use lib.ListN.{length, getD}
 use borrow.Author.Tests.{le-leb, lt-leb, leb-true, leb-false}
-use Rattle.laws.specs.Lists.{Tested, tested-next}
+use Rattle.laws.specs.Loops.{Tested, tested-next}
 use Rattle.steps.specs.Limits.{gainLimit}
 use Rattle.checks.specs.Checks.{gainFits}
 

@@ -61,9 +61,9 @@ doubled-small w h = each-map (λ (x : ℤ). natAbs x < doublingLimit) Small (λ 
 
 pub normalised-small : (s : Outcome) (ψ : ℕ) (f b : List ℤ) → Says s ψ f b → Each (λ (x : ℤ). natAbs x < 2 ^ 15) f → Each (λ (x : ℤ). natAbs x < 2 ^ 15) b →
     Each Small (normalised s f) × Each Small (normalised s b)
-normalised-small keep ψ f b h Γ i = h
-normalised-small halve ψ f b h Γ i = (halved-small f Γ, halved-small b i)
-normalised-small double ψ f b h Γ i = (doubled-small f (h .1 .0), doubled-small b (h .1 .1))
+normalised-small keep ψ f b h j i = h
+normalised-small halve ψ f b h j i = (halved-small f j, halved-small b i)
+normalised-small double ψ f b h j i = (doubled-small f (h .1 .0), doubled-small b (h .1 .1))
 
 pub normalised-length : (s : Outcome) (w : List ℤ) → length (normalised s w) ≡ length w
 normalised-length keep w = refl
@@ -81,12 +81,12 @@ doubled-same ψ f b h = record { ahead = doubled-values ψ f h; behind = doubled
 
 -- weights that are small already are kept or doubled
 pub small-same : (s : Outcome) (ψ : ℕ) (f b : List ℤ) → Says s ψ f b → Each Small f → Each Small b → SameValues ψ f b (normalisedExponent s ψ) (normalised s f) (normalised s b)
-small-same keep ψ f b h Γ i = record { ahead = refl; behind = refl }
-small-same halve ψ f b h Γ i = absurd (subst T (sym (ap₂ (λ (x y : Bool). x && y) (tests f Γ) (tests b i)) ∙ h) tt)
+small-same keep ψ f b h j i = record { ahead = refl; behind = refl }
+small-same halve ψ f b h j i = absurd (subst T (sym (ap₂ (λ (x y : Bool). x && y) (tests f j) (tests b i)) ∙ h) tt)
   where
     tests : (w : List ℤ) → Each Small w → allSmall w ≡ true
-    tests w Γ = below-all halvingLimit w Γ
-small-same double ψ f b h Γ i = doubled-same ψ f b (h .0)
+    tests w j = below-all halvingLimit w j
+small-same double ψ f b h j i = doubled-same ψ f b (h .0)
 
 -- ---- ψ passes its limit only by a halving from its limit
 

@@ -38,7 +38,7 @@ stored-fits n B s b h k =
 entry-fits : (r : ℕ) (v : ℤ) → r ≤ symbolLimit → isEntry r v ≡ true → natAbs v < 2 ^ 15
 entry-fits r v h e = lt-of-lt-of-le (entry-below r v e) (rises {a = r + 1} {b = 15} (omega arith))
 
--- every spare place is 0
+-- every spare slot is 0
 pub spare-zero : (e : Equaliser) → examined e ≡ 0 → (all isZero (drop (taps e) (e .weights)) ≡ true) × (all isZero (drop (taps e) (e .past)) ≡ true)
 spare-zero e ok =
     let t = sound-tests e (examined-tests e ok .2) in

@@ -8,7 +8,7 @@ use lib.ListN.{length, getD, set, replicate, length-replicate}
 use lib.IntN.{ℤ, pos}
 use mir.Syntax.{w16}
 use mir.Val.{toZ}
-use Rattle.laws.specs.Lists.{overlay, Written, written-none, written-next}
+use Rattle.laws.specs.Loops.{overlay, Written, written-none, written-next}
 use Rattle.steps.specs.Limits.{slots}
 use Rattle.state.specs.State.{padded}
 use Rattle.image.specs.Image.{width}

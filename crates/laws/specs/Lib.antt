@@ -5,6 +5,7 @@ pub mod Polynomials
 pub mod Ring
 pub mod Powers
 pub mod Lists
+pub mod Loops
 pub mod Sums
 pub mod Machine
 pub mod Tests

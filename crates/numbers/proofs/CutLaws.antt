@@ -63,7 +63,7 @@ unfolding cut
 cut-all (pos n) k h = ap pos (div-eq-of-lt h)
 cut-all (negsuc n) k h = ap (λ (m : ℕ). negℤ (pos m)) (div-eq-of-lt h)
 
--- where m places leave nothing, no more than m are needed
+-- where m bits leave nothing, no more than m are needed
 pub cut-most : (z : ℤ) (k m : ℕ) → natAbs z < 2 ^ m → cut z (min k m) ≡ cut z k
 cut-most z k m h = go (decLe k m)
   where
@@ -138,7 +138,7 @@ pub raise-mul : (z a : ℤ) (e : ℕ) → raise z e *ℤ a ≡ raise (z *ℤ a) 
 raise-mul z a e =
     *ℤ-assoc z (pos (2 ^ e)) a ∙ ap (λ (y : ℤ). z *ℤ y) (*ℤ-comm (pos (2 ^ e)) a) ∙ sym (*ℤ-assoc z a (pos (2 ^ e)))
 
--- a factor raised, cut by as many places more
+-- a factor raised, cut by as many bits more
 pub cut-raised : (z a : ℤ) (e k m : ℕ) → k ≡ e + m → cut (raise z e *ℤ a) k ≡ cut (z *ℤ a) m
 cut-raised z a e k m h = ap (λ (y : ℤ). cut y k) (raise-mul z a e) ∙ rescale-down (z *ℤ a) e k m h
 

@@ -12,7 +12,8 @@ use lib.Seq.{take-all, length-take-le}
 use lib.Dec.{leb}
 use lib.Ieee.{Float}
 use borrow.Author.Tests.{leb-true, le-leb}
-use Rattle.laws.specs.Lists.{and-left, and-right, all, all-at, Tested, tested-none, tested-next, tested-all}
+use Rattle.laws.specs.Lists.{and-left, and-right, all, all-at}
+use Rattle.laws.specs.Loops.{Tested, tested-none, tested-next, tested-all}
 use Rattle.laws.specs.Sums.{Each}
 use Rattle.laws.specs.Tests.{tested-each}
 use Rattle.steps.specs.Limits.{blockLimit, outputExponentLimit}

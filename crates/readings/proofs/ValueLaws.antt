@@ -26,7 +26,7 @@ unlike-false : (s : Bool) → unlike s false ≡ s
 unlike-false true = refl
 unlike-false false = refl
 
--- the leading digit, the field and 30 − e are 1074 places together
+-- the leading digit, the field and 30 − e are 1074 together
 scaled : (a n k : ℕ) → 1074 ≡ 52 + (n + k) → a * (2 ^ 52 * 2 ^ n) * 2 ^ k ≡ a * (1 * 2 ^ 1074)
 scaled a n k e = turn a (2 ^ 52) (2 ^ n) (2 ^ k) ∙ ap (λ (x : ℕ). a * (1 * x)) (sym (split3 1074 52 n k e))
   where

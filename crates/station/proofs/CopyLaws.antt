@@ -6,7 +6,7 @@ use native.Mathlib.Omega.{arith}
 use native.Mathlib.Nat.{sub-zero, zero-sub, suc-sub-suc, add-sub-cancel-left, sub-add-eq}
 use lib.ListN.{length, getD, take, drop, set, replicate, length-append, length-replicate}
 use lib.Seq.{take-append-seam, drop-append-seam}
-use Rattle.laws.specs.Lists.{Written, written-next}
+use Rattle.laws.specs.Loops.{Written, written-next}
 
 -- one element more
 pub copied-next : {A : Type 0} {src dst₀ dst : List A} {i : ℕ} → Written src dst₀ i dst → (d : A) → length src ≡ length dst₀ → i < length src →

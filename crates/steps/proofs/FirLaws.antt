@@ -12,7 +12,7 @@ use mir.Syntax.{w16, w32, w64}
 use mir.Val.{SFits}
 use mir.Facts.{sfits-widen}
 use Rattle.laws.specs.Integers.{*ℤ-assoc}
-use Rattle.laws.specs.Lists.{Written, written-none, written-next, written-all}
+use Rattle.laws.specs.Loops.{Written, written-none, written-next, written-all}
 use Rattle.laws.specs.Sums.{dot, dot-bound, Each, each-at, each-take, each-weaken}
 use Rattle.laws.specs.Powers.{rises}
 use Rattle.numbers.specs.Cut.{cut, raise, rescale}

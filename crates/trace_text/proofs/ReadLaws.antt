@@ -8,7 +8,8 @@ use native.Mathlib.Nat.{mul-le-mul-right}
 use lib.Dec.{leb, eqb}
 use lib.ListN.{length, set}
 use borrow.Author.Tests.{le-leb, lt-leb, leb-true, eqb-true}
-use Rattle.laws.specs.Lists.{and-left, and-right, Written, written-next, written-all}
+use Rattle.laws.specs.Lists.{and-left, and-right}
+use Rattle.laws.specs.Loops.{Written, written-next, written-all}
 use Rattle.block.specs.Block.{values}
 use Rattle.block.proofs.ValuesLaws.{values-length, values-at}
 use Rattle.image.specs.Load.{byteAt}

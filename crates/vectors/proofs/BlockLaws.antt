@@ -13,7 +13,7 @@ use Rattle.state.specs.declared.equaliser.Answer.{Answer}
 use Rattle.checks.specs.Checks.{Buffers, buffersOf}
 use Rattle.station.specs.Answers.{Run}
 use Rattle.image.specs.Load.{byteAt}
-use Rattle.vectors.specs.Compare.{between, sampleBytes}
+use Rattle.vectors.specs.Compare.{between, outputBytes}
 use Rattle.vectors.specs.Record.{fill, recordLength, recordIn}
 use Rattle.vectors.specs.Block.{listCount, listLimit, lengthAt, listsPlace, gainsPlace, entriesPlace, answerPlace, answerIn, outputsPlace, afterPlace, blockEnd, fillLong, fillSigned, sampleIn, entryIn, buffersOn, resultOn, resultIn, listsFit, sameAccepted, sameRefused, sameBlock}
 use Rattle.vectors.specs.declared.blocks.Lists.{Lists}
@@ -31,7 +31,7 @@ module _ (v : List ℕ) (answer number : ℕ) (a : answer ≡ answerPlace v) (b 
   number-in : answerIn v ≡ number
   number-in = ap (byteAt v) (sym a) ∙ sym b
 
-  pub end-accepted : (n : ℕ) → n ≡ lengthAt v 0 → number ≡ 0 → answer + 1 + sampleBytes * n + recordLength ≡ blockEnd v
+  pub end-accepted : (n : ℕ) → n ≡ lengthAt v 0 → number ≡ 0 → answer + 1 + outputBytes * n + recordLength ≡ blockEnd v
   end-accepted n e f = simp (eq-eqb (answerIn v) 0 (number-in ∙ f)) (omega arith)
 
   pub end-refused : (number ≡ 0 → ⊥) → answer + 1 ≡ blockEnd v

@@ -16,7 +16,7 @@ use Rattle.station.specs.Answers.{runNumber, runState, runOutputs}
 use Rattle.image.specs.Load.{byteAt}
 use Rattle.trace_text.specs.Trace.{unsigned16}
 use Rattle.laws.specs.Comparisons.{below}
-use Rattle.vectors.specs.Compare.{between, sampleBytes, sameOutputs}
+use Rattle.vectors.specs.Compare.{between, outputBytes, sameOutputs}
 use Rattle.vectors.specs.Record.{fill, recordLength, recordIn, sameRecord, sameSaved}
 use Rattle.vectors.specs.declared.Step.{Step}
 use Rattle.vectors.specs.declared.compare.BlockResult.{BlockResult}
@@ -53,7 +53,7 @@ abbrev pub outputsPlace : List ℕ → ℕ
 outputsPlace v = answerPlace v + 1
 
 abbrev pub afterPlace : List ℕ → ℕ
-afterPlace v = outputsPlace v + sampleBytes * lengthAt v 0
+afterPlace v = outputsPlace v + outputBytes * lengthAt v 0
 
 abbrev pub blockEnd : List ℕ → ℕ
 blockEnd v = cond (eqb (answerIn v) 0) (afterPlace v + recordLength) (outputsPlace v)
@@ -117,7 +117,7 @@ pub record Roomy (v : List ℕ) : Type 0 where
 
 -- bytes of outputs that nothing has touched
 unfoldable pub untouched : List ℕ
-untouched = replicate (sampleBytes * listLimit) fill
+untouched = replicate (outputBytes * listLimit) fill
 
 -- an accepted block: what it hands out, the state that it leaves, and the image of that
 unfoldable pub sameAccepted : List ℕ → BlockResult → Bool

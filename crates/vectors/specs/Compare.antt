@@ -37,8 +37,8 @@ ZPlace = decisionPlace + 1
 abbrev pub θPlace : ℕ
 θPlace = ZPlace + 4
 
-abbrev pub sampleBytes : ℕ
-sampleBytes = θPlace + 1
+abbrev pub outputBytes : ℕ
+outputBytes = θPlace + 1
 
 -- the same at the front of bytes
 abbrev pub sameSample : List ℕ → ℤ → ℕ → ℤ → ℤ → ℕ → Bool
@@ -48,7 +48,7 @@ sameSample v y ξ d z θ =
 -- for one sample of a block, and for its first n
 abbrev pub sameAt : List ℕ → BlockResult → ℕ → Bool
 sameAt v r i =
-    sameSample (part (sampleBytes * i) sampleBytes v) (getD (r .y) i (pos 0)) (getD (r .xi) i 0) (getD (r .decision) i (pos 0)) (getD (r .z) i (pos 0)) (getD (r .theta) i 0)
+    sameSample (part (outputBytes * i) outputBytes v) (getD (r .y) i (pos 0)) (getD (r .xi) i 0) (getD (r .decision) i (pos 0)) (getD (r .z) i (pos 0)) (getD (r .theta) i 0)
 
 unfoldable pub sameOutputs : List ℕ → ℕ → BlockResult → Bool
 sameOutputs v n r = below n (sameAt v r)

@@ -13,7 +13,7 @@ use Rattle.trace_text.specs.Trace.{unsigned32}
 use Rattle.laws.specs.Comparisons.{equal}
 use Rattle.vectors.specs.Compare.{part, between}
 
--- bytes of all weights, and of all data, the spare places among them
+-- bytes of all weights, and of all data, the spare slots among them
 abbrev pub weightsLength : ℕ
 weightsLength = width weightWord * slots
 
@@ -42,7 +42,7 @@ recordIn v = record {
   past = padded (wordsOf datumWord slots (part pastPlace pastLength v));
 }
 
--- whether a state is the one that bytes say, spare places among them
+-- whether a state is the one that bytes say, spare slots among them
 unfoldable pub sameRecord : Equaliser → List ℕ → Bool
 sameRecord s v =
     equal (header s) (take imageHeaderLength v) && equal (words weightWord (s .weights)) (part imageHeaderLength weightsLength v)

@@ -9,7 +9,7 @@ ghost use Rattle.image.specs.Load.{byteAt};
 ghost use Rattle.trace_text.specs.Trace.{unsigned32};
 ghost use Rattle.vectors.specs.Block.{listLimit};
 ghost use Rattle.laws.specs.Comparisons.{equal};
-ghost use Rattle.vectors.specs.Compare.{farthest, sampleBytes, sameSample, sameOutputs};
+ghost use Rattle.vectors.specs.Compare.{farthest, outputBytes, sameSample, sameOutputs};
 use super::values::byte_at;
 use super::values::signed8_at;
 use super::values::signed32;
@@ -92,7 +92,7 @@ fn same_sample(v: &[u8], y: i32, xi: u8, decision: i8, z: i32, theta: u8) -> boo
 
 // Whether v has what n samples hand out at its front.
 pub fn same_outputs(v: &[u8], n: usize, r: BlockResult) -> bool
-    requires { ⌜ (n ≤ listLimit) × (sampleBytes * n ≤ length (now v)) ⌝ }
+    requires { ⌜ (n ≤ listLimit) × (outputBytes * n ≤ length (now v)) ⌝ }
     ensures { λ t. ⌜ t ≡ sameOutputs (now (v .entry)) n r ⌝ }
 {
     let y = r.y;

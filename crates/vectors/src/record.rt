@@ -58,7 +58,7 @@ fn same_words(a: &[i16; Equaliser::SLOTS], v: &[u8]) -> bool
     same_bytes(&bytes, v)
 }
 
-// Whether a state is the one that bytes say, spare places among them.
+// Whether a state is the one that bytes say, spare slots among them.
 pub fn same_record(s: Equaliser, v: &[u8]) -> bool
     requires { ⌜ recordLength ≤ length (now v) ⌝ }
     ensures { λ r. ⌜ r ≡ sameRecord s (now (v .entry)) ⌝ }

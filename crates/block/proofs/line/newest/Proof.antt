@@ -7,7 +7,7 @@ use lib.Seq.{length-take-le, getD-take, getD-drop}
 use lib.IntN.{pos}
 use mir.Syntax.{w16}
 use borrow.Author.Needs.{needs}
-use Rattle.laws.specs.Lists.{Written, written-none, written-next, written-all}
+use Rattle.laws.specs.Loops.{Written, written-none, written-next, written-all}
 use Rattle.laws.specs.Machine.{kept}
 use Rattle.steps.specs.Limits.{blockLimit}
 use Rattle.block.specs.Line.{newest}

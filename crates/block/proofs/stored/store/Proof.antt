@@ -8,7 +8,8 @@ use lib.IntN.{ℤ, pos}
 use mir.Syntax.{w16, w32}
 use mir.Val.{toZ, ofZ}
 use borrow.Author.Needs.{needs}
-use Rattle.laws.specs.Lists.{Written, written-none, written-next, written-all, map-at}
+use Rattle.laws.specs.Lists.{map-at}
+use Rattle.laws.specs.Loops.{Written, written-none, written-next, written-all}
 use Rattle.laws.specs.Machine.{kept}
 use Rattle.laws.specs.Sums.{each-at}
 use Rattle.numbers.specs.Cut.{rescale}

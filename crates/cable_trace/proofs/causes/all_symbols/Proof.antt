@@ -6,7 +6,7 @@ use lib.ListN.{length, getD}
 use lib.IntN.{pos}
 use mir.Syntax.{w8}
 use borrow.Author.Needs.{needs}
-use Rattle.laws.specs.Lists.{Tested, tested-none, tested-next, tested-all}
+use Rattle.laws.specs.Loops.{Tested, tested-none, tested-next, tested-all}
 use Rattle.laws.specs.Machine.{kept}
 use Rattle.steps.specs.Settings.{isSymbol}
 use Rattle.cable_trace.proofs.causes.all_symbols.Statement.{statement}

@@ -8,7 +8,7 @@ use lib.IntN.{ℤ, pos}
 use mir.Syntax.{w8}
 use mir.Val.{ofZ}
 use borrow.Author.Needs.{needs}
-use Rattle.laws.specs.Lists.{Written, written-none, written-next, written-all}
+use Rattle.laws.specs.Loops.{Written, written-none, written-next, written-all}
 use Rattle.laws.specs.Machine.{kept}
 use Rattle.block.specs.Block.{values}
 use Rattle.block.proofs.ValuesLaws.{values-length, values-at}

@@ -6,7 +6,7 @@ use lib.ListN.{length}
 use lib.IntN.{pos}
 use mir.Syntax.{w16}
 use borrow.Author.Needs.{needs}
-use Rattle.laws.specs.Lists.{Written, written-none, written-next, written-all}
+use Rattle.laws.specs.Loops.{Written, written-none, written-next, written-all}
 use Rattle.laws.specs.Machine.{kept}
 use Rattle.cable_trace.specs.Calls.{tapsLength, twice}
 use Rattle.cable_trace.proofs.RowLaws.{twice-long, twice-at}

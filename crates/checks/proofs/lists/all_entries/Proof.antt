@@ -8,7 +8,7 @@ use mir.Syntax.{w8, w16}
 use mir.Val.{SFits}
 use mir.Facts.{toZ-ofZ, sfits-widen}
 use borrow.Author.Needs.{needs, sfits-of}
-use Rattle.laws.specs.Lists.{Tested, tested-none, tested-next, tested-all}
+use Rattle.laws.specs.Loops.{Tested, tested-none, tested-next, tested-all}
 use Rattle.steps.specs.Settings.{isEntry}
 use Rattle.checks.proofs.lists.all_entries.Statement.{statement}
 use Rattle.checks.proofs.lists.all_entries.Tie as tie

@@ -6,7 +6,7 @@ use native.Mathlib.Omega.{arith}
 use lib.ListN.{length, getD}
 use borrow.Author.Needs.{needs}
 use borrow.Author.Tests.{le-leb}
-use Rattle.laws.specs.Lists.{tested-all}
+use Rattle.laws.specs.Loops.{tested-all}
 use Rattle.checks.proofs.GainLaws.{Ranged, ranged-next}
 use Rattle.checks.proofs.lists.all_gains.Statement.{statement}
 use Rattle.checks.proofs.lists.all_gains.Tie as tie

@@ -9,7 +9,7 @@ use mir.Syntax.{w16}
 use mir.Val.{toZ}
 use borrow.Author.Needs.{needs}
 use Rattle.laws.specs.Machine.{kept}
-use Rattle.laws.specs.Lists.{Written, written-none}
+use Rattle.laws.specs.Loops.{Written, written-none}
 use Rattle.block.specs.Block.{values}
 use Rattle.trace_text.specs.Trace.{unsigned16}
 use Rattle.trace_text.proofs.ReadLaws.{values-written, values-all}

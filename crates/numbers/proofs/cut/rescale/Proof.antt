@@ -1,4 +1,4 @@
--- Below 64 places the cut is a shift's; at 64 and more the magnitude is below 2^j.
+-- Below 64 bits the cut is a shift's; at 64 and more the magnitude is below 2^j.
 use mathlib.Core.Path.{_≡_, sym, ap, _∙_}
 use native.Mathlib.Omega.{arith}
 use lib.IntN.{ℤ}

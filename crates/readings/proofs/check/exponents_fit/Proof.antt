@@ -5,7 +5,7 @@ use Prim.Native.Nat.{_-_, _<_}
 use native.Mathlib.Omega.{arith}
 use lib.ListN.{length}
 use borrow.Author.Needs.{needs}
-use Rattle.laws.specs.Lists.{Tested, tested-none, tested-next, tested-all}
+use Rattle.laws.specs.Loops.{Tested, tested-none, tested-next, tested-all}
 use Rattle.readings.specs.Readings.{exponentFits}
 use Rattle.readings.proofs.check.exponents_fit.Statement.{statement}
 use Rattle.readings.proofs.check.exponents_fit.Tie as tie

@@ -8,7 +8,7 @@ use lib.IntN.{pos, natAbs}
 use lib.ListN.{length, getD}
 use mir.Syntax.{w32}
 use borrow.Author.Needs.{needs}
-use Rattle.laws.specs.Lists.{Tested, tested-none, tested-next, tested-all}
+use Rattle.laws.specs.Loops.{Tested, tested-none, tested-next, tested-all}
 use Rattle.laws.specs.Machine.{kept}
 use Rattle.steps.specs.Fir.{isBelow}
 use Rattle.readings.specs.Limits.{outputLimit, errorLimit}

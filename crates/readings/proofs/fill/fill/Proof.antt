@@ -10,7 +10,7 @@ use mir.Syntax.{w32}
 use mir.Val.{toZ, ofZ}
 use borrow.Author.Needs.{needs}
 use Rattle.laws.specs.Machine.{kept}
-use Rattle.laws.specs.Lists.{Written, written-none, written-next, written-all}
+use Rattle.laws.specs.Loops.{Written, written-none, written-next, written-all}
 use Rattle.readings.specs.Readings.{pairs, pairOf, readingOf, amplitude, amplitudes}
 use Rattle.readings.specs.Calls.{Exponent, powerTable}
 use Rattle.readings.specs.declared.errors.Sum.{Sum}

@@ -6,7 +6,7 @@ use lib.IntN.{pos}
 use mir.Syntax.{w16}
 use borrow.Author.Needs.{needs}
 use Rattle.laws.specs.Machine.{kept}
-use Rattle.laws.specs.Lists.{Written, written-none, written-all}
+use Rattle.laws.specs.Loops.{Written, written-none, written-all}
 use Rattle.station.proofs.CopyLaws.{copied-next}
 use Rattle.station.proofs.copies.copy16.Statement.{statement}
 use Rattle.station.proofs.copies.copy16.Tie as tie

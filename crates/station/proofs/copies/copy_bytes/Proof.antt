@@ -4,7 +4,7 @@ use Prim.Native.Nat.{_-_}
 use native.Mathlib.Omega.{arith}
 use lib.ListN.{length}
 use borrow.Author.Needs.{needs}
-use Rattle.laws.specs.Lists.{Written, written-none, written-all}
+use Rattle.laws.specs.Loops.{Written, written-none, written-all}
 use Rattle.station.proofs.CopyLaws.{copied-next}
 use Rattle.station.proofs.copies.copy_bytes.Statement.{statement}
 use Rattle.station.proofs.copies.copy_bytes.Tie as tie

@@ -8,7 +8,7 @@ use mir.Syntax.{w16, w32, w64}
 use mir.Val.{SFits, toZ, ofZ}
 use mir.Facts.{toZ-ofZ, sfits-widen}
 use borrow.Author.Needs.{needs, sfits-of}
-use Rattle.laws.specs.Lists.{written-read}
+use Rattle.laws.specs.Loops.{written-read}
 use Rattle.laws.specs.Machine.{kept}
 use Rattle.numbers.specs.Cut.{raise}
 use Rattle.steps.specs.Fir.{adapt}

@@ -9,7 +9,7 @@ use mir.Syntax.{w16, w64}
 use mir.Val.{SFits, toZ, ofZ}
 use mir.Facts.{toZ-ofZ, sfits-widen}
 use borrow.Author.Needs.{needs, sfits-of}
-use Rattle.laws.specs.Lists.{Written, written-none, written-read, written-next, written-all}
+use Rattle.laws.specs.Loops.{Written, written-none, written-read, written-next, written-all}
 use Rattle.laws.specs.Machine.{kept}
 use Rattle.laws.specs.Sums.{each-at}
 use Rattle.numbers.specs.Cut.{rescale}

@@ -8,7 +8,7 @@ use mir.Syntax.{w8, w16}
 use mir.Val.{toZ}
 use borrow.Author.Needs.{needs}
 use Rattle.laws.specs.Machine.{kept}
-use Rattle.laws.specs.Lists.{Written, written-none}
+use Rattle.laws.specs.Loops.{Written, written-none}
 use Rattle.trace_text.specs.Trace.{traceLimit, sampleStart, samplesFrom, gainsFrom, entriesFrom}
 use Rattle.trace_text.proofs.ReadLaws.{values-written, values-all, well-long, well-most}
 use Rattle.trace_text.proofs.read.block.Statement.{statement}

@@ -6,7 +6,7 @@ use lib.IntN.{ℤ, pos}
 use mir.Syntax.{w8, w16}
 use borrow.Author.Needs.{needs}
 use Rattle.laws.specs.Machine.{kept}
-use Rattle.laws.specs.Lists.{Written, written-none}
+use Rattle.laws.specs.Loops.{Written, written-none}
 use Rattle.block.specs.Block.{values}
 use Rattle.vectors.specs.Block.{listLimit, sampleIn, entryIn}
 use Rattle.vectors.specs.declared.blocks.Lists.{Lists}

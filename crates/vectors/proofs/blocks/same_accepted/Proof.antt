@@ -3,7 +3,7 @@ use mathlib.Core.Path.{_≡_, sym, ap, ap₂, _∙_}
 use mathlib.Core.Bool.{Bool}
 use Prim.Native.Nat.{ℕ, _+_, _*_}
 use borrow.Author.Tests.{not-true, not-false}
-use Rattle.vectors.specs.Compare.{between, sampleBytes, sameOutputs}
+use Rattle.vectors.specs.Compare.{between, outputBytes, sameOutputs}
 use Rattle.vectors.specs.Record.{recordLength, sameRecord, sameSaved}
 use Rattle.vectors.specs.Block.{lengthAt, outputsPlace, afterPlace, sameAccepted}
 use Rattle.vectors.proofs.blocks.same_accepted.Statement.{statement}
@@ -15,13 +15,13 @@ outputs : {b : Bool} (c : tie.After-same-outputs) → c .same-outputs .result �
 outputs c e =
     let p = c .before .before in
     let a = p .before .before .before .args in
-    sym (c .same-outputs .ensures ∙ ap₂ (λ (p n : ℕ). sameOutputs (between (p + 1) (p + 1 + sampleBytes * n) (a .v .now)) n (a .r)) (p .answer-place .ensures) (p .before .length-at .ensures)) ∙ e
+    sym (c .same-outputs .ensures ∙ ap₂ (λ (p n : ℕ). sameOutputs (between (p + 1) (p + 1 + outputBytes * n) (a .v .now)) n (a .r)) (p .answer-place .ensures) (p .before .length-at .ensures)) ∙ e
 
-after-is : (c : tie.After-answer-place) → let v = c .before .before .before .args .v .now in let p = c .answer-place .result + 1 + sampleBytes * c .before .length-at .result in
+after-is : (c : tie.After-answer-place) → let v = c .before .before .before .args .v .now in let p = c .answer-place .result + 1 + outputBytes * c .before .length-at .result in
     between p (p + recordLength) v ≡ between (afterPlace v) (afterPlace v + recordLength) v
 after-is c =
     let v = c .before .before .before .args .v .now in
-    ap₂ (λ (p n : ℕ). between (p + 1 + sampleBytes * n) (p + 1 + sampleBytes * n + recordLength) v) (c .answer-place .ensures) (c .before .length-at .ensures)
+    ap₂ (λ (p n : ℕ). between (p + 1 + outputBytes * n) (p + 1 + outputBytes * n + recordLength) v) (c .answer-place .ensures) (c .before .length-at .ensures)
 
 returns : tie.Need-returns
 unfolding sameAccepted

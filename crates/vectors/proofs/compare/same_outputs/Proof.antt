@@ -6,7 +6,7 @@ use borrow.Author.Needs.{needs, sfits-of}
 use borrow.Author.Tests.{not-true, not-false}
 use Rattle.state.specs.State.{refused}
 use Rattle.laws.specs.Comparisons.{below, below-next, below-stop, below-end}
-use Rattle.vectors.specs.Compare.{sampleBytes, sameAt, sameOutputs}
+use Rattle.vectors.specs.Compare.{outputBytes, sameAt, sameOutputs}
 use Rattle.vectors.proofs.CompareLaws.{sample-held}
 use Rattle.vectors.proofs.compare.same_outputs.Statement.{statement}
 use Rattle.vectors.proofs.compare.same_outputs.Tie as tie
@@ -26,7 +26,7 @@ held : (c : tie.After-same-sample Inv-loop μ-loop) {b : Bool} → c .same-sampl
 held c =
     let l = c .before .before .before .before .before .before in
     let a = l .before .before .before .before .before .before .before .args in
-    sample-held (a .v .now) (a .r) (l .loop .i) (sampleBytes * l .loop .i + sampleBytes - sampleBytes * l .loop .i) (omega arith) (sfits-of (c .before .before .before .same-sample-arg2 .given)) (sfits-of (c .before .before .same-sample-arg3 .given)) (sfits-of (c .before .same-sample-arg4 .given)) (c .same-sample .ensures)
+    sample-held (a .v .now) (a .r) (l .loop .i) (outputBytes * l .loop .i + outputBytes - outputBytes * l .loop .i) (omega arith) (sfits-of (c .before .before .before .same-sample-arg2 .given)) (sfits-of (c .before .before .same-sample-arg3 .given)) (sfits-of (c .before .same-sample-arg4 .given)) (c .same-sample .ensures)
 
 returns : tie.Need-returns Inv-loop μ-loop
 unfolding sameOutputs
