@@ -115,8 +115,8 @@ static void begin(work *k, const tigbulode_equaliser *e, const int16_t *m, const
     k->b = any ? 32 - __builtin_clz(any) : 0;
     k->bmax = larger(k->b, e->b);
     k->gamma = k->r - 30 + k->bmax + k->forward.scale;
-    int places = k->bmax + k->forward.scale - 15, change = k->bmax - e->bmax;
-    int down = larger(places, 0), up = larger(-places, 0);
+    int shift = k->bmax + k->forward.scale - 15, change = k->bmax - e->bmax;
+    int down = larger(shift, 0), up = larger(-shift, 0);
     for (int i = BLOCK - k->n; i < BLOCK; i++)
         k->forward.data[i] = (int16_t)(cut(received[i], down) * (1 << up));
     down = larger(change, 0), up = larger(-change, 0);
@@ -219,8 +219,8 @@ INLINE int32_t error(const work *k, int v, int length, int32_t y, int xi, int *t
 INLINE void learn(work *k, const int16_t *a, const int16_t *v, int32_t z, int theta, int c) {
     uint64_t step = (uint64_t)k->m * size_of(z);
     int16_t sign = (int16_t)(z >> 31);
-    int places = 30 + k->psi - theta, s = k->forward.scale;
-    uint32_t jf = (uint32_t)(step >> (places - k->gamma + s)), jb = (uint32_t)(step >> (places - c));
+    int shift = 30 + k->psi - theta, s = k->forward.scale;
+    uint32_t jf = (uint32_t)(step >> (shift - k->gamma + s)), jb = (uint32_t)(step >> (shift - c));
     uint16_t merged = adapt(&k->forward, a, jf, sign, 30 - s);
     merged |= adapt(&k->back, v, jb, sign, 15 + c);
     if (merged < k->least)

@@ -254,7 +254,7 @@ static void refused_records(void) {
     refuse_block("block on a record with too large a step", s, &in, N);
     s = record;
     s.weights[P + Q] = 1;
-    refuse_block("block on a record with something in a spare place", s, &in, N);
+    refuse_block("block on a record with something in a spare slot", s, &in, N);
     s = tigbulode_set_up(1, 1, 1, 0, 0, 67108864).state;
     s.psi = TIGBULODE_MOST_EXPONENT;
     s.weights[0] = TIGBULODE_MOST_WEIGHT;

@@ -34,7 +34,7 @@ pub struct Run {
 
 /// What a block hands out.
 #[derive(Clone, Debug)]
-pub struct Handed {
+pub struct OutputLists {
     pub y: Vec<i32>,
     pub xi: Vec<u8>,
     pub decision: Vec<i8>,
@@ -42,9 +42,9 @@ pub struct Handed {
     pub theta: Vec<u8>,
 }
 
-impl Handed {
-    fn zeros(n: usize) -> Handed {
-        Handed {
+impl OutputLists {
+    fn zeros(n: usize) -> OutputLists {
+        OutputLists {
             y: vec![0; n],
             xi: vec![0; n],
             decision: vec![0; n],
@@ -56,7 +56,7 @@ impl Handed {
     /// y and the error of each sample, and the error power, by the laboratory's
     /// library.
     pub fn read(&self) -> Result<(Vec<Reading>, ErrorPower), String> {
-        let lists = power::Handed {
+        let lists = power::ReadingInputs {
             y: &self.y,
             xi: &self.xi,
             z: &self.z,
@@ -73,8 +73,8 @@ fn set_up(s: &Settings) -> Equaliser {
 }
 
 /// The number of a block, and what it hands out.
-fn pass(state: &mut Equaliser, part: &[Sample]) -> (u8, Handed) {
-    let mut handed = Handed::zeros(part.len());
+fn pass(state: &mut Equaliser, part: &[Sample]) -> (u8, OutputLists) {
+    let mut handed = OutputLists::zeros(part.len());
     let samples: Vec<i16> = part.iter().map(|sample| sample.m).collect();
     let gains: Vec<u8> = part.iter().map(|sample| sample.g).collect();
     let entries: Vec<i8> = part.iter().map(|sample| sample.entry).collect();
@@ -107,7 +107,7 @@ pub fn weights(state: &Equaliser) -> Vec<f64> {
 
 /// A block that was accepted; `sent` are its symbols, of which the first
 /// `trained` were training entries.
-fn ran(state: &Equaliser, handed: Handed, sent: &[i8], trained: usize) -> Result<Ran, String> {
+fn ran(state: &Equaliser, handed: OutputLists, sent: &[i8], trained: usize) -> Result<Ran, String> {
     let (readings, error_power) = handed.read()?;
     let decisions = handed.decision[trained..].iter();
     let wrong = decisions.zip(&sent[trained..]).filter(|(d, v)| d != v);

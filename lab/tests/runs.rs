@@ -4,7 +4,7 @@ mod common;
 
 use common::{falling, given, loud, runs, silent, with_line, EXAMPLE, WORKED};
 use lab::cable::traces;
-use lab::run::{joined, Handed, Ran, Run};
+use lab::run::{joined, OutputLists, Ran, Run};
 use lab::text::Given;
 use lab::{readings, summary, table};
 use reference::readings as second;
@@ -16,8 +16,8 @@ use years::power::ErrorPower;
 use years::words::decibels;
 
 /// What a block hands out, with these errors.
-fn handed(z: &[i32], theta: &[u8]) -> Handed {
-    Handed {
+fn handed(z: &[i32], theta: &[u8]) -> OutputLists {
+    OutputLists {
         y: vec![0; z.len()],
         xi: vec![1; z.len()],
         decision: vec![1; z.len()],
@@ -119,7 +119,7 @@ fn wrong_decisions_are_counted_after_training_alone() {
 
 /// The readings and the error power by the second implementation.
 fn read_by_reference(out: &Outputs) -> (Vec<Reading>, ErrorPower) {
-    let handed = second::Handed {
+    let handed = second::ReadingInputs {
         y: &out.y,
         xi: &out.xi,
         z: &out.z,

@@ -10,14 +10,14 @@ pub struct Dyadic {
     exponent: i32,
 }
 
-/// `a` · 2^`places` for `places` at least 0. Stops if the result does not fit.
-fn raise(a: i128, places: i32) -> i128 {
-    assert!(places >= 0);
+/// `a` · 2^`shift` for `shift` at least 0. Stops if the result does not fit.
+fn raise(a: i128, shift: i32) -> i128 {
+    assert!(shift >= 0);
     if a == 0 {
         return 0;
     }
-    assert!(places < 127, "number too long");
-    a.checked_mul(1i128 << places).expect("number too long")
+    assert!(shift < 127, "number too long");
+    a.checked_mul(1i128 << shift).expect("number too long")
 }
 
 impl Dyadic {
@@ -36,9 +36,9 @@ impl Dyadic {
         Dyadic::new(1, exponent)
     }
 
-    /// This number times 2^`places`; `places` may be negative.
-    pub fn scaled(self, places: i32) -> Dyadic {
-        Dyadic::new(self.mantissa, self.exponent + places)
+    /// This number times 2^`shift`; `shift` may be negative.
+    pub fn scaled(self, shift: i32) -> Dyadic {
+        Dyadic::new(self.mantissa, self.exponent + shift)
     }
 
     /// The sum.

@@ -129,7 +129,7 @@ impl Random {
     }
 
     /// A sound state with these settings, which must be within the limits;
-    /// without spare places.
+    /// without spare slots.
     pub fn sound_state(&mut self, settings: Settings) -> State {
         let most = 31 - settings.l;
         let bmax = match self.below(4) {

@@ -15,7 +15,7 @@ pub const MOST_A: i128 = 65_535;
 
 /// What a block handed out, but for the decisions.
 #[derive(Clone, Copy, Debug)]
-pub struct Handed<'a> {
+pub struct ReadingInputs<'a> {
     pub y: &'a [i32],
     pub xi: &'a [u8],
     pub z: &'a [i32],
@@ -98,7 +98,7 @@ fn reaches(list: &[i32], end: i128) -> bool {
     list.iter().any(|&a| i128::from(a).abs() >= end)
 }
 
-impl Handed<'_> {
+impl ReadingInputs<'_> {
     /// floor(256·|error|) of each sample.
     pub fn magnitudes(&self) -> Vec<i128> {
         let errors = self.z.iter().zip(self.theta);
@@ -147,7 +147,7 @@ impl Handed<'_> {
 
 /// Fills the readings and gives the error power. Turned down with 11, the
 /// readings stay as they are.
-pub fn readings(handed: &Handed<'_>, readings: &mut [Reading]) -> Result<Power, u8> {
+pub fn readings(handed: &ReadingInputs<'_>, readings: &mut [Reading]) -> Result<Power, u8> {
     let lent = readings.len();
     if Cause::ALL.iter().any(|&cause| handed.holds(cause, lent)) {
         return Err(READINGS);

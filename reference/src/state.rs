@@ -12,7 +12,7 @@ pub const SLOTS: usize = 32;
 ///
 /// The first p + q weights and data are those of the saved image, in its
 /// order. Any place beyond them is spare and is 0 in a sound state. A state
-/// from set-up or load has no spare places; a record that the firmware lends
+/// from set-up or load has no spare slots; a record that the firmware lends
 /// has [`SLOTS`] slots for weights and as many for data.
 #[derive(Clone, Debug, PartialEq, Eq)]
 pub struct State {
@@ -32,7 +32,7 @@ pub struct State {
 }
 
 impl State {
-    /// All zeros, without spare places.
+    /// All zeros, without spare slots.
     pub fn zeros(settings: Settings) -> State {
         State {
             settings,
@@ -56,7 +56,7 @@ impl State {
         })
     }
 
-    /// The same state as a lent record, with its spare places 0.
+    /// The same state as a lent record, with its spare slots 0.
     pub fn lent(&self) -> State {
         let mut record = self.clone();
         record.weights.resize(SLOTS, 0);
@@ -64,7 +64,7 @@ impl State {
         record
     }
 
-    /// The same state without its spare places.
+    /// The same state without its spare slots.
     pub fn compact(&self) -> State {
         let mut state = self.clone();
         state.weights.truncate(self.settings.taps());

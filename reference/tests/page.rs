@@ -512,7 +512,7 @@ fn with_decimal(mantissa: i32, places: i32) -> String {
 /// What is answered for lists, with the readings.
 fn answer_of(lists: &Lists) -> (String, Vec<Reading>) {
     let mut lent = vec![Reading::default(); lists.readings];
-    let answer = match readings(&lists.handed(), &mut lent) {
+    let answer = match readings(&lists.inputs(), &mut lent) {
         Ok(Power::Mean(power)) => format!("a mean, {:016X}", power.to_bits()),
         Ok(Power::Floor(power)) => format!("a floor, {:016X}", power.to_bits()),
         Err(number) => number.to_string(),
@@ -548,7 +548,7 @@ fn the_readings_are_on_the_page() {
         let row = format!("| {} |\n", cells.join(" | "));
         assert!(part.contains(&row), "{row}");
     }
-    let sum: i128 = lists.handed().magnitudes().iter().map(|a| a * a).sum();
+    let sum: i128 = lists.inputs().magnitudes().iter().map(|a| a * a).sum();
     assert!(part.contains(&format!(
         "The sum of a² is {sum}, and 65536·3 = {}.",
         65_536 * 3

@@ -9,7 +9,7 @@ use reference::binary64::number;
 use reference::exact::Exact;
 use reference::numbers::Dyadic;
 use reference::random::Random;
-use reference::readings::{readings, Cause, Handed, Power, Reading};
+use reference::readings::{readings, Cause, Power, Reading, ReadingInputs};
 use reference::vectors::spoiled_lists::resize;
 use reference::vectors::{handed_out, readings_vectors, worked_lists};
 use reference::vectors::{Lists, ReadingsVector, Sample};
@@ -32,7 +32,7 @@ fn by_bits(lists: &Lists, lent: &mut [[u64; 2]]) -> Answer {
         error: f64::from_bits(error),
     };
     let mut own: Vec<Reading> = lent.iter().map(from_bits).collect();
-    let answer = readings(&lists.handed(), &mut own);
+    let answer = readings(&lists.inputs(), &mut own);
     for (bits, reading) in lent.iter_mut().zip(&own) {
         *bits = reading.bits();
     }
@@ -253,7 +253,7 @@ fn each_reading_is_its_mantissa_and_exponent() {
 }
 
 /// The exact sums of a², of (256·error)² and of (a + 1)².
-fn sums(handed: &Handed<'_>) -> [Exact; 3] {
+fn sums(handed: &ReadingInputs<'_>) -> [Exact; 3] {
     let mut sums = [0; 3].map(|zero| Exact::new(zero, 0));
     let errors = handed.z.iter().zip(handed.theta);
     for (a, (&z, &theta)) in handed.magnitudes().into_iter().zip(errors) {
@@ -272,7 +272,7 @@ fn sums(handed: &Handed<'_>) -> [Exact; 3] {
 /// Whether the exact sum of (256·error)² is at least that of a² and less than
 /// that of (a + 1)².
 fn lies_between(lists: &Lists) -> bool {
-    let [low, sum, high] = sums(&lists.handed());
+    let [low, sum, high] = sums(&lists.inputs());
     low.at_most(&sum) && sum.less(&high)
 }
 
@@ -281,7 +281,7 @@ fn the_exact_sum_lies_between() {
     let mut exactly = 0;
     for vector in accepted().iter().filter(|vector| !vector.is_floor) {
         assert!(lies_between(&vector.lists), "{}", vector.about);
-        let [low, sum, _] = sums(&vector.lists.handed());
+        let [low, sum, _] = sums(&vector.lists.inputs());
         exactly += u32::from(sum.at_most(&low));
     }
     assert!(exactly >= 50);
@@ -292,7 +292,7 @@ fn the_exact_sum_lies_between() {
 #[test]
 fn the_power_is_the_nearest() {
     for vector in accepted() {
-        let handed = vector.lists.handed();
+        let handed = vector.lists.inputs();
         let squares = handed
             .magnitudes()
             .into_iter()
@@ -473,7 +473,7 @@ fn readings_have_every_length_exponent_and_end() {
 fn readings_have_a_beside_65535_wherever_it_can_be() {
     let mut seen = BTreeSet::new();
     for vector in accepted() {
-        let magnitudes = vector.lists.handed().magnitudes();
+        let magnitudes = vector.lists.inputs().magnitudes();
         seen.extend(magnitudes.into_iter().zip(vector.lists.theta.clone()));
     }
     for theta in 8..=22 {
@@ -537,13 +537,13 @@ fn each_cause_holds_alone() {
         (3, (1 << 29, 1, 1, 1)),
     ] {
         let lists = Lists::of(&[good, sample]);
-        let held = Cause::ALL.map(|cause| lists.handed().holds(cause, lists.readings));
+        let held = Cause::ALL.map(|cause| lists.inputs().holds(cause, lists.readings));
         let mut alone = [false; 4];
         alone[place] = true;
         assert_eq!(held, alone, "{sample:?}");
     }
     let lists = Lists::of(&[good; 3]);
-    let held = Cause::ALL.map(|cause| lists.handed().holds(cause, 2));
+    let held = Cause::ALL.map(|cause| lists.inputs().holds(cause, 2));
     assert_eq!(held, [true, false, false, false]);
 }
 

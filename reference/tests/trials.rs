@@ -36,7 +36,7 @@ struct Call {
 
 impl Call {
     /// A sound state, one in four with weights about to be doubled, as a lent
-    /// record or without spare places, and good lists.
+    /// record or without spare slots, and good lists.
     fn good(random: &mut Random) -> Call {
         let settings = random.settings();
         let state = random.state(settings);

@@ -16,7 +16,7 @@ pub const PER_LIST: u64 = 3;
 
 /// A cable with all that is lent to it.
 #[derive(Clone, Debug, PartialEq, Eq)]
-pub struct Lent {
+pub struct CableInputs {
     pub settings: Settings,
     pub response: Vec<i16>,
     pub symbols: Vec<i8>,
@@ -25,7 +25,7 @@ pub struct Lent {
     pub room: usize,
 }
 
-impl Lent {
+impl CableInputs {
     /// The cable as the second implementation has it.
     pub fn second(&self) -> reference::cable::Cable<'_> {
         reference::cable::Cable {
@@ -53,9 +53,9 @@ impl Lent {
     }
 
     /// Other symbols, with as many bytes more or less than the trace as before.
-    pub fn with_symbols(&self, symbols: Vec<i8>) -> Lent {
+    pub fn with_symbols(&self, symbols: Vec<i8>) -> CableInputs {
         let room = self.room + trace_length(symbols.len());
-        Lent {
+        CableInputs {
             room: room.saturating_sub(trace_length(self.symbols.len())),
             training: match self.training {
                 all if all == self.symbols.len() => symbols.len(),
@@ -81,13 +81,13 @@ impl CableMaker {
     }
 
     /// The next cable; a third of them are spoiled.
-    pub fn cable(&mut self) -> Lent {
+    pub fn cable(&mut self) -> CableInputs {
         let settings = self.maker.random.settings();
         let mut symbols = self.symbols(&settings);
         let response = self.response(&settings, &mut symbols);
         let any = self.maker.random.below(symbols.len() as u64 + 1) as usize;
         let training = self.maker.random.pick(&[0, symbols.len(), any, any]);
-        let mut lent = Lent {
+        let mut lent = CableInputs {
             room: trace_length(symbols.len()),
             settings,
             response,
@@ -192,7 +192,7 @@ impl CableMaker {
     }
 
     /// Something that is turned down, or stays acceptable by chance.
-    fn spoil(&mut self, lent: &mut Lent) {
+    fn spoil(&mut self, lent: &mut CableInputs) {
         match self.maker.random.below(9) {
             0 | 1 => lent.settings = self.maker.any_settings(),
             2 => self.spoil_response(&mut lent.response),
@@ -216,7 +216,7 @@ impl CableMaker {
     }
 
     /// No symbols, no whole blocks, or more than a trace holds.
-    fn spoil_count(&mut self, lent: &mut Lent) {
+    fn spoil_count(&mut self, lent: &mut CableInputs) {
         let random = &mut self.maker.random;
         let count = lent.symbols.len();
         let count = match random.below(12) {
@@ -234,7 +234,7 @@ impl CableMaker {
         *lent = lent.with_symbols(symbols);
     }
 
-    fn spoil_entry(&mut self, lent: &mut Lent) {
+    fn spoil_entry(&mut self, lent: &mut CableInputs) {
         let random = &mut self.maker.random;
         let last = lent.symbols.len().saturating_sub(1);
         let any = random.below(last as u64 + 1) as usize;
@@ -246,7 +246,7 @@ impl CableMaker {
         }
     }
 
-    fn spoil_room(&mut self, lent: &mut Lent) {
+    fn spoil_room(&mut self, lent: &mut CableInputs) {
         let random = &mut self.maker.random;
         let (room, any) = (lent.room, random.below(600) as usize);
         let less = room.saturating_sub(1);

@@ -60,7 +60,7 @@ pub enum Fault {
     /// A block that lowers psi leaves the last weight as if it were not
     /// doubled, on both sides.
     DoublingInBoth,
-    /// The last spare place is not 0 after a block, on both sides.
+    /// The last spare slot is not 0 after a block, on both sides.
     SpareInBoth,
     /// The first weight beside an accepted trial is two units off, on both sides.
     TrialStateInBoth,

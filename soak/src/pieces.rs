@@ -26,9 +26,9 @@ pub const OUTPUTS: [&str; 5] = ["Y", "xi", "decision", "Z", "theta"];
 
 /// The past samples of a record at another B.
 pub fn rescaled(record: &Equaliser, bmax: u8) -> Vec<i128> {
-    let places = i32::from(record.bmax) - i32::from(bmax);
+    let shift = i32::from(record.bmax) - i32::from(bmax);
     let past = record.past[..usize::from(record.p) - 1].iter();
-    past.map(|&a| Dyadic::new(a.into(), places).cut()).collect()
+    past.map(|&a| Dyadic::new(a.into(), shift).cut()).collect()
 }
 
 /// The record that a piece of `n` samples starts from.

@@ -41,7 +41,7 @@ impl Plots for Second {
             error: r.error,
         };
         let mut lent: Vec<_> = readings.iter().map(own).collect();
-        let power = reference::readings::readings(&lists.handed(), &mut lent)?;
+        let power = reference::readings::readings(&lists.inputs(), &mut lent)?;
         for (reading, own) in readings.iter_mut().zip(lent) {
             (reading.y, reading.error) = (own.y, own.error);
         }

@@ -5,7 +5,7 @@ use crate::bench::{Bench, Failing, Failure};
 use crate::cables::bench::{CableBench, Side};
 use crate::cables::format::{self as cable_format, SavedCable};
 use crate::cables::shrink::shrink as shrink_cable;
-use crate::cables::{CableMaker, Lent, PER_LIST};
+use crate::cables::{CableInputs, CableMaker, PER_LIST};
 use crate::faults::{Fault, Faulty};
 use crate::format::{self, Saved};
 use crate::lists::Lister;
@@ -105,7 +105,7 @@ enum Found {
     Cable {
         list: u64,
         place: u64,
-        lent: Lent,
+        lent: CableInputs,
         failing: Failing,
     },
 }
@@ -210,15 +210,15 @@ pub fn shrunk(fault: Option<Fault>, calls: Vec<Call>, failure: &Failure) -> Vec<
 }
 
 /// What fails with a cable.
-pub fn failing_of(fault: Option<Fault>, lent: &Lent) -> Option<Failing> {
+pub fn failing_of(fault: Option<Fault>, lent: &CableInputs) -> Option<Failing> {
     with_sides(fault, |library, second| {
         CableBench::new(library, second).cable(lent).err()
     })
 }
 
 /// A simple cable that fails in the same check. A signal ends the search.
-pub fn shrunk_cable(fault: Option<Fault>, lent: Lent, failing: &Failing) -> Lent {
-    let mut fails = |lent: &Lent| {
+pub fn shrunk_cable(fault: Option<Fault>, lent: CableInputs, failing: &Failing) -> CableInputs {
+    let mut fails = |lent: &CableInputs| {
         let failing_now = match stop::noted() {
             Some(_) => None,
             None => failing_of(fault, lent),
@@ -313,7 +313,12 @@ fn failed_list(run: &Run, list: u64, calls: Vec<Call>, failure: Failure) -> Verd
     Verdict::failing(text)
 }
 
-fn failed_cable(run: &Run, (list, place): (u64, u64), lent: Lent, failing: Failing) -> Verdict {
+fn failed_cable(
+    run: &Run,
+    (list, place): (u64, u64),
+    lent: CableInputs,
+    failing: Failing,
+) -> Verdict {
     let from = format!("seed {}, list {list}, cable {place}", run.seed);
     let mut text = format!("{from}: {}\n", failing.text);
     let (symbols, values) = (lent.symbols.len(), lent.response.len());

@@ -71,7 +71,7 @@ pub struct SwappedBench<'a> {
     pub tally: SwappedTally,
 }
 
-/// A block by a side, on a state with its spare places.
+/// A block by a side, on a state with its spare slots.
 fn run(side: &dyn Operations, state: &mut State, inputs: Inputs<'_>, out: &mut Outputs) -> u8 {
     let mut record = record_of(state);
     let block = Block {

@@ -5,13 +5,13 @@ use reference::Settings;
 use soak::cables::bench::{CableBench, CableTally};
 use soak::cables::format::{is_cable, parse, text, SavedCable};
 use soak::cables::shrink::shrink;
-use soak::cables::{CableMaker, Lent, PER_LIST};
+use soak::cables::{CableInputs, CableMaker, PER_LIST};
 use soak::faults::Fault;
 use soak::soak::{failing_of, shrunk_cable, with_sides};
 use tigbulode::sides::{Library, Second};
 
 /// The cables after some lists.
-fn cables(seed: u64, lists: u64) -> Vec<Lent> {
+fn cables(seed: u64, lists: u64) -> Vec<CableInputs> {
     let of_list = |list: u64| {
         let mut maker = CableMaker::new(seed, list);
         (0..PER_LIST).map(move |_| maker.cable())
@@ -81,7 +81,7 @@ fn a_cable_that_is_cut_off_is_turned_down() {
 }
 
 /// Whether a cable has a loud value and a negative symbol.
-fn loud(lent: &Lent) -> bool {
+fn loud(lent: &CableInputs) -> bool {
     let loud = lent.response.iter().any(|h| h.unsigned_abs() >= 100);
     loud && lent.symbols.iter().any(|&v| v < 0)
 }
@@ -136,7 +136,7 @@ fn faults_of_lists_leave_a_cable_as_it_is() {
         l: 0,
         m: 0,
     };
-    let lent = Lent {
+    let lent = CableInputs {
         settings,
         response: vec![100],
         symbols: vec![1, -1],

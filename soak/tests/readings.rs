@@ -15,7 +15,7 @@ fn some_lists() -> Vec<Lists> {
 
 fn is_accepted(lists: &Lists) -> bool {
     let mut lent = vec![Reading::default(); lists.readings];
-    readings(&lists.handed(), &mut lent).is_ok()
+    readings(&lists.inputs(), &mut lent).is_ok()
 }
 
 #[test]

@@ -10,14 +10,14 @@ pub const ZERO_NOTE: &str = "power 0, all below 1/256, is at −100 dB";
 
 /// What an accepted block handed out, but for its decisions.
 #[derive(Clone, Copy, Debug)]
-pub struct Handed<'a> {
+pub struct ReadingInputs<'a> {
     pub y: &'a [i32],
     pub xi: &'a [u8],
     pub z: &'a [i32],
     pub theta: &'a [u8],
 }
 
-impl Handed<'_> {
+impl ReadingInputs<'_> {
     /// y and the error of each sample, and the error power. No accepted block
     /// hands out what is turned down; were it so, a message says it.
     pub fn read(&self) -> Result<(Vec<Reading>, Power), String> {

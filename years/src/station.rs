@@ -3,7 +3,7 @@
 
 use crate::assumptions::Assumptions;
 use crate::converter::{convert, full_scale, gain_for, peak};
-use crate::power::{ErrorPower, Handed};
+use crate::power::{ErrorPower, ReadingInputs};
 use crate::random::{Purpose, Random};
 use tigbulode::sides::Operations;
 use tigbulode::{Block, Equaliser, Outputs, IMAGE_BYTES};
@@ -152,7 +152,7 @@ impl<'a> Station<'a> {
             self.count(number);
             return Ok((Vec::new(), Vec::new(), None));
         }
-        let handed = Handed {
+        let handed = ReadingInputs {
             y: &y,
             xi: &xi,
             z: &z,

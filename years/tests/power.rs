@@ -13,7 +13,7 @@ use years::assumptions::Assumptions;
 use years::history::{run_beside, Reading};
 use years::old_rule::RisesOnly;
 use years::page::{page, Page};
-use years::power::{ErrorPower, Handed};
+use years::power::{ErrorPower, ReadingInputs};
 use years::random::{Purpose, Random};
 use years::script::script;
 use years::view::View;
@@ -30,7 +30,7 @@ fn floor(value: f64) -> ErrorPower {
 /// The error power by the second implementation.
 fn by_second(y: &[i32], xi: &[u8], z: &[i32], theta: &[u8]) -> Result<ErrorPower, u8> {
     let mut lent = vec![second::Reading::default(); y.len()];
-    let power = second::readings(&second::Handed { y, xi, z, theta }, &mut lent)?;
+    let power = second::readings(&second::ReadingInputs { y, xi, z, theta }, &mut lent)?;
     Ok(match power {
         second::Power::Mean(value) => mean(value),
         second::Power::Floor(value) => floor(value),
@@ -58,7 +58,7 @@ fn lists_are_read_as_the_second_implementation_reads_them() {
         let z: Vec<i32> = (0..n).map(|_| number(&mut random, 30)).collect();
         let mut exponents = || (0..n).map(|_| 1 + random.below(most) as u8).collect();
         let (xi, theta): (Vec<u8>, Vec<u8>) = (exponents(), exponents());
-        let handed = Handed {
+        let handed = ReadingInputs {
             y: &y,
             xi: &xi,
             z: &z,
@@ -86,7 +86,7 @@ fn lists_are_read_as_the_second_implementation_reads_them() {
 fn what_is_turned_down_is_an_internal_error() {
     let handed = |theta: &[u8]| {
         let (y, xi, z) = (&[0; 2], &[1; 2], &[0; 2]);
-        let handed = Handed { y, xi, z, theta };
+        let handed = ReadingInputs { y, xi, z, theta };
         handed.read().map(|(_, power)| power)
     };
     assert_eq!(handed(&[1, 24]), Ok(Power::Mean(0.0)));

@@ -54,22 +54,22 @@ const AROUND: usize = 8;
 const SENTINEL: u8 = 0x55;
 
 /// A lent list between elements that no call may touch.
-struct Lent<T> {
+struct Guarded<T> {
     all: Vec<T>,
     length: usize,
 }
 
-impl<T: Copy + Into<i64>> Lent<T> {
-    fn of(list: &[T], around: T) -> Lent<T> {
+impl<T: Copy + Into<i64>> Guarded<T> {
+    fn of(list: &[T], around: T) -> Guarded<T> {
         let mut all = vec![around; AROUND];
         all.extend(list);
         all.resize(list.len() + 2 * AROUND, around);
         let length = list.len();
-        Lent { all, length }
+        Guarded { all, length }
     }
 
-    fn filled(length: usize, with: T) -> Lent<T> {
-        Lent::of(&vec![with; length], with)
+    fn filled(length: usize, with: T) -> Guarded<T> {
+        Guarded::of(&vec![with; length], with)
     }
 
     fn list(&self) -> &[T] {
@@ -92,11 +92,11 @@ impl<T: Copy + Into<i64>> Lent<T> {
 
 /// A record between two that no call may touch; only the one in the middle is
 /// lent.
-struct LentRecord([Equaliser; 3]);
+struct GuardedRecord([Equaliser; 3]);
 
-impl LentRecord {
-    fn of(record: &Equaliser) -> LentRecord {
-        LentRecord([*record; 3])
+impl GuardedRecord {
+    fn of(record: &Equaliser) -> GuardedRecord {
+        GuardedRecord([*record; 3])
     }
 
     fn lent(&mut self) -> &mut Equaliser {
@@ -114,31 +114,31 @@ impl LentRecord {
 }
 
 /// All that is lent to a block.
-struct LentBlock {
-    m: Lent<i16>,
-    gains: Lent<u8>,
-    entries: Lent<i8>,
-    y: Lent<i32>,
-    xi: Lent<u8>,
-    decision: Lent<i8>,
-    z: Lent<i32>,
-    theta: Lent<u8>,
-    record: LentRecord,
+struct GuardedBlock {
+    m: Guarded<i16>,
+    gains: Guarded<u8>,
+    entries: Guarded<i8>,
+    y: Guarded<i32>,
+    xi: Guarded<u8>,
+    decision: Guarded<i8>,
+    z: Guarded<i32>,
+    theta: Guarded<u8>,
+    record: GuardedRecord,
 }
 
-impl LentBlock {
-    fn new(lists: &Lists, record: &Equaliser) -> LentBlock {
+impl GuardedBlock {
+    fn new(lists: &Lists, record: &Equaliser) -> GuardedBlock {
         let [y, xi, decision, z, theta] = lists.rooms;
-        LentBlock {
-            m: Lent::of(&lists.m, SENTINEL.into()),
-            gains: Lent::of(&lists.gains, SENTINEL),
-            entries: Lent::of(&lists.entries, SENTINEL as i8),
-            y: Lent::filled(y, i32::MIN),
-            xi: Lent::filled(xi, SENTINEL),
-            decision: Lent::filled(decision, SENTINEL as i8),
-            z: Lent::filled(z, i32::MAX),
-            theta: Lent::filled(theta, SENTINEL),
-            record: LentRecord::of(record),
+        GuardedBlock {
+            m: Guarded::of(&lists.m, SENTINEL.into()),
+            gains: Guarded::of(&lists.gains, SENTINEL),
+            entries: Guarded::of(&lists.entries, SENTINEL as i8),
+            y: Guarded::filled(y, i32::MIN),
+            xi: Guarded::filled(xi, SENTINEL),
+            decision: Guarded::filled(decision, SENTINEL as i8),
+            z: Guarded::filled(z, i32::MAX),
+            theta: Guarded::filled(theta, SENTINEL),
+            record: GuardedRecord::of(record),
         }
     }
 
@@ -223,7 +223,7 @@ fn set_up(side: &dyn Operations, settings: Settings, record: &mut Equaliser) -> 
 }
 
 fn block(side: &dyn Operations, lists: &Lists, record: &mut Equaliser) -> Outcome {
-    let mut lent = LentBlock::new(lists, record);
+    let mut lent = GuardedBlock::new(lists, record);
     let number = lent.lend(|s, block, out| side.run(s, block, out));
     *record = *lent.record.lent();
     Outcome::of(number, lent.parts())
@@ -234,7 +234,7 @@ fn trial(
     record: &mut Equaliser,
     call: impl FnOnce(&mut Equaliser, Block, Outputs) -> Answer,
 ) -> Outcome {
-    let mut lent = LentBlock::new(lists, record);
+    let mut lent = GuardedBlock::new(lists, record);
     let Answer { number, state } = lent.lend(call);
     *record = *lent.record.lent();
     let given = plain("state", numbers_of(&state));
@@ -245,8 +245,8 @@ fn trial(
 }
 
 fn save(side: &dyn Operations, room: usize, record: &mut Equaliser) -> Outcome {
-    let mut lent = LentRecord::of(record);
-    let mut buffer = Lent::filled(room, SENTINEL);
+    let mut lent = GuardedRecord::of(record);
+    let mut buffer = Guarded::filled(room, SENTINEL);
     let saved = side.save(lent.lent(), buffer.list_mut());
     *record = *lent.lent();
     let image = buffer.list().get(..saved.length).map(<[u8]>::to_vec);
@@ -259,7 +259,7 @@ fn save(side: &dyn Operations, room: usize, record: &mut Equaliser) -> Outcome {
 }
 
 fn load(side: &dyn Operations, bytes: &[u8], record: &mut Equaliser) -> Outcome {
-    let lent = Lent::of(bytes, SENTINEL);
+    let lent = Guarded::of(bytes, SENTINEL);
     let answer = side.load(lent.list());
     *record = answer.state;
     let parts = [plain("record", numbers_of(record)), lent.part("bytes")];

@@ -122,7 +122,7 @@ pub fn settings_of(e: &Equaliser) -> Settings {
     }
 }
 
-/// The second implementation's state for a record, spare places and all.
+/// The second implementation's state for a record, spare slots and all.
 pub fn state_of(e: &Equaliser) -> State {
     State {
         settings: settings_of(e),

@@ -48,7 +48,7 @@ struct Received {
 
 /// What a block hands out.
 #[derive(Clone, PartialEq)]
-struct Handed {
+struct OutputArrays {
     y: [i32; N],
     xi: [u8; N],
     decision: [i8; N],
@@ -56,9 +56,9 @@ struct Handed {
     theta: [u8; N],
 }
 
-impl Handed {
-    fn filled() -> Handed {
-        Handed {
+impl OutputArrays {
+    fn filled() -> OutputArrays {
+        OutputArrays {
             y: [0x5555_5555; N],
             xi: [0x55; N],
             decision: [0x55; N],
@@ -178,7 +178,7 @@ fn block_of(read: &Received, length: usize) -> Block<'_> {
     }
 }
 
-fn lists_of(out: &mut Handed, length: usize) -> Outputs<'_> {
+fn lists_of(out: &mut OutputArrays, length: usize) -> Outputs<'_> {
     Outputs {
         y: &mut out.y[..length],
         xi: &mut out.xi[..length],
@@ -193,7 +193,7 @@ fn run(
     s: &mut Equaliser,
     read: &Received,
     length: usize,
-    out: &mut Handed,
+    out: &mut OutputArrays,
 ) -> u8 {
     side.run(s, block_of(read, length), lists_of(out, length))
 }
@@ -237,7 +237,7 @@ impl Station<'_> {
     fn worked_example(&mut self) {
         self.line("worked example".to_string());
         let mut s = self.side.set_up(SMALLEST).state;
-        let mut out = Handed::filled();
+        let mut out = OutputArrays::filled();
         for (i, entry) in [1, 0].into_iter().enumerate() {
             let mut read = Received::default();
             read.samples[0] = 0x4000;
@@ -263,7 +263,7 @@ impl Station<'_> {
             if trained {
                 read.entries = sent;
             }
-            let mut out = Handed::filled();
+            let mut out = OutputArrays::filled();
             let number = run(self.side, &mut self.record, &read, N, &mut out);
             if number != 0 {
                 self.line(format!("block {}: answer {number}", first + b));
@@ -313,15 +313,15 @@ impl Station<'_> {
     /// record's own state.
     fn refuse_block(&mut self, about: &str, before: Equaliser, read: &Received, length: usize) {
         let mut s = before;
-        let mut out = Handed::filled();
+        let mut out = OutputArrays::filled();
         let number = run(self.side, &mut s, read, length, &mut out);
         let record = self.unchanged(s == before);
-        let outputs = self.unchanged(out == Handed::filled());
+        let outputs = self.unchanged(out == OutputArrays::filled());
         let run = format!("answer {number}, record {record}, outputs {outputs}");
         let trial = self.try_block(&mut { before }, read, length);
         self.marks += u32::from(trial.answer.number != number);
         let (number, record) = (trial.answer.number, trial.record);
-        let outputs = self.unchanged(trial.out == Handed::filled());
+        let outputs = self.unchanged(trial.out == OutputArrays::filled());
         let state = self.unchanged(trial.answer.state == trial.before);
         let trial = format!("answer {number}, record {record}, outputs {outputs}, state {state}");
         self.line(format!("{about}: {run}; its trial: {trial}"));
@@ -348,7 +348,7 @@ impl Station<'_> {
         self.refuse_block("block on a record with too large a step", s, &read, N);
         s = self.record;
         s.weights[SIZES.taps()] = 1;
-        let about = "block on a record with something in a spare place";
+        let about = "block on a record with something in a spare slot";
         self.refuse_block(about, s, &read, N);
         s = self.side.set_up(SMALLEST).state;
         s.psi = 15;

@@ -25,7 +25,7 @@ enum Fault {
     FallUnsaid,
     /// Doubles the feed forward weights alone.
     FallOfOne,
-    /// Does not look at spare places.
+    /// Does not look at spare slots.
     Spare,
     /// Hands back the given state beside an accepted trial.
     TrialStands,

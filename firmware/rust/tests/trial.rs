@@ -16,7 +16,7 @@ struct Lists {
 
 /// What a block hands out.
 #[derive(Clone, Debug, PartialEq)]
-struct Handed {
+struct OutputLists {
     y: Vec<i32>,
     xi: Vec<u8>,
     decision: Vec<i8>,
@@ -47,9 +47,9 @@ impl Lists {
     }
 }
 
-impl Handed {
-    fn filled() -> Handed {
-        Handed {
+impl OutputLists {
+    fn filled() -> OutputLists {
+        OutputLists {
             y: vec![0x5555; 16],
             xi: vec![0x55; 16],
             decision: vec![0x55; 16],
@@ -73,16 +73,16 @@ impl Handed {
 /// state after it.
 fn tried(s: &Equaliser, lists: &Lists, lengths: [usize; 8]) -> (u8, Equaliser) {
     let mut copy = *s;
-    let mut run_out = Handed::filled();
+    let mut run_out = OutputLists::filled();
     let number = tigbulode::run(&mut copy, lists.block(lengths), run_out.lists(lengths));
     for side in [&Library as &dyn Operations, &Second] {
-        let (mut lent, mut out) = (*s, Handed::filled());
+        let (mut lent, mut out) = (*s, OutputLists::filled());
         let answer = side.trial(&mut lent, lists.block(lengths), out.lists(lengths));
         assert_eq!((answer.number, answer.state), (number, copy), "{lengths:?}");
         assert_eq!(out, run_out, "{lengths:?}");
         assert_eq!(lent, *s, "{lengths:?}");
     }
-    assert_eq!(run_out == Handed::filled(), number != 0);
+    assert_eq!(run_out == OutputLists::filled(), number != 0);
     assert_eq!(copy == *s, number != 0);
     (number, copy)
 }

@@ -2,7 +2,7 @@
 //! what is stored.
 
 use reference::cable::{cable, Cable};
-use reference::readings::{readings, Handed, Power, Reading};
+use reference::readings::{readings, Power, Reading, ReadingInputs};
 use reference::vectors::{cable_vectors, description_vectors, readings_vectors, ReadingsVector};
 use reference::{run, set_up, Inputs, Outputs, Settings};
 use tigbulode_laboratory::{number_text, trace_length, MOST_RESPONSE, MOST_SYMBOLS, VERSION};
@@ -119,7 +119,7 @@ fn first_program() -> String {
 /// The readings and the error power of what a block handed out.
 fn read(outputs: &Outputs) -> (Vec<Reading>, Power) {
     let mut lent = vec![Reading::default(); outputs.y.len()];
-    let handed = Handed {
+    let handed = ReadingInputs {
         y: &outputs.y,
         xi: &outputs.xi,
         z: &outputs.z,

@@ -4,7 +4,9 @@
 use crate::block::{run, Inputs, Outputs};
 use crate::numbers::bit_length;
 use crate::random::Random;
-use crate::readings::{magnitude, readings, Handed, Reading, MOST_A, MOST_EXPONENT, MOST_LENGTH};
+use crate::readings::{
+    magnitude, readings, Reading, ReadingInputs, MOST_A, MOST_EXPONENT, MOST_LENGTH,
+};
 use crate::state::State;
 use crate::vectors::spoiled_lists::{self, Spoiler};
 
@@ -35,8 +37,8 @@ impl Lists {
     }
 
     /// The lists as they are handed to the operation.
-    pub fn handed(&self) -> Handed<'_> {
-        Handed {
+    pub fn inputs(&self) -> ReadingInputs<'_> {
+        ReadingInputs {
             y: &self.y,
             xi: &self.xi,
             z: &self.z,
@@ -102,7 +104,7 @@ struct Collection {
 impl Collection {
     fn put(&mut self, about: &'static str, lists: &Lists) -> &ReadingsVector {
         let mut lent = vec![BEFORE; lists.readings];
-        let answer = readings(&lists.handed(), &mut lent);
+        let answer = readings(&lists.inputs(), &mut lent);
         let mut bits: Vec<[u64; 2]> = lent.iter().map(Reading::bits).collect();
         if answer.is_err() {
             assert!(bits.iter().all(|&bits| bits == BEFORE.bits()));
@@ -407,7 +409,7 @@ fn from_blocks(all: &mut Collection) {
         let Some(lists) = handed_out(random, &mut state) else {
             continue;
         };
-        let cut = lists.handed().magnitudes().iter().any(|&a| a > MOST_A);
+        let cut = lists.inputs().magnitudes().iter().any(|&a| a > MOST_A);
         let left = &mut left[usize::from(cut)];
         if *left > 0 {
             assert_eq!(all.put("handed out by a block", &lists).number, 0);

@@ -15,11 +15,11 @@ pub const FAULTS: [(&str, &str); 55] = [
     ("accepted, B comes back as given", "bp"),
     ("accepted, weights come back as given", "b"),
     ("accepted, data come back as given", "bp"),
-    ("accepted, a spare place is written", "bp"),
+    ("accepted, a spare slot is written", "bp"),
     ("refused, a fresh state comes back", "br"),
-    ("refused, spare places come back as 0", "r"),
+    ("refused, spare slots come back as 0", "r"),
     ("refused, the given state is fresh", "brl"),
-    ("refused, spare places are put to 0", "rl"),
+    ("refused, spare slots are put to 0", "rl"),
     ("refused, an output is written", "brp"),
     ("refused, the outputs are zeros", "brp"),
     ("3 brings the outputs to N", "rp"),
@@ -28,7 +28,7 @@ pub const FAULTS: [(&str, &str); 55] = [
     ("6 hands out what was reached", "brp"),
     ("the given b is put to B", "brl"),
     ("3 looks at no output", "rp"),
-    ("9 looks at no spare place", "r"),
+    ("9 looks at no spare slot", "r"),
     ("6 goes unseen", "brp"),
     ("6 while ψ can still rise", "b"),
     ("2 before 1", "r"),
@@ -122,7 +122,7 @@ fn sound(state: &State, fault: &str) -> bool {
         && data[..p - 1].iter().all(small)
         && data[p - 1] == 0
         && data[p..].iter().all(|&v| entry(v.into(), s.r))
-        && (zeros || fault == "9 looks at no spare place")
+        && (zeros || fault == "9 looks at no spare slot")
 }
 
 /// Whether every list is `n` long.
@@ -346,7 +346,7 @@ impl Walk {
         }
     }
 
-    /// The state that holds this, with the spare places as given.
+    /// The state that holds this, with the spare slots as given.
     fn state(&self, given: &State, b: i64, bmax: i64) -> State {
         let mut state = given.clone();
         state.psi = self.psi as u8;
@@ -400,7 +400,7 @@ fn hand_out(number: u8, n: u8, handed: &[[i64; 5]], out: &mut Outputs, fault: &s
     }
 }
 
-/// The same state with every spare place 0.
+/// The same state with every spare slot 0.
 fn cleared(state: &State) -> State {
     let mut cleared = state.compact();
     cleared.weights.resize(state.weights.len(), 0);
@@ -418,12 +418,12 @@ fn hand_back(number: u8, given: &State, reached: &State, fault: &str) -> State {
         (0, "accepted, B comes back as given") => back.bmax = given.bmax,
         (0, "accepted, weights come back as given") => back.weights = given.weights.clone(),
         (0, "accepted, data come back as given") => back.data = given.data.clone(),
-        (0, "accepted, a spare place is written") => {
+        (0, "accepted, a spare slot is written") => {
             let spare = back.data.iter_mut().skip(given.settings.taps());
             spare.take(1).for_each(|place| *place = 1);
         }
         (1.., "refused, a fresh state comes back") => back = State::fresh(),
-        (1.., "refused, spare places come back as 0") => back = cleared(given),
+        (1.., "refused, spare slots come back as 0") => back = cleared(given),
         (6, "6 hands back what was reached") => back = reached.clone(),
         _ => {}
     }
@@ -435,7 +435,7 @@ fn leave(number: u8, given: &mut State, reached: &State, fault: &str) {
     match (number, fault) {
         (0, "accepted, the given state advances") => *given = reached.clone(),
         (1.., "refused, the given state is fresh") => *given = State::fresh(),
-        (1.., "refused, spare places are put to 0") => *given = cleared(given),
+        (1.., "refused, spare slots are put to 0") => *given = cleared(given),
         (6, "6 advances the given state") => *given = reached.clone(),
         (_, "the given b is put to B") => given.b = given.bmax,
         _ => {}

@@ -1,7 +1,7 @@
 //! One cable on both sides, and the trace that comes out of it on the station's
 //! library.
 
-use super::Lent;
+use super::CableInputs;
 use crate::bench::{stopping, Failing};
 use crate::readings::Plots;
 use crate::report::by_number;
@@ -13,17 +13,17 @@ use tigbulode_laboratory::HEADER_BYTES;
 
 /// The simulation of a cable.
 pub trait Simulation {
-    fn cable(&self, lent: &Lent, trace: &mut [u8]) -> u8;
+    fn cable(&self, lent: &CableInputs, trace: &mut [u8]) -> u8;
 }
 
 impl Simulation for Library {
-    fn cable(&self, lent: &Lent, trace: &mut [u8]) -> u8 {
+    fn cable(&self, lent: &CableInputs, trace: &mut [u8]) -> u8 {
         tigbulode_laboratory::cable(&lent.library(), trace)
     }
 }
 
 impl Simulation for Second {
-    fn cable(&self, lent: &Lent, trace: &mut [u8]) -> u8 {
+    fn cable(&self, lent: &CableInputs, trace: &mut [u8]) -> u8 {
         reference::cable::cable(&lent.second(), trace)
     }
 }
@@ -43,7 +43,7 @@ struct Simulated {
     bytes: Vec<u8>,
 }
 
-fn simulated(side: &dyn Simulation, lent: &Lent) -> Simulated {
+fn simulated(side: &dyn Simulation, lent: &CableInputs) -> Simulated {
     let mut bytes = vec![SENTINEL; lent.room + 2 * AROUND];
     let number = side.cable(lent, &mut bytes[AROUND..AROUND + lent.room]);
     let bytes = std::hint::black_box(bytes);
@@ -93,7 +93,7 @@ impl CableTally {
         self.answers.iter().sum()
     }
 
-    fn count(&mut self, lent: &Lent, number: u8, trace: &[u8]) {
+    fn count(&mut self, lent: &CableInputs, number: u8, trace: &[u8]) {
         self.answers[usize::from(number)] += 1;
         let cause = lent.second().cause(lent.room);
         let place = cause.and_then(|cause| Cause::ALL.into_iter().position(|c| c == cause));
@@ -153,14 +153,14 @@ impl<'a> CableBench<'a> {
     }
 
     /// Simulates a cable on both sides.
-    pub fn cable(&mut self, lent: &Lent) -> Result<(), Failing> {
+    pub fn cable(&mut self, lent: &CableInputs) -> Result<(), Failing> {
         stopping(|| self.checked(lent)).unwrap_or_else(|text| {
             let text = format!("a computation stopped: {text}");
             Err(Failing::of("stop", text))
         })
     }
 
-    fn checked(&mut self, lent: &Lent) -> Result<(), Failing> {
+    fn checked(&mut self, lent: &CableInputs) -> Result<(), Failing> {
         let one = simulated(self.library, lent);
         difference(&one, &simulated(self.second, lent))?;
         if ![0, 1, 2, 10].contains(&one.number) {

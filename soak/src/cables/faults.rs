@@ -1,12 +1,12 @@
 //! Built-in faults of a cable.
 
 use super::bench::Simulation;
-use super::Lent;
+use super::CableInputs;
 use crate::faults::{Fault, Faulty};
 use tigbulode_laboratory::{trace_length, HEADER_BYTES};
 
 impl Faulty<'_> {
-    fn accepted_cable(&self, lent: &Lent, trace: &mut [u8]) {
+    fn accepted_cable(&self, lent: &CableInputs, trace: &mut [u8]) {
         let samples = 3 * lent.symbols.len();
         let (body, entries) = trace[HEADER_BYTES..].split_at_mut(samples);
         match self.fault {
@@ -25,7 +25,7 @@ impl Faulty<'_> {
     }
 
     /// A gain of L - 1 is taken.
-    fn below_least(&self, lent: &Lent, trace: &mut [u8]) -> u8 {
+    fn below_least(&self, lent: &CableInputs, trace: &mut [u8]) -> u8 {
         let mut other = lent.clone();
         other.settings.l = lent.settings.l.saturating_sub(1);
         let number = self.side.cable(&other, trace);
@@ -38,7 +38,7 @@ impl Faulty<'_> {
 }
 
 impl Simulation for Faulty<'_> {
-    fn cable(&self, lent: &Lent, trace: &mut [u8]) -> u8 {
+    fn cable(&self, lent: &CableInputs, trace: &mut [u8]) -> u8 {
         let number = self.side.cable(lent, trace);
         let right_room = trace.len() == trace_length(lent.symbols.len());
         match (self.fault, number) {

@@ -1,6 +1,6 @@
 //! A cable as text, as `soak/README.md` has it.
 
-use super::Lent;
+use super::CableInputs;
 use crate::faults::Fault;
 use crate::format::{number, numbers, remarks, words};
 use reference::Settings;
@@ -14,7 +14,7 @@ pub const MOST_ROOM: usize = 1 << 20;
 #[derive(Clone, Debug, PartialEq, Eq)]
 pub struct SavedCable {
     pub fault: Option<Fault>,
-    pub lent: Lent,
+    pub lent: CableInputs,
 }
 
 /// The text of a cable; `about` becomes remarks.
@@ -97,7 +97,7 @@ impl Parts {
         let missing = |name: &str| format!("no {name:?}");
         Ok(SavedCable {
             fault: self.fault,
-            lent: Lent {
+            lent: CableInputs {
                 settings: self.settings.ok_or_else(|| missing("settings"))?,
                 response: self.response.ok_or_else(|| missing("response"))?,
                 symbols: self.symbols.ok_or_else(|| missing("symbols"))?,

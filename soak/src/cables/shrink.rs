@@ -4,12 +4,12 @@
 //! their least, values to 0 and symbols to 1, as long as the cable still fails in
 //! the same check.
 
-use super::Lent;
+use super::CableInputs;
 use crate::shrink::MOST_TRIES;
 use reference::Settings;
 
 /// A cable with which `fails` is true, as it is with `lent`.
-pub fn shrink(mut lent: Lent, fails: &mut dyn FnMut(&Lent) -> bool) -> Lent {
+pub fn shrink(mut lent: CableInputs, fails: &mut dyn FnMut(&CableInputs) -> bool) -> CableInputs {
     let mut tries = 0;
     loop {
         let next = simpler(&lent).find(|other| {
@@ -24,7 +24,7 @@ pub fn shrink(mut lent: Lent, fails: &mut dyn FnMut(&Lent) -> bool) -> Lent {
 }
 
 /// Cables that are simpler than this one, the simplest first.
-fn simpler(lent: &Lent) -> impl Iterator<Item = Lent> + '_ {
+fn simpler(lent: &CableInputs) -> impl Iterator<Item = CableInputs> + '_ {
     fewer_blocks(lent)
         .chain(fewer_values(lent))
         .chain(simpler_settings(lent))
@@ -34,7 +34,7 @@ fn simpler(lent: &Lent) -> impl Iterator<Item = Lent> + '_ {
 }
 
 /// The first or the last of the blocks, half of them or all but one.
-fn fewer_blocks(lent: &Lent) -> impl Iterator<Item = Lent> + '_ {
+fn fewer_blocks(lent: &CableInputs) -> impl Iterator<Item = CableInputs> + '_ {
     let n = usize::from(lent.settings.n.max(1));
     let (count, blocks) = (lent.symbols.len(), lent.symbols.len() / n);
     let kept = [1, blocks / 8, blocks / 2, blocks.saturating_sub(1)];
@@ -49,7 +49,7 @@ fn fewer_blocks(lent: &Lent) -> impl Iterator<Item = Lent> + '_ {
 }
 
 /// The first or the last of the values.
-fn fewer_values(lent: &Lent) -> impl Iterator<Item = Lent> + '_ {
+fn fewer_values(lent: &CableInputs) -> impl Iterator<Item = CableInputs> + '_ {
     let values = lent.response.len();
     let kept = [1, values / 2, values.saturating_sub(1)];
     let kept = kept
@@ -59,13 +59,13 @@ fn fewer_values(lent: &Lent) -> impl Iterator<Item = Lent> + '_ {
         let (first, last) = (..kept, values - kept..);
         [lent.response[first].to_vec(), lent.response[last].to_vec()]
     });
-    lists.map(|response| Lent {
+    lists.map(|response| CableInputs {
         response,
         ..lent.clone()
     })
 }
 
-fn simpler_settings(lent: &Lent) -> impl Iterator<Item = Lent> + '_ {
+fn simpler_settings(lent: &CableInputs) -> impl Iterator<Item = CableInputs> + '_ {
     let s = lent.settings;
     let least = [
         Settings { p: 1, n: 1, ..s },
@@ -76,14 +76,14 @@ fn simpler_settings(lent: &Lent) -> impl Iterator<Item = Lent> + '_ {
         Settings { m: 0, ..s },
     ];
     let least = least.into_iter().filter(move |other| *other != s);
-    least.map(|settings| Lent {
+    least.map(|settings| CableInputs {
         settings,
         ..lent.clone()
     })
 }
 
-fn less_training(lent: &Lent) -> impl Iterator<Item = Lent> + '_ {
-    let less = (lent.training > 0).then(|| Lent {
+fn less_training(lent: &CableInputs) -> impl Iterator<Item = CableInputs> + '_ {
+    let less = (lent.training > 0).then(|| CableInputs {
         training: 0,
         ..lent.clone()
     });
@@ -91,7 +91,7 @@ fn less_training(lent: &Lent) -> impl Iterator<Item = Lent> + '_ {
 }
 
 /// One value each at 0.
-fn plainer_values(lent: &Lent) -> impl Iterator<Item = Lent> + '_ {
+fn plainer_values(lent: &CableInputs) -> impl Iterator<Item = CableInputs> + '_ {
     let places = (0..lent.response.len()).filter(|&at| lent.response[at] != 0);
     places.map(|at| {
         let mut plainer = lent.clone();
@@ -101,7 +101,7 @@ fn plainer_values(lent: &Lent) -> impl Iterator<Item = Lent> + '_ {
 }
 
 /// One symbol each at 1, of the first hundred.
-fn plainer_symbols(lent: &Lent) -> impl Iterator<Item = Lent> + '_ {
+fn plainer_symbols(lent: &CableInputs) -> impl Iterator<Item = CableInputs> + '_ {
     let places = (0..lent.symbols.len().min(100)).filter(|&at| lent.symbols[at] != 1);
     places.map(|at| {
         let mut plainer = lent.clone();

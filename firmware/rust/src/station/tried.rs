@@ -1,6 +1,6 @@
 //! Blocks that a station tries before it takes them.
 
-use super::{block_of, lists_of, run, Handed, Received, Station};
+use super::{block_of, lists_of, run, OutputArrays, Received, Station};
 use super::{FAINT, LOUD, N, SIZES, USUAL};
 use crate::{number, Answer, Equaliser, MOST_EXPONENT, MOST_WEIGHT};
 
@@ -8,7 +8,7 @@ use crate::{number, Answer, Equaliser, MOST_EXPONENT, MOST_WEIGHT};
 pub struct Trial {
     pub before: Equaliser,
     pub answer: Answer,
-    pub out: Handed,
+    pub out: OutputArrays,
     /// "kept", or "CHANGED".
     pub record: &'static str,
     taken: bool,
@@ -36,7 +36,7 @@ fn is_taken(t: &Trial) -> bool {
 impl Station<'_> {
     pub fn try_block(&mut self, s: &mut Equaliser, read: &Received, length: usize) -> Trial {
         let before = *s;
-        let mut out = Handed::filled();
+        let mut out = OutputArrays::filled();
         let lists = lists_of(&mut out, length);
         let answer = self.side.trial(s, block_of(read, length), lists);
         let record = self.unchanged(*s == before);
@@ -53,7 +53,7 @@ impl Station<'_> {
     /// Runs a block that was tried: whether the number, the state and the
     /// lists are those of its trial.
     fn runs_as_tried(&mut self, s: &mut Equaliser, read: &Received, t: &Trial) -> bool {
-        let mut out = Handed::filled();
+        let mut out = OutputArrays::filled();
         let number = run(self.side, s, read, N, &mut out);
         let same = number == t.answer.number && *s == t.answer.state && out == t.out;
         self.marks += u32::from(!same);
@@ -113,7 +113,7 @@ impl Station<'_> {
                 moved = true;
             }
             taken += u32::from(t.taken);
-            let number = run(self.side, other, &read, N, &mut Handed::filled());
+            let number = run(self.side, other, &read, N, &mut OutputArrays::filled());
             self.marks += u32::from(number != number::ACCEPTED);
         }
         let shown = |s: &Equaliser| format!("psi {}, largest weight {}", s.psi, s.largest_weight());
