@@ -18,34 +18,39 @@ fn file(name: &str) -> Vec<u8> {
     std::fs::read(&path).unwrap_or_else(|error| panic!("{name}: {error}"))
 }
 
-/// Whether this line goes on with the sentence of the line before it.
-fn goes_on(before: &str, line: &str) -> bool {
-    let apart =
-        |line: &str| line.is_empty() || line.starts_with(['|', '#']) || line.starts_with("    ");
-    let item = |line: &str| {
-        let word = line.trim_start().split(' ').next().unwrap_or("");
-        word == "-"
-            || word
-                .strip_suffix('.')
-                .is_some_and(|n| n.parse::<u8>().is_ok())
-    };
-    !apart(before) && !apart(line) && !item(line)
+/// The number of a list entry that begins with this line, 0 for one without.
+fn entry_number(line: &str) -> Option<u8> {
+    let word = line.trim_start().split(' ').next()?;
+    match word {
+        "-" => Some(0),
+        _ => word.strip_suffix('.')?.parse().ok().filter(|&n| n > 0),
+    }
 }
 
-/// The page, each paragraph, list entry, row of a table and line of an example on one line.
+/// Whether a line stands by itself: empty, a heading, a row of a table or a
+/// line of an example.
+fn stands_apart(line: &str) -> bool {
+    let begins = ["# ", "## ", "### ", "| ", "|-", "    "];
+    line.is_empty() || begins.iter().any(|begin| line.starts_with(begin))
+}
+
+/// The page, each paragraph, list entry, row of a table and line of an example
+/// on one line. An entry with a number is the first or follows the one before.
 fn page() -> String {
     let text = String::from_utf8(file("docs/EQUALISER.md")).expect("the page is UTF-8");
     let mut page = String::new();
-    let mut before = "";
+    let (mut before, mut number) = ("", 0);
     for line in text.lines() {
-        if goes_on(before, line) {
+        let entry = entry_number(line).filter(|&n| n <= 1 || n == number + 1);
+        if stands_apart(before) || stands_apart(line) || entry.is_some() {
+            page += line;
+        } else {
             page.pop();
             page += " ";
             page += line.trim_start();
-        } else {
-            page += line;
         }
         page += "\n";
+        number = entry.unwrap_or(number);
         before = line;
     }
     page
