@@ -4,14 +4,7 @@ use Prim.Native.Nat.{ℕ, _+_, _*_, _-_, _%_, _^_}
 use lib.Dec.{leb, eqb}
 use lib.IntN.{ℤ, natAbs}
 use Rattle.numbers.specs.ScaleCount.{scaleCount}
-
-pub record Settings : Type 0 where
-  pub p : ℕ
-  pub q : ℕ
-  pub N : ℕ
-  pub r : ℕ
-  pub L : ℕ
-  pub M : ℕ
+pub use Rattle.steps.specs.declared.settings.Settings.{Settings}
 
 -- S and S′
 abbrev pub scaleForward : Settings → ℕ

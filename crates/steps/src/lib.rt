@@ -6,3 +6,4 @@ pub mod factor;
 pub mod fir;
 pub mod limits;
 pub mod output;
+pub mod settings;
