@@ -4,7 +4,15 @@ use Prim.Native.Nat.{ℕ, _+_, _*_, _-_, _%_, _^_}
 use lib.Dec.{leb, eqb}
 use lib.IntN.{ℤ, natAbs}
 use Rattle.numbers.specs.ScaleCount.{scaleCount}
-pub use Rattle.steps.specs.declared.settings.Settings.{Settings}
+use Rattle.steps.specs.declared.settings.Settings as Declared
+
+-- p, q, N, r, L and M, as the struct of the code has them
+abbrev pub Settings : Type 0
+Settings = Declared.Settings
+
+-- the settings of these numbers
+abbrev pub given : ℕ → ℕ → ℕ → ℕ → ℕ → ℕ → Settings
+given p q N r L M = record { p = p; q = q; N = N; r = r; L = L; M = M }
 
 -- S and S′
 abbrev pub scaleForward : Settings → ℕ
