@@ -11,13 +11,13 @@ use Rattle.laws.specs.Sums.{each-of}
 use Rattle.steps.specs.Limits.{outputExponentLimit}
 use Rattle.steps.specs.Fir.{allBelow}
 use Rattle.steps.proofs.LargestLaws.{below-all}
-use Rattle.block.specs.Block.{Outputs, blockOutputs, blockY, blockξ, blockZ, blockθ, AtSample}
+use Rattle.block.specs.Block.{Outputs, blockOutputs, AtSample}
 use Rattle.block.proofs.BlockHolds.{OutputAt, output-at}
 use Rattle.block.proofs.BlockMemory.{block-long}
 use Rattle.state.specs.State.{settings, memory}
 use Rattle.state.specs.declared.equaliser.Equaliser.{Equaliser}
 use Rattle.state.proofs.SizesLaws.{fit-within}
-use Rattle.checks.specs.Checks.{Buffers, block}
+use Rattle.checks.specs.Checks.{Buffers}
 use Rattle.station.specs.Answers.{runNumber, runState, runOutputs}
 use Rattle.station.specs.Claim.{Call, run, trial, save, load, left, Start, WithinLimits, AcceptedBlock, RunHolds, CallHolds, Holds}
 use Rattle.station.proofs.AnswerLaws.{outputs-new}
@@ -32,14 +32,14 @@ use Rattle.laboratory.specs.Taken.{Taken, BlockTaken, CallTaken, AllTake
 
 -- what an accepted block hands out
 abbrev out : Equaliser → Buffers → Lists
-out s l = listsOf (blockY (settings s) (memory s) (block l)) (blockξ (settings s) (memory s) (block l)) (blockZ (settings s) (memory s) (block l)) (blockθ (settings s) (memory s) (block l))
+out s l = listsOf (blockOutputs (settings s) (memory s) (l .block) .y) (blockOutputs (settings s) (memory s) (l .block) .xi) (blockOutputs (settings s) (memory s) (l .block) .z) (blockOutputs (settings s) (memory s) (l .block) .theta)
 
 module _ (s : Equaliser) (g : WithinLimits s) (l : Buffers) (h : AcceptedBlock s l (runState s l) (runOutputs s l)) where
-  at : (n : ℕ) → n < s .n → AtSample (settings s) (memory s) (block l) n
+  at : (n : ℕ) → n < s .n → AtSample (settings s) (memory s) (l .block) n
   at n k = h .sample n k
 
-  out-at : (n : ℕ) → n < s .n → OutputAt (settings s) (memory s) (block l) n
-  out-at n k = output-at (settings s) (memory s) (block l) n k
+  out-at : (n : ℕ) → n < s .n → OutputAt (settings s) (memory s) (l .block) n
+  out-at n k = output-at (settings s) (memory s) (l .block) n k
 
   exponents : (xs : List ℕ) → length xs ≡ s .n → ((n : ℕ) → n < s .n → (1 ≤ getD xs n 0) × (getD xs n 0 ≤ outputExponentLimit)) → all exponentFits xs ≡ true
   exponents xs e f = exponents-fit xs (each-of Exponent 0 xs (λ n k. f n (omega arith)))
@@ -50,7 +50,7 @@ module _ (s : Equaliser) (g : WithinLimits s) (l : Buffers) (h : AcceptedBlock s
   can-be-read : Readable (out s l) (s .n)
   can-be-read =
       let w = fit-within (settings s) (g .sizes) in
-      let long = block-long (settings s) (memory s) (block l) in
+      let long = block-long (settings s) (memory s) (l .block) in
       record {
         fill = record {
           long = record { some = w .N-least; few = w .N-most; y-long = long .y-long; xi-long = long .xi-long; z-long = long .z-long; theta-long = long .theta-long };
@@ -79,7 +79,7 @@ block-taken s g l h a y xi decision z theta r e =
     ok : runNumber s l ≡ 0
     ok = sym (r .number) ∙ e
 
-    o : runOutputs s l ≡ blockOutputs (settings s) (memory s) (block l)
+    o : runOutputs s l ≡ blockOutputs (settings s) (memory s) (l .block)
     o = outputs-new s l ok
 
 call-taken : (s : Equaliser) → WithinLimits s → (c : Call) → CallHolds s c → CallTaken s c
