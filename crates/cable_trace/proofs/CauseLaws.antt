@@ -10,8 +10,8 @@ use lib.IntN.{ℤ}
 use borrow.Author.Tests.{le-leb, lt-leb, leb-true, eq-eqb, ne-eqb, eqb-true, eqb-false}
 use Rattle.laws.specs.Lists.{all}
 use Rattle.laws.specs.Tests.{last-le}
+use Rattle.laws.specs.Values.{values}
 use Rattle.steps.specs.Settings.{isSymbol}
-use Rattle.block.specs.Block.{values}
 use Rattle.state.specs.Sizes.{settingsNumber}
 use Rattle.trace_text.specs.Trace.{traceLimit}
 use Rattle.cable_trace.specs.Limits.{responseLimit, countLimit}

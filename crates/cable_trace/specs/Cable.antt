@@ -9,12 +9,12 @@ use mir.Syntax.{w8, w16}
 use mir.Val.{ofZ}
 use Rattle.laws.specs.Lists.{all}
 use Rattle.laws.specs.Sums.{dot}
+use Rattle.laws.specs.Values.{values, joined}
+use Rattle.words.specs.Words.{bytes, width}
 use Rattle.numbers.specs.Cut.{rescale}
 use Rattle.steps.specs.Limits.{gainLimit}
 use Rattle.steps.specs.Settings.{Settings, isSymbol}
-use Rattle.block.specs.Block.{values}
 use Rattle.state.specs.Sizes.{settingsNumber}
-use Rattle.image.specs.Image.{bytes, width}
 use Rattle.trace_text.specs.Trace.{traceHeaderLength, traceLimit}
 use Rattle.cable_trace.specs.Limits.{responseLimit, countLimit}
 
@@ -79,11 +79,6 @@ traceHeader k count = k .p ∷ k .q ∷ k .N ∷ k .r ∷ k .L ∷ 0 ∷ (bytes 
 -- m and its gain
 abbrev pub sampleBytes : ℕ → ℤ → List ℕ
 sampleBytes r s = bytes (width w16) (ofZ w16 (sample r s)) ++ (gain r s ∷ [])
-
--- the lists f 0 to f (n − 1), one after another
-unfoldable pub joined : (ℕ → List ℕ) → ℕ → List ℕ
-joined f zero = []
-joined f (suc n) = joined f n ++ f n
 
 -- 3 bytes for each sample, one for each training entry
 abbrev pub samplePart : Cable → List ℕ

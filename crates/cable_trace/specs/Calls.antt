@@ -11,16 +11,16 @@ use Rattle.laws.specs.Lists.{all}
 use Rattle.laws.specs.Sums.{Each, dot}
 use mir.Syntax.{w8, w16}
 use mir.Val.{ofZ}
+use Rattle.laws.specs.Values.{values, joined}
+use Rattle.words.specs.Words.{bytes}
 use Rattle.numbers.specs.BitLength.{bitLength}
 use Rattle.numbers.specs.Cut.{rescale}
 use Rattle.steps.specs.Limits.{symbolLimit, gainLimit}
 use Rattle.steps.specs.Settings.{Settings}
-use Rattle.block.specs.Block.{values}
 use Rattle.cable_trace.specs.Limits.{responseLimit}
 use Rattle.state.specs.Sizes.{settingsNumber}
-use Rattle.image.specs.Image.{bytes}
 use Rattle.trace_text.specs.Trace.{traceHeaderLength, traceLimit}
-use Rattle.cable_trace.specs.Cable.{Cable, s, gain, hasGain, sample, sampleCount, traceHeader, joined, cableTrace, gainAvailable, listCause}
+use Rattle.cable_trace.specs.Cable.{Cable, s, gain, hasGain, sample, sampleCount, traceHeader, cableTrace, gainAvailable, listCause}
 
 -- ---- lengths that follow from those of a trace
 

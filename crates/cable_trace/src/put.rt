@@ -8,7 +8,7 @@ ghost use lib.IntN.{pos};
 ghost use mir.Syntax.{w8};
 ghost use mir.Val.{ofZ};
 ghost use Rattle.laws.specs.Sums.{Each};
-ghost use Rattle.block.specs.Block.{values};
+ghost use Rattle.laws.specs.Values.{values};
 ghost use Rattle.state.specs.Sizes.{given};
 ghost use Rattle.image.specs.Image.{header};
 ghost use Rattle.cable_trace.specs.Limits.{countLimit};

@@ -8,7 +8,7 @@ use native.Mathlib.Decide.{decLt}
 use lib.Dec.{eqb}
 use lib.ListN.{length}
 use borrow.Author.Tests.{ne-eqb}
-use Rattle.image.specs.Load.{byteAt}
+use Rattle.words.specs.Words.{byteAt}
 use Rattle.trace_text.specs.Trace.{traceHeaderLength, traceLimit, samplesIn, wellFormed}
 use Rattle.trace_text.proofs.ReadLaws.{well-short, well-large, well-tested}
 use Rattle.description.specs.Texts.{text}

@@ -4,8 +4,9 @@ use mathlib.Core.List.{List, [], _∷_}
 use Prim.Native.Nat.{ℕ, _≤_}
 use lib.ListN.{length, take}
 use Rattle.laws.specs.Sums.{Each}
+use Rattle.words.specs.Words.{Byte}
 use Rattle.steps.specs.Limits.{slots}
-use Rattle.image.specs.Image.{Byte, image, saveNumber, saveLength, saveBuffer}
+use Rattle.image.specs.Image.{image, saveNumber, saveLength, saveBuffer}
 use Rattle.image.specs.Load.{loadNumber, loadState, Load}
 use Rattle.image.specs.declared.save.Saved.{Saved}
 use Rattle.image.proofs.ImageLaws.{save-examined}

@@ -3,14 +3,15 @@ ghost use mathlib.Core.Path.{_≡_};
 ghost use Prim.Native.Nat.{_+_, _*_, _≤_};
 ghost use lib.ListN.{length};
 ghost use mir.Syntax.{w16};
+ghost use Rattle.words.specs.Words.{wordsOf, width};
 ghost use Rattle.steps.specs.Limits.{slots};
 ghost use Rattle.state.specs.State.{padded};
-ghost use Rattle.image.specs.Image.{width, endPlace};
-ghost use Rattle.image.specs.Load.{wordsOf, tapsIn, stateIn, frameNumber, Load};
-use super::bytes::signed16;
-use super::bytes::unsigned32;
+ghost use Rattle.image.specs.Image.{endPlace};
+ghost use Rattle.image.specs.Load.{tapsIn, stateIn, frameNumber, Load};
 use state::equaliser::Answer;
 use state::equaliser::Equaliser;
+use words::read::signed16;
+use words::read::unsigned32;
 
 // Signed numbers of two bytes each, at the front of the slots.
 pub fn words_in(bytes: &[u8], n: usize) -> [i16; Equaliser::SLOTS]

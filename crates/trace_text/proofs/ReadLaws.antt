@@ -1,28 +1,16 @@
--- Lists that a loop fills with numbers, and the tests of a well-formed trace.
-use mathlib.Core.Path.{_≡_, sym, _∙_}
+-- The tests of a well-formed trace.
+use mathlib.Core.Path.{_≡_}
 use mathlib.Core.Bool.{true, false, _&&_}
 use mathlib.Core.List.{List}
 use Prim.Native.Nat.{ℕ, _+_, _*_, _≤_, _<_}
 use native.Mathlib.Omega.{arith}
 use native.Mathlib.Nat.{mul-le-mul-right}
 use lib.Dec.{leb, eqb}
-use lib.ListN.{length, set}
+use lib.ListN.{length}
 use borrow.Author.Tests.{le-leb, lt-leb, leb-true, eqb-true}
 use Rattle.laws.specs.Lists.{and-left, and-right}
-use Rattle.laws.specs.Loops.{Written, written-next, written-all}
-use Rattle.block.specs.Block.{values}
-use Rattle.block.proofs.ValuesLaws.{values-length, values-at}
-use Rattle.image.specs.Load.{byteAt}
+use Rattle.words.specs.Words.{byteAt}
 use Rattle.trace_text.specs.Trace.{traceHeaderLength, traceLimit, samplesIn, wellFormed}
-
--- ---- a loop writes the values of f
-
-module _ {A : Type 0} (f : ℕ → A) (n : ℕ) {old now : List A} {i : ℕ} (w : Written (values f n) old i now) where
-  pub values-written : (d x : A) → i < n → i < length old → x ≡ f i → Written (values f n) old (i + 1) (set now i x)
-  values-written d x h k e = written-next w d x (omega (arith, values-length f n)) k (e ∙ sym (values-at f d n i h))
-
-  pub values-all : length old ≡ n → n ≤ i → now ≡ values f n
-  values-all e h = written-all w (values-length f n ∙ sym e) (omega arith)
 
 -- ---- the tests of a well-formed trace
 

@@ -8,12 +8,12 @@ use native.Mathlib.Nat.{mul-le-mul-right}
 use native.Mathlib.Numerals.{add-one}
 use lib.ListN.{length, length-append}
 use borrow.Author.Tests.{eq-eqb, ne-eqb}
+use Rattle.words.specs.Words.{byteAt}
 use Rattle.steps.specs.Limits.{slots}
 use Rattle.steps.specs.Settings.{Settings}
 use Rattle.state.specs.declared.equaliser.Equaliser.{Equaliser}
 use Rattle.station.specs.Answers.{runNumber, runState}
 use Rattle.station.proofs.NumberLaws.{run-settings, run-long}
-use Rattle.image.specs.Load.{byteAt}
 use Rattle.trace_text.specs.Trace.{settingsIn, countIn, wellFormed, buffersAt}
 use Rattle.trace_text.specs.Text.{blockText, textFrom}
 use Rattle.trace_text.specs.Calls.{lineLimit, textLimit, TextAt, OfTrace, Added-is}

@@ -7,9 +7,9 @@ use lib.ListN.{length, replicate}
 use lib.IntN.{ℤ, pos}
 use mir.Syntax.{w8, w16}
 use mir.Val.{toZ}
+use Rattle.laws.specs.Values.{values}
+use Rattle.words.specs.Words.{byteAt}
 use Rattle.steps.specs.Settings.{Settings}
-use Rattle.block.specs.Block.{values}
-use Rattle.image.specs.Load.{byteAt}
 use Rattle.checks.specs.Checks.{Buffers}
 
 -- bytes of a header, and the most of a trace
@@ -21,17 +21,17 @@ traceLimit = 65536
 
 -- little-endian numbers from a place on
 abbrev pub unsigned16 : List ℕ → ℕ → ℕ
-unsigned16 t i = byteAt t i + 256 * byteAt t (i + 1)
+numberAt 2 t i = byteAt t i + 256 * byteAt t (i + 1)
 
 abbrev pub unsigned32 : List ℕ → ℕ → ℕ
-unsigned32 t i = unsigned16 t i + 65536 * unsigned16 t (i + 2)
+numberAt 4 t i = numberAt 2 t i + 65536 * numberAt 2 t (i + 2)
 
 -- p, q, N, r, L, a 0 byte, the block count and M
 abbrev pub settingsIn : List ℕ → Settings
-settingsIn t = record { p = byteAt t 0; q = byteAt t 1; N = byteAt t 2; r = byteAt t 3; L = byteAt t 4; M = unsigned32 t 8 }
+settingsIn t = record { p = byteAt t 0; q = byteAt t 1; N = byteAt t 2; r = byteAt t 3; L = byteAt t 4; M = numberAt 4 t 8 }
 
 abbrev pub countIn : List ℕ → ℕ
-countIn t = unsigned16 t 6
+countIn t = numberAt 2 t 6
 
 -- how many samples the trace has
 abbrev pub samplesIn : List ℕ → ℕ
@@ -48,7 +48,7 @@ sampleStart n = traceHeaderLength + 3 * n
 
 -- m, gain and training entry of a sample, by its place in the whole trace
 abbrev pub traceSample : List ℕ → ℕ → ℤ
-traceSample t n = toZ w16 (unsigned16 t (sampleStart n))
+traceSample t n = toZ w16 (numberAt 2 t (sampleStart n))
 
 abbrev pub traceGain : List ℕ → ℕ → ℕ
 traceGain t n = byteAt t (sampleStart n + 2)

@@ -6,9 +6,10 @@ use native.Mathlib.Omega.{arith}
 use lib.ListN.{length}
 use borrow.Author.Needs.{needs}
 use borrow.Author.Tests.{not-true, not-false}
+use Rattle.words.specs.Words.{byteAt}
 use Rattle.state.specs.Sizes.{sizesFit, given}
 use Rattle.image.specs.Image.{imageHeaderLength}
-use Rattle.image.specs.Load.{byteAt, tapsIn}
+use Rattle.image.specs.Load.{tapsIn}
 use Rattle.image.proofs.FrameLaws.{frame-short, frame-sizes, frame-exact, frame-other}
 use Rattle.image.proofs.load.frame_number.Statement.{statement}
 use Rattle.image.proofs.load.frame_number.Tie as tie

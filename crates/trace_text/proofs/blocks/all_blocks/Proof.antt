@@ -4,8 +4,8 @@ use Prim.Native.Nat.{ℕ, _-_, _≤_, _<_}
 use native.Mathlib.Omega.{arith}
 use lib.ListN.{length}
 use borrow.Author.Needs.{needs}
+use Rattle.words.specs.Words.{byteAt}
 use Rattle.steps.specs.Limits.{slots}
-use Rattle.image.specs.Load.{byteAt}
 use Rattle.trace_text.specs.Trace.{countIn}
 use Rattle.trace_text.specs.Calls.{OfTrace}
 use Rattle.trace_text.proofs.ReadLaws.{well-long}

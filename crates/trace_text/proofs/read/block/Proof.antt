@@ -9,8 +9,9 @@ use mir.Val.{toZ}
 use borrow.Author.Needs.{needs}
 use Rattle.laws.specs.Machine.{kept}
 use Rattle.laws.specs.Loops.{Written, written-none}
+use Rattle.laws.specs.Values.{values-written, values-all}
 use Rattle.trace_text.specs.Trace.{traceLimit, sampleStart, samplesFrom, gainsFrom, entriesFrom}
-use Rattle.trace_text.proofs.ReadLaws.{values-written, values-all, well-long, well-most}
+use Rattle.trace_text.proofs.ReadLaws.{well-long, well-most}
 use Rattle.trace_text.proofs.read.block.Statement.{statement}
 use Rattle.trace_text.proofs.read.block.Tie as tie
 

@@ -8,8 +8,8 @@ use mir.Val.{toZ}
 use mir.Facts.{toZ-ofZ, sfits-toZ}
 use borrow.Author.Needs.{needs}
 use Rattle.laws.specs.Machine.{upper}
-use Rattle.image.proofs.bytes.signed16.Statement.{statement}
-use Rattle.image.proofs.bytes.signed16.Tie as tie
+use Rattle.words.proofs.read.signed16.Statement.{statement}
+use Rattle.words.proofs.read.signed16.Tie as tie
 
 small : (c : tie.After-unsigned16) → c .unsigned16 .result < 2 ^ 16
 small c = omega (arith, c .unsigned16 .ensures)

@@ -8,9 +8,9 @@ use mir.Syntax.{w16, w32}
 use mir.Val.{SFits, ofZ}
 use mir.Facts.{toZ-ofZ, toZ-pos, sfits-widen, fits-natAbs, fits-ofZ}
 use Rattle.laws.specs.Machine.{lt-tested, lt-refuted}
-use Rattle.image.proofs.ImageLaws.{bits-negative, bits-whole}
-use Rattle.image.proofs.save.word.Statement.{statement}
-use Rattle.image.proofs.save.word.Tie as tie
+use Rattle.words.proofs.PutLaws.{bits-negative, bits-whole}
+use Rattle.words.proofs.write.word.Statement.{statement}
+use Rattle.words.proofs.write.word.Tie as tie
 
 wide : (c : tie.Start) → SFits w32 (c .args .z)
 wide c = sfits-widen tt (c .fits .z)
