@@ -15,7 +15,7 @@ use Rattle.laws.specs.Machine.{fits-abs}
 use Rattle.laws.specs.Values.{values-length, values-at, joined}
 use Rattle.words.specs.Words.{byteAt, numberAt}
 use Rattle.words.proofs.ByteLaws.{two-bytes, four-bytes}
-use Rattle.trace_text.specs.Trace.{traceHeaderLength, sampleStart}
+use Rattle.trace_layout.specs.Trace.{traceHeaderLength, sampleStart}
 use Rattle.cable_trace.specs.Cable.{Cable, s, gain, sample, entry, sampleCount, blockCount, sampleBytes, samplePart, entryPart, cableTrace}
 
 -- ---- lists of three, one after another

@@ -21,6 +21,8 @@ use Rattle.steps.specs.Limits.{gainLimit}
 use Rattle.steps.specs.Settings.{Settings, isSymbol, isEntry}
 use Rattle.steps.specs.Sound.{Within}
 use Rattle.steps.proofs.SymbolLaws.{symbol-entry, entry-below}
+use Rattle.trace_layout.specs.Trace.{traceHeaderLength, settingsIn, countIn, samplesIn, wellFormed, sampleStart}
+use Rattle.trace_layout.proofs.ReadLaws.{well-tested}
 use Rattle.state.specs.Sizes.{settingsNumber}
 use Rattle.state.specs.State.{settings, fresh, refused}
 use Rattle.state.specs.Answers.{SetUp, setUpState}
@@ -38,9 +40,8 @@ use Rattle.station.specs.Answers.{runNumber, runState}
 use Rattle.station.specs.Calls.{ψFitsBlock}
 use Rattle.station.proofs.AnswerLaws.{number-is}
 use Rattle.station.proofs.NumberLaws.{run-settings, run-accepted}
-use Rattle.trace_text.specs.Trace.{traceHeaderLength, settingsIn, countIn, samplesIn, wellFormed, sampleStart, buffersAt}
+use Rattle.trace_text.specs.Trace.{buffersAt}
 use Rattle.trace_text.specs.Text.{textFrom, traceText}
-use Rattle.trace_text.proofs.ReadLaws.{well-tested}
 use Rattle.trace_text.proofs.BufferLaws.{buffers-long, buffers-samples, buffers-gains, buffers-entries}
 use Rattle.trace_text.proofs.TraceLaws.{state-is, accepted-text}
 use Rattle.cable_trace.specs.Limits.{countLimit}

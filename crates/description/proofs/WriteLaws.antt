@@ -15,10 +15,10 @@ use borrow.Rule.Slice.PartMut.{mid-len}
 use Rattle.laws.specs.Values.{values-length, values}
 use Rattle.words.specs.Words.{byteAt, numberAt}
 use Rattle.steps.specs.Settings.{Settings}
+use Rattle.trace_layout.specs.Trace.{traceLimit}
 use Rattle.state.specs.Sizes.{sizesFit, admits, settingsNumber}
 use Rattle.state.proofs.SizesLaws.{settings-refused, settings-number}
-use Rattle.trace_text.specs.Trace.{traceLimit}
-use Rattle.trace_text.specs.Trace as Trace
+use Rattle.trace_layout.specs.Trace as Trace
 use Rattle.trace_text.specs.Calls.{TextAt}
 use Rattle.cable_trace.specs.Cable.{Cable, sampleCount, traceLength, cableTrace, cause, cableNumber}
 use Rattle.cable_trace.specs.Answers.{cableOf, Simulation}

@@ -8,7 +8,7 @@ use mir.Syntax.{w8, w16}
 use mir.Val.{toZ}
 use Rattle.laws.specs.Values.{values}
 use Rattle.words.specs.Words.{byteAt, numberAt}
-use Rattle.trace_text.specs.Trace.{settingsIn}
+use Rattle.trace_layout.specs.Trace.{settingsIn}
 use Rattle.cable_trace.specs.Cable.{Cable, traceLength, cableTrace, cause, cableNumber}
 use Rattle.description.specs.Texts.{text}
 

@@ -10,9 +10,10 @@ use mir.Syntax.{Width}
 use borrow.Author.Tests.{lt-leb, le-leb, eq-eqb, ne-eqb}
 use Rattle.words.specs.Words.{byteAt, numberAt, width, wordsOf}
 use Rattle.steps.specs.Limits.{slots}
-use Rattle.state.specs.Sizes.{sizesFit, given}
+use Rattle.steps.specs.Settings.{given}
+use Rattle.state.specs.Sizes.{sizesFit}
 use Rattle.state.specs.State.{settings, padded}
-use Rattle.image.specs.Image.{imageHeaderLength, weightWord, datumWord, dataPlace, endPlace}
+use Rattle.image.specs.Image.{imageHeaderLength, weightWord, datumWord, dataPlace, endPlace, imageLength}
 use Rattle.image.specs.Load.{tapsIn, stateIn, frameNumber}
 use Rattle.state.specs.declared.equaliser.Equaliser.{Equaliser}
 use Rattle.state.proofs.SizesLaws.{fit-within}
@@ -26,18 +27,24 @@ module _ (l : List ℕ) where
   frame-short h = simp (lt-leb imageHeaderLength (length l) h)
 
   module _ (h : imageHeaderLength ≤ length l) where
-    pub frame-sizes : sizesFit (given (byteAt l 0) (byteAt l 1) (byteAt l 2) (byteAt l 3) (byteAt l 4) 0) ≡ false → 1 ≡ frameNumber l
-    unfolding frameNumber stateIn
+    pub frame-sizes : sizesFit (settings (stateIn l)) ≡ false → 1 ≡ frameNumber l
+    unfolding frameNumber
     frame-sizes f = rw (le-leb imageHeaderLength (length l) h, f)
 
-    module _ (f : sizesFit (given (byteAt l 0) (byteAt l 1) (byteAt l 2) (byteAt l 3) (byteAt l 4) 0) ≡ true) where
-      pub frame-exact : length l ≡ endPlace (tapsIn l) → 0 ≡ frameNumber l
-      unfolding frameNumber stateIn
-      frame-exact e = rw (le-leb imageHeaderLength (length l) h, f, eq-eqb (length l) (endPlace (tapsIn l)) e)
+    module _ (f : sizesFit (settings (stateIn l)) ≡ true) where
+      pub frame-exact : length l ≡ imageLength (stateIn l) → 0 ≡ frameNumber l
+      unfolding frameNumber
+      frame-exact e = rw (le-leb imageHeaderLength (length l) h, f, eq-eqb (length l) (imageLength (stateIn l)) e)
 
-      pub frame-other : (length l ≡ endPlace (tapsIn l) → ⊥) → 8 ≡ frameNumber l
-      unfolding frameNumber stateIn
-      frame-other e = rw (le-leb imageHeaderLength (length l) h, f, ne-eqb (length l) (endPlace (tapsIn l)) e)
+      pub frame-other : (length l ≡ imageLength (stateIn l) → ⊥) → 8 ≡ frameNumber l
+      unfolding frameNumber
+      frame-other e = rw (le-leb imageHeaderLength (length l) h, f, ne-eqb (length l) (imageLength (stateIn l)) e)
+
+-- ---- the settings
+
+pub settings-made : (l : List ℕ) (m : ℕ) → m ≡ numberAt 4 l 8 → given (byteAt l 0) (byteAt l 1) (byteAt l 2) (byteAt l 3) (byteAt l 4) m ≡ settings (stateIn l)
+unfolding stateIn
+settings-made l m e = ap (given (byteAt l 0) (byteAt l 1) (byteAt l 2) (byteAt l 3) (byteAt l 4)) e
 
 -- ---- bytes that pass
 

@@ -3,8 +3,8 @@ ghost use mathlib.Core.Path.{_≡_};
 ghost use lib.ListN.{length};
 ghost use Rattle.image.specs.Image.{header, imageHeaderLength, Save};
 use state::equaliser::Equaliser;
-use words::write::put32;
 use words::write::put_words;
+use words::write::put32;
 
 // A number beside the length of an image.
 #[repr(C)]

@@ -16,6 +16,9 @@ use Rattle.laws.specs.Machine.{abs-fits}
 use Rattle.laws.specs.Values.{values-length, values-at}
 use Rattle.words.specs.Words.{byteAt, numberAt}
 use Rattle.steps.specs.Limits.{blockLimit, slots}
+use Rattle.trace_layout.specs.Trace.{traceLimit, settingsIn, countIn, samplesIn, sampleStart, samplesFrom, traceSample}
+use Rattle.trace_layout.proofs.ReadLaws.{well-long, well-most}
+use Rattle.trace_layout.specs.Calls.{Read-is}
 use Rattle.filter.proofs.DecisionSize.{decision-most}
 use Rattle.block.specs.Block.{Outputs, Γ, at, entryAt, blockY, blockξ, blockDecision}
 use Rattle.block.proofs.BlockMemory as Left
@@ -28,11 +31,10 @@ use Rattle.checks.specs.Calls.{Sampled, Checked}
 use Rattle.checks.proofs.CheckLaws.{checked-is}
 use Rattle.station.specs.Answers.{runNumber, Run}
 use Rattle.station.proofs.AnswerLaws.{outputs-new, run-tests}
-use Rattle.trace_text.specs.Trace.{traceLimit, settingsIn, countIn, samplesIn, sampleStart, samplesFrom, traceSample, buffersWith, buffersAt}
+use Rattle.trace_text.specs.Trace.{buffersWith, buffersAt}
 use Rattle.trace_text.specs.Text.{lines, blockLines, stopLine, blockText}
-use Rattle.trace_text.specs.Calls.{lineLimit, Printable, AllPrintable, Read-is, Ran-is, OfTrace}
+use Rattle.trace_text.specs.Calls.{lineLimit, Printable, AllPrintable, Ran-is, OfTrace}
 use Rattle.trace_text.proofs.LineLaws.{lines-short}
-use Rattle.trace_text.proofs.ReadLaws.{well-long, well-most}
 
 -- ---- work areas
 

@@ -10,7 +10,7 @@ use borrow.Author.Needs.{needs}
 use borrow.Rule.Slice.PartMut.{midOf, mid-len}
 use Rattle.laws.specs.Values.{values-length}
 use Rattle.laws.specs.Lent.{parts-put}
-use Rattle.trace_text.specs.Trace.{traceHeaderLength}
+use Rattle.trace_layout.specs.Trace.{traceHeaderLength}
 use Rattle.state.specs.Sizes.{given}
 use Rattle.cable_trace.specs.Cable.{traceHeader}
 use Rattle.cable_trace.proofs.PutLaws.{stored-front}

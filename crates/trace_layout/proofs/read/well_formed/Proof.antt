@@ -8,10 +8,10 @@ use lib.Dec.{eqb}
 use lib.ListN.{length, getD}
 use borrow.Author.Needs.{needs}
 use borrow.Author.Tests.{eq-eqb, ne-eqb}
-use Rattle.trace_text.specs.Trace.{traceHeaderLength, samplesIn, countIn, wellFormed}
-use Rattle.trace_text.proofs.ReadLaws.{well-short, well-large, well-tested, few}
-use Rattle.trace_text.proofs.read.well_formed.Statement.{statement}
-use Rattle.trace_text.proofs.read.well_formed.Tie as tie
+use Rattle.trace_layout.specs.Trace.{traceHeaderLength, samplesIn, countIn, wellFormed}
+use Rattle.trace_layout.proofs.ReadLaws.{well-short, well-large, well-tested, few}
+use Rattle.trace_layout.proofs.read.well_formed.Statement.{statement}
+use Rattle.trace_layout.proofs.read.well_formed.Tie as tie
 
 abbrev bytes : tie.After-samples → List ℕ
 bytes c = c .before .before .before .before .args .t .now

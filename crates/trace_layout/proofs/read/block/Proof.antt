@@ -10,10 +10,10 @@ use borrow.Author.Needs.{needs}
 use Rattle.laws.specs.Machine.{kept}
 use Rattle.laws.specs.Loops.{Written, written-none}
 use Rattle.laws.specs.Values.{values-written, values-all}
-use Rattle.trace_text.specs.Trace.{traceLimit, sampleStart, samplesFrom, gainsFrom, entriesFrom}
-use Rattle.trace_text.proofs.ReadLaws.{well-long, well-most}
-use Rattle.trace_text.proofs.read.block.Statement.{statement}
-use Rattle.trace_text.proofs.read.block.Tie as tie
+use Rattle.trace_layout.specs.Trace.{traceLimit, sampleStart, samplesFrom, gainsFrom, entriesFrom}
+use Rattle.trace_layout.proofs.ReadLaws.{well-long, well-most}
+use Rattle.trace_layout.proofs.read.block.Statement.{statement}
+use Rattle.trace_layout.proofs.read.block.Tie as tie
 
 abbrev Inv-loop : tie.InvT-loop
 Inv-loop t first m₀ gains₀ entries₀ start i₀ m gains entries i =

@@ -1,32 +1,45 @@
 // The bytes of a trace.
 use super::limits::TRACE;
 use super::limits::TRACE_HEADER;
-use image::bytes::signed16;
-use image::bytes::unsigned16;
+use steps::settings::Settings;
+use words::read::signed8;
+use words::read::signed16;
+use words::read::unsigned16;
+use words::read::unsigned32;
 ghost use mathlib.Core.Path.{_≡_};
 ghost use Prim.Native.Nat.{_≤_};
 ghost use lib.ListN.{length};
-ghost use mir.Syntax.{w8};
-ghost use mir.Val.{toZ};
-ghost use Rattle.trace_text.specs.Trace.{traceHeaderLength, samplesIn, wellFormed};
-ghost use Rattle.trace_text.specs.Calls.{Readable, Read-is};
+ghost use Rattle.trace_layout.specs.Trace.{traceHeaderLength, settingsIn, countIn, samplesIn, wellFormed};
+ghost use Rattle.trace_layout.specs.Calls.{Readable, Read-is};
 
-pub fn signed8(b: u8) -> i8
-    ensures { λ r. ⌜ r ≡ toZ w8 b ⌝ }
+// The settings.
+pub fn settings_in(t: &[u8]) -> Settings
+    requires { ⌜ traceHeaderLength ≤ length (now t) ⌝ }
+    ensures { λ k. ⌜ k ≡ settingsIn (now (t .entry)) ⌝ }
 {
-    if b < 128 {
-        b as i8
-    } else {
-        -1 - ((255 - b) as i8)
+    Settings {
+        p: t[0],
+        q: t[1],
+        N: t[2],
+        r: t[3],
+        L: t[4],
+        M: unsigned32(t[8], t[9], t[10], t[11]),
     }
 }
 
-// How many samples the header tells.
+// How many blocks the header tells, and how many samples.
+pub fn count_in(t: &[u8]) -> usize
+    requires { ⌜ traceHeaderLength ≤ length (now t) ⌝ }
+    ensures { λ r. ⌜ r ≡ countIn (now (t .entry)) ⌝ }
+{
+    unsigned16(t[6], t[7]) as usize
+}
+
 fn samples(t: &[u8]) -> usize
     requires { ⌜ traceHeaderLength ≤ length (now t) ⌝ }
     ensures { λ r. ⌜ r ≡ samplesIn (now (t .entry)) ⌝ }
 {
-    (t[2] as usize) * (unsigned16(t[6], t[7]) as usize)
+    (t[2] as usize) * count_in(t)
 }
 
 // m, gains and training entries of a block whose first sample has this place. The entries lie behind all samples.

@@ -10,7 +10,7 @@ use lib.ListN.{length}
 use borrow.Author.Tests.{le-leb, lt-leb, leb-true, eqb-true}
 use Rattle.laws.specs.Lists.{and-left, and-right}
 use Rattle.words.specs.Words.{byteAt}
-use Rattle.trace_text.specs.Trace.{traceHeaderLength, traceLimit, samplesIn, wellFormed}
+use Rattle.trace_layout.specs.Trace.{traceHeaderLength, traceLimit, samplesIn, wellFormed}
 
 -- ---- the tests of a well-formed trace
 
