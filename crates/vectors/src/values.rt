@@ -23,12 +23,13 @@ pub fn unsigned32_at(v: &[u8], at: usize) -> u32
     requires { ⌜ at < farthest ⌝ }
     ensures { λ r. ⌜ r ≡ numberAt 4 (now (v .entry)) at ⌝ }
 {
-    let high = at + 2;
+    let second = at + 1;
+    let third = second + 1;
     words::read::unsigned32(
         byte_at(v, at),
-        byte_at(v, at + 1),
-        byte_at(v, high),
-        byte_at(v, high + 1),
+        byte_at(v, second),
+        byte_at(v, third),
+        byte_at(v, third + 1),
     )
 }
 
