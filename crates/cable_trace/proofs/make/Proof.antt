@@ -80,13 +80,13 @@ summed c =
     ∙ sums-are (cable b) (fitting b .few) (fitting b .response-most)
 
 sub-if1 : tie.Need-sub-if1
-sub-if1 c = omega (arith, within (begin (c .before .before)) .L-most)
+sub-if1 c = omega (arith, within (begin (c .before .before .before .before)) .L-most)
 
 -- every gain, by the bits of the sums
-fit : (c : tie.After-bit-length) → let k = cable (begin (c .before .before .before)) in
+fit : (c : tie.After-bit-length) → let k = cable (begin (c .before .before .before .before .before)) in
     leb (c .bit-length .result) (15 + k .settings .r - k .settings .L) ≡ all (gainAvailable (k .settings)) (values (s k) (sampleCount k))
 fit c =
-    let m = c .before .before in
+    let m = c .before .before .before .before in
     let b = begin (m .before) in
     let k = cable b in
     ap (λ (n : ℕ). leb n (15 + k .settings .r - k .settings .L)) (c .bit-length .ensures ∙ ap bitLength (m .sums2 .ensures .1 ∙ ap (λ (l : List ℤ). orAll (magnitudes l)) (summed m)))
@@ -98,29 +98,29 @@ returns c = record { fit-is = sym (lt-leb _ _ (c .if1 .taken)) ∙ fit (c .befor
 -- ---- the trace
 
 -- the sums that were written stand in front of the work area
-written : (c : tie.After-bit-length) → let k = cable (begin (c .before .before .before)) in
-    take (sampleCount k - 0) (c .before .before .sums2 .last .1 .1 .0 ++ postOf 0 (sampleCount k - 0) (areas (placed (c .before .before .before)) .empty-sums .result)) ≡ values (s k) (sampleCount k)
+written : (c : tie.After-bit-length) → let k = cable (begin (c .before .before .before .before .before)) in
+    take (sampleCount k - 0) (c .before .before .before .before .sums2 .last .1 .1 .0 ++ postOf 0 (sampleCount k - 0) (areas (placed (c .before .before .before .before .before)) .empty-sums .result)) ≡ values (s k) (sampleCount k)
 written c =
-    let m = c .before .before in
+    let m = c .before .before .before .before in
     let k = cable (begin (m .before)) in
     take-at (m .sums2 .last .1 .1 .0) _ (sampleCount k - 0) (ap length (summed m) ∙ values-length (s k) (sampleCount k) ∙ omega arith) ∙ summed m
 
 part-sums-end-2 : tie.Need-part-sums-end-2
 part-sums-end-2 c =
-    let m = c .before .before .before in
+    let m = c .before .before .before .before .before in
     let k = cable (begin (m .before)) in
     omega (arith, length-append (m .sums2 .last .1 .1 .0) (postOf 0 (sampleCount k - 0) (areas (placed (m .before)) .empty-sums .result)), ap length (summed m) ∙ values-length (s k) (sampleCount k))
 
-gains : (c : tie.Else1) → let k = cable (begin (c .before .before .before .before)) in Each (Gainable (k .settings .r)) (values (s k) (sampleCount k))
+gains : (c : tie.Else1) → let k = cable (begin (c .before .before .before .before .before .before)) in Each (Gainable (k .settings .r)) (values (s k) (sampleCount k))
 gains c =
-    let b = begin (c .before .before .before .before) in
+    let b = begin (c .before .before .before .before .before .before) in
     let k = cable b in
     gains-each (k .settings) (values (s k) (sampleCount k)) (within b .r-most) (sym (fit (c .before)) ∙ le-leb _ _ (c .if1 .left))
 
 trace-requires : tie.Need-trace-requires
 trace-requires c κs =
     let e = c .before .before in
-    let b = begin (e .before .before .before .before) in
+    let b = begin (e .before .before .before .before .before .before) in
     let k = cable b in
     rw (written (e .before)) (
       gains e,
@@ -139,7 +139,7 @@ returns-2 : tie.Need-returns-2
 returns-2 c =
     let t = c .before .before .before in
     let e = t .before .before .before in
-    let k = cable (begin (e .before .before .before .before)) in
+    let k = cable (begin (e .before .before .before .before .before .before)) in
     record {
       fit-is = sym (sym (fit (e .before)) ∙ le-leb _ _ (e .if1 .left));
       contents = t .trace .ensures .1 ∙ trace-is k _ (t .trace .ensures .0 ∙ ap (sampleWords (k .settings .r)) (written (e .before))) (gains e);
@@ -150,5 +150,5 @@ make-spec =
     tie.close
     (tie.spec
     (λ c κs. search needs) (λ c κs. search needs) (λ c κs. search needs) (λ c. search needs) line-requires (λ c. search needs) (λ c. search needs) (λ c. search needs)
-    part-sums-end sums-requires (λ c. search needs) sub-if1 (λ c. search needs) (λ c κs. search needs) returns
+    part-sums-end sums-requires (λ c. search needs) (λ c. search needs) (λ c. search needs) sub-if1 (λ c. search needs) (λ c κs. search needs) returns
     (λ c. search needs) (λ c. search needs) part-sums-end-2 trace-requires (λ c. search needs) returns-2)

@@ -22,12 +22,12 @@ abbrev μ-loop : tie.MeasureT-loop
 -- ---- the count of blocks
 
 count-in-requires : tie.Need-count-in-requires Inv-loop μ-loop
-count-in-requires c κs = omega (arith, well-long _ (c .before .pre .trace .well-formed))
+count-in-requires c κs = omega (arith, well-long _ (c .before .before .pre .trace .well-formed))
 
 -- ---- the turn that calls
 
 abbrev first : tie.After-count-in Inv-loop μ-loop → tie.Start Inv-loop μ-loop
-first c = c .before .before
+first c = c .before .before .before
 
 weights-long : (c : tie.After-count-in Inv-loop μ-loop) → length (first c .args .e .weights) ≡ slots
 weights-long c = search needs
