@@ -12,6 +12,7 @@ use Rattle.laws.specs.Values.{values-length, values, take-values}
 use Rattle.words.specs.Words.{byteAt}
 use Rattle.state.specs.declared.equaliser.Equaliser.{Equaliser}
 use Rattle.state.specs.declared.equaliser.Answer.{Answer}
+use Rattle.block.specs.Block.{Outputs, outputsOf}
 use Rattle.checks.specs.Checks.{Buffers, buffersOf}
 use Rattle.station.specs.Answers.{Run}
 use Rattle.vectors.specs.Compare.{between, outputBytes}
@@ -49,16 +50,30 @@ buffers-on v m gains entries y xi d z th a b c e f = rw (a, b, c, e, f) refl
 
 -- what running the block answers
 module _ (v : List ℕ) (s : Equaliser) (given l : Buffers) (a : Answer) (y : List ℤ) (xi : List ℕ) (d z : List ℤ) (th : List ℕ)
-    (e : s ≡ recordIn v) (same : given ≡ l) (ran : Run s given a y xi d z th) where
-  r : Run (recordIn v) l a y xi d z th
-  r = subst (λ (k : Buffers). Run (recordIn v) k a y xi d z th) same (subst (λ (k : Equaliser). Run k given a y xi d z th) e ran)
+    (e : s ≡ recordIn v) (same : given ≡ l) (ran : Run s given a (outputsOf y xi d z th)) where
+  r : Run (recordIn v) l a (outputsOf y xi d z th)
+  r = subst (λ (k : Buffers). Run (recordIn v) k a (outputsOf y xi d z th)) same (subst (λ (k : Equaliser). Run k given a (outputsOf y xi d z th)) e ran)
 
   pub result-on : (ry : List ℤ) (rx : List ℕ) (rd rz : List ℤ) (rt : List ℕ) →
       ry ≡ replicate (listLimit - lengthAt v 3) fillLong → rx ≡ replicate (listLimit - lengthAt v 4) fill → rd ≡ replicate (listLimit - lengthAt v 5) fillSigned →
       rz ≡ replicate (listLimit - lengthAt v 6) fillLong → rt ≡ replicate (listLimit - lengthAt v 7) fill →
       record { number = a .number; state = a .state; y = y ++ ry; xi = xi ++ rx; decision = d ++ rd; z = z ++ rz; theta = th ++ rt } ≡ resultOn v l
   unfolding resultOn
-  result-on ry rx rd rz rt g h i j k = rw (r .number, r .state, r .y-is, r .xi-is, r .decision-is, r .z-is, r .theta-is, g, h, i, j, k) refl
+  result-on ry rx rd rz rt g h i j k = 
+      rw (
+        r .number,
+        r .state,
+        ap (λ (o : Outputs). o .y) (r .outputs),
+        ap (λ (o : Outputs). o .xi) (r .outputs),
+        ap (λ (o : Outputs). o .decision) (r .outputs),
+        ap (λ (o : Outputs). o .z) (r .outputs),
+        ap (λ (o : Outputs). o .theta) (r .outputs),
+        g,
+        h,
+        i,
+        j,
+        k,
+      ) refl
 
 -- the three lists in v
 module _ (v : List ℕ) (fits : listsFit v ≡ true) (a b c : ℕ) (ea : a ≡ lengthAt v 0) (eb : b ≡ lengthAt v 1) (ec : c ≡ lengthAt v 2) (r : Lists)

@@ -12,7 +12,8 @@ use mir.Val.{toZ}
 use Rattle.laws.specs.Values.{values}
 use Rattle.words.specs.Words.{byteAt, numberAt}
 use Rattle.steps.specs.Limits.{blockLimit}
-use Rattle.checks.specs.Checks.{Buffers, block}
+use Rattle.block.specs.Block.{blockOf, outputsOf}
+use Rattle.checks.specs.Checks.{Buffers}
 use Rattle.station.specs.Answers.{runNumber, runState, runOutputs}
 use Rattle.laws.specs.Comparisons.{below}
 use Rattle.vectors.specs.Compare.{between, outputBytes, sameOutputs}
@@ -75,14 +76,8 @@ entryIn v at i = toZ w8 (byteAt v (at + i))
 -- these three lists, and five that are filled, of the lengths in v
 unfoldable pub buffersOn : List ℕ → List ℤ → List ℕ → List ℤ → Buffers
 buffersOn v m gains entries = record {
-  m = m;
-  gains = gains;
-  entries = entries;
-  y = replicate (lengthAt v 3) fillLong;
-  xi = replicate (lengthAt v 4) fill;
-  decision = replicate (lengthAt v 5) fillSigned;
-  z = replicate (lengthAt v 6) fillLong;
-  theta = replicate (lengthAt v 7) fill;
+  block = blockOf m gains entries;
+  outputs = outputsOf (replicate (lengthAt v 3) fillLong) (replicate (lengthAt v 4) fill) (replicate (lengthAt v 5) fillSigned) (replicate (lengthAt v 6) fillLong) (replicate (lengthAt v 7) fill);
 }
 
 -- what running a block on the record in v answers, each list at the front of its places

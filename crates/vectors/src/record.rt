@@ -7,11 +7,11 @@ ghost use Rattle.laws.specs.Comparisons.{equal};
 ghost use Rattle.words.specs.Words.{words};
 ghost use Rattle.vectors.specs.Record.{recordLength, recordIn, sameRecord, buffer, sameSaved};
 use super::compare::same_bytes;
-use image::bytes::unsigned32;
 use image::load::words_in;
 use image::save::put_header;
-use image::save::put_words;
 use state::equaliser::Equaliser;
+use words::read::unsigned32;
+use words::write::put_words;
 
 // What lists and buffers are filled with before they are lent. No block hands out any of it.
 pub const FILL: u8 = 165;

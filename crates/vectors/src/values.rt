@@ -16,19 +16,20 @@ pub fn unsigned16_at(v: &[u8], at: usize) -> u32
     requires { ⌜ at < farthest ⌝ }
     ensures { λ r. ⌜ r ≡ numberAt 2 (now (v .entry)) at ⌝ }
 {
-    image::bytes::unsigned16(byte_at(v, at), byte_at(v, at + 1))
+    words::read::unsigned16(byte_at(v, at), byte_at(v, at + 1))
 }
 
 pub fn unsigned32_at(v: &[u8], at: usize) -> u32
     requires { ⌜ at < farthest ⌝ }
     ensures { λ r. ⌜ r ≡ numberAt 4 (now (v .entry)) at ⌝ }
 {
-    let high = at + 2;
-    image::bytes::unsigned32(
+    let second = at + 1;
+    let third = second + 1;
+    words::read::unsigned32(
         byte_at(v, at),
-        byte_at(v, at + 1),
-        byte_at(v, high),
-        byte_at(v, high + 1),
+        byte_at(v, second),
+        byte_at(v, third),
+        byte_at(v, third + 1),
     )
 }
 
@@ -45,12 +46,12 @@ pub fn signed32(n: u32) -> i32
 pub fn signed8_at(v: &[u8], at: usize) -> i8
     ensures { λ r. ⌜ r ≡ toZ w8 (byteAt (now (v .entry)) at) ⌝ }
 {
-    trace_text::read::signed8(byte_at(v, at))
+    words::read::signed8(byte_at(v, at))
 }
 
 pub fn signed16_at(v: &[u8], at: usize) -> i16
     requires { ⌜ at < farthest ⌝ }
     ensures { λ r. ⌜ r ≡ toZ w16 (numberAt 2 (now (v .entry)) at) ⌝ }
 {
-    image::bytes::signed16(byte_at(v, at), byte_at(v, at + 1))
+    words::read::signed16(byte_at(v, at), byte_at(v, at + 1))
 }

@@ -2,6 +2,7 @@
 ghost use Prim.Native.Nat.{_<_};
 use libc::STDOUT_FILENO;
 use state::equaliser::Equaliser;
+use steps::settings::Settings;
 use vectors::sample::IMAGE;
 use vectors::sample::run_sample;
 
@@ -36,7 +37,15 @@ fn put_all(image: &[u8; IMAGE]) {
 }
 
 fn run() {
-    let fresh = Equaliser::set_up(1, 1, 1, 0, 0, 67108864);
+    let k = Settings {
+        p: 1,
+        q: 1,
+        N: 1,
+        r: 0,
+        L: 0,
+        M: 67108864,
+    };
+    let fresh = Equaliser::set_up(k);
     let first = block(fresh.state, 1);
     let second = block(first, 0);
     let mut image = [0u8; IMAGE];
