@@ -1,7 +1,7 @@
 -- Laws of the loops over a filter.
 use mathlib.Core.Path.{_≡_, refl, sym, ap, ap₂, _∙_, fun-ext}
 use mathlib.Core.List.{List, [], _∷_, map, map-map, map-id}
-use Prim.Native.Nat.{ℕ, zero, suc, _+_, _*_, _^_, _≤_, _<_}
+use Prim.Native.Nat.{ℕ, zero, suc, _+_, _*_, _-_, _^_, _≤_, _<_}
 use native.Mathlib.Omega.{arith}
 use native.Mathlib.Nat.{le-of-lt, le-of-suc-le-suc, not-suc-le-zero, lt-of-le-of-lt, lt-of-lt-of-le, mul-le-mul-left, mul-le-mul-right, min-le-right}
 use lib.Bits.{bitOr}
@@ -18,7 +18,7 @@ use Rattle.laws.specs.Powers.{rises}
 use Rattle.numbers.specs.Cut.{cut, raise, rescale}
 use Rattle.numbers.proofs.BitLengthLaws.{bit-length-le}
 use Rattle.numbers.proofs.CutLaws.{cut-zero, cut-none, cut-lt, raise-abs, raise-mul, rescale-down, rescale-up}
-use Rattle.steps.specs.Limits.{halvingLimit, doublingLimit}
+use Rattle.steps.specs.Limits.{weightUnit, dataUnit, outputUnit, updateShift, halvingLimit, doublingLimit}
 use Rattle.steps.specs.Fir.{Small, adapted, adapt, halved, doubled, push, largest, largestBits, magnitudes}
 use Rattle.steps.specs.Sound.{orAll, Summable, Adaptable, Storable}
 use Rattle.steps.proofs.IncrementLaws.{adapted-fits}
@@ -85,12 +85,12 @@ module _ {new old now : List ℤ} {i seen : ℕ} (c : Changing new old i now see
       let e = written-all (c .written) l h in
       (e, or-all-all (magnitudes new) i seen (rw length-map (omega arith)) (c .bits) ∙ ap (λ (w : List ℤ). orAll (magnitudes w)) (sym e))
 
--- new weights fit 16 bits where the data are at most m
-pub adapt-each : (K : ℤ) (m : ℕ) → natAbs K * m < 2 ^ 44 → (w a : List ℤ) → Each Small w → Each (λ (x : ℤ). natAbs x ≤ m) a →
-    Each (λ (x : ℤ). natAbs x < 2 ^ 15) (adapt K w a)
+-- new weights are below 2^weightUnit where the data are at most m
+pub adapt-each : (K : ℤ) (m : ℕ) → natAbs K * m < 2 ^ (outputUnit - 1 + dataUnit) → (w a : List ℤ) → Each Small w → Each (λ (x : ℤ). natAbs x ≤ m) a →
+    Each (λ (x : ℤ). natAbs x < 2 ^ weightUnit) (adapt K w a)
 unfolding adapt
 adapt-each K m b [] a h g = tt
-adapt-each K m b (w ∷ ws) [] h g = each-weaken Small (λ (x : ℤ). natAbs x < 2 ^ 15) (λ x l. omega arith) (w ∷ ws) h
+adapt-each K m b (w ∷ ws) [] h g = each-weaken Small (λ (x : ℤ). natAbs x < 2 ^ weightUnit) (λ x l. omega arith) (w ∷ ws) h
 adapt-each K m b (w ∷ ws) (x ∷ a) h g =
     (adapted-fits K w x (h .0) (lt-of-le-of-lt (mul-le-mul-left (natAbs K) (g .0)) b), adapt-each K m b ws a (h .1) (g .1))
 
@@ -99,14 +99,14 @@ pub adapt-raise : (e : ℕ) (k : ℤ) (w a : List ℤ) → adapt k w (map (λ (x
 unfolding adapt
 adapt-raise e k [] a = refl
 adapt-raise e k (w ∷ ws) [] = refl
-adapt-raise e k (w ∷ ws) (a ∷ b) = ap₂ (λ (y : ℤ) (z : List ℤ). y ∷ z) (ap (λ (y : ℤ). w +ℤ cut y 30) turned) (adapt-raise e k ws b)
+adapt-raise e k (w ∷ ws) (a ∷ b) = ap₂ (λ (y : ℤ) (z : List ℤ). y ∷ z) (ap (λ (y : ℤ). w +ℤ cut y updateShift) turned) (adapt-raise e k ws b)
   where
     turned : k *ℤ raise a e ≡ raise k e *ℤ a
     turned = sym (*ℤ-assoc k a (pos (2 ^ e))) ∙ sym (raise-mul k a e)
 
 -- what one weight asks
 pub adapt-room : (J : ℤ) (t : ℕ) (w a : List ℤ) (i : ℕ) → Adaptable J t w a → i < length w →
-    (Small (getD w i (pos 0))) × (natAbs J * natAbs (getD a i (pos 0)) < 2 ^ (29 + t))
+    (Small (getD w i (pos 0))) × (natAbs J * natAbs (getD a i (pos 0)) < 2 ^ (outputUnit - 1 + t))
 adapt-room J t w a i s h = (each-at Small w i (pos 0) (s .small) h, lt-of-le-of-lt (mul-le-mul-left (natAbs J) (magnitude-at a i)) (s .bound))
 
 -- where the factor is 0, no weight gains anything
@@ -114,7 +114,7 @@ pub adapt-none : (w a : List ℤ) → adapt (pos 0) w a ≡ w
 unfolding adapt
 adapt-none [] a = refl
 adapt-none (w ∷ ws) [] = refl
-adapt-none (w ∷ ws) (a ∷ b) = ap₂ (λ (y : ℤ) (z : List ℤ). y ∷ z) (ap (λ (y : ℤ). w +ℤ cut y 30) (zero-*ℤ a) ∙ ap (λ (y : ℤ). w +ℤ y) (cut-zero 30) ∙ +ℤ-idr w) (adapt-none ws b)
+adapt-none (w ∷ ws) (a ∷ b) = ap₂ (λ (y : ℤ) (z : List ℤ). y ∷ z) (ap (λ (y : ℤ). w +ℤ cut y updateShift) (zero-*ℤ a) ∙ ap (λ (y : ℤ). w +ℤ y) (cut-zero updateShift) ∙ +ℤ-idr w) (adapt-none ws b)
 
 -- ---- half of each weight, and twice each weight
 
@@ -152,7 +152,7 @@ halvable w h = each-weaken (λ (x : ℤ). natAbs x < 2 ^ 16) (Storable 0 1) half
 
 -- and a double where they are below the doubling limit
 pub doublable : (w : List ℤ) → orAll (magnitudes w) < doublingLimit → Each (Storable 1 0) w
-doublable w h = each-weaken (λ (x : ℤ). natAbs x < doublingLimit) (Storable 1 0) twice w (each-below 12 w h)
+doublable w h = each-weaken (λ (x : ℤ). natAbs x < doublingLimit) (Storable 1 0) twice w (each-below (weightUnit - 3) w h)
   where
     twice : (x : ℤ) → natAbs x < doublingLimit → Storable 1 0 x
     twice x l = record { shift = omega arith; room = omega arith; bound = rw (rescale-up x 1 0 1 refl) (omega (arith, raise-abs x 1)) }

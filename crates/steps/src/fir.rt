@@ -5,6 +5,7 @@ ghost use Prim.Native.Nat.{_+_, _*_, _-_, _/_, _^_, _<_, _≤_};
 ghost use lib.IntN.{ℤ, pos, _+ℤ_, _*ℤ_, natAbs};
 ghost use Rattle.laws.specs.Sums.{dot, Each};
 ghost use Rattle.numbers.specs.Cut.{raise, rescale};
+ghost use Rattle.steps.specs.Limits.{dataUnit, outputUnit, updateShift};
 ghost use Rattle.steps.specs.Fir.{Small, adapted, adapt, allSmall, magnitudes, largestBits};
 ghost use Rattle.steps.specs.Sound.{orAll, Summable, Adaptable, Storable};
 
@@ -55,16 +56,17 @@ pub fn sum(w: &[i16], a: &[i16]) -> i32
 
 // Step 6: what a weight gains, without its sign, from |J| and from |a|.
 fn increment(factor: u32, size: u16, t: u32) -> i16
-    requires { ⌜ (t ≤ 15) × (factor * size < 2 ^ (29 + t)) ⌝ }
-    ensures { λ r. ⌜ r ≡ pos (factor * size / 2 ^ (15 + t)) ⌝ }
+    requires { ⌜ (t ≤ dataUnit) × (factor * size < 2 ^ (outputUnit - 1 + t)) ⌝ }
+    ensures { λ r. ⌜ r ≡ pos (factor * size / 2 ^ (updateShift - dataUnit + t)) ⌝ }
 {
-    (((factor as u64) * (size as u64)) >> (15 + t)) as i16
+    (((factor as u64) * (size as u64))
+        >> (super::limits::UPDATE_SHIFT - super::limits::DATA_UNIT + t)) as i16
 }
 
 // Step 6: one weight and what it gains, by magnitudes.
 fn adapted_by_size(j: i32, factor: u32, t: u32, w: i16, a: i16) -> i16
-    requires { ⌜ (t ≤ 15) × (factor ≡ natAbs j) × (Small w) × (natAbs j * natAbs a < 2 ^ (29 + t)) ⌝ }
-    ensures { λ r. ⌜ r ≡ adapted (raise j (15 - t)) w a ⌝ }
+    requires { ⌜ (t ≤ dataUnit) × (factor ≡ natAbs j) × (Small w) × (natAbs j * natAbs a < 2 ^ (outputUnit - 1 + t)) ⌝ }
+    ensures { λ r. ⌜ r ≡ adapted (raise j (dataUnit - t)) w a ⌝ }
 {
     let more = increment(factor, numbers::bit_length::magnitude16(a), t);
     if (a < 0) != (j < 0) {
@@ -74,19 +76,19 @@ fn adapted_by_size(j: i32, factor: u32, t: u32, w: i16, a: i16) -> i16
     }
 }
 
-// Step 6: one weight and what it gains, where k is J·2^(15 − t).
+// Step 6: one weight and what it gains, where k is J·2^(DATA_UNIT − t).
 fn adapted(k: i64, w: i16, a: i16) -> i16
-    requires { ⌜ (Small w) × (natAbs k * natAbs a < 2 ^ 44) ⌝ }
+    requires { ⌜ (Small w) × (natAbs k * natAbs a < 2 ^ (outputUnit - 1 + dataUnit)) ⌝ }
     ensures { λ r. ⌜ r ≡ adapted k w a ⌝ }
 {
-    ((w as i64) + numbers::cut::cut(k * (a as i64), 30)) as i16
+    ((w as i64) + numbers::cut::cut(k * (a as i64), super::limits::UPDATE_SHIFT)) as i16
 }
 
-// Step 6: one weight and what it gains, where k is J·2^(15 − t) and factor is |J|: by a signed product where taps are few,
-// and where they are many by magnitudes, of which a compiler takes several at a time.
+// Step 6: one weight and what it gains, where k is J·2^(DATA_UNIT − t) and factor is |J|: by a signed product where
+// taps are few, and where they are many by magnitudes, of which a compiler takes several at a time.
 fn adapted_by(few: bool, j: i32, k: i64, factor: u32, t: u32, w: i16, a: i16) -> i16
-    requires { ⌜ (t ≤ 15) × (k ≡ raise j (15 - t)) × (factor ≡ natAbs j) × (Small w) × (natAbs j * natAbs a < 2 ^ (29 + t)) ⌝ }
-    ensures { λ r. ⌜ r ≡ adapted (raise j (15 - t)) w a ⌝ }
+    requires { ⌜ (t ≤ dataUnit) × (k ≡ raise j (dataUnit - t)) × (factor ≡ natAbs j) × (Small w) × (natAbs j * natAbs a < 2 ^ (outputUnit - 1 + t)) ⌝ }
+    ensures { λ r. ⌜ r ≡ adapted (raise j (dataUnit - t)) w a ⌝ }
 {
     if few {
         adapted(k, w, a)
@@ -98,9 +100,9 @@ fn adapted_by(few: bool, j: i32, k: i64, factor: u32, t: u32, w: i16, a: i16) ->
 // The new weights, and the bits of their magnitudes together.
 fn adapt_all(few: bool, w: &mut [i16], a: &[i16], j: i32, t: u32) -> u16
     requires { ⌜ Adaptable j t (now w) (now a) ⌝ }
-    ensures { λ r. ⌜ (now (w .exit) ≡ adapt (raise j (15 - t)) (now (w .entry)) (now (a .entry))) × (r ≡ orAll (magnitudes (now (w .exit)))) ⌝ }
+    ensures { λ r. ⌜ (now (w .exit) ≡ adapt (raise j (dataUnit - t)) (now (w .entry)) (now (a .entry))) × (r ≡ orAll (magnitudes (now (w .exit)))) ⌝ }
 {
-    let k = numbers::cut::raise(j as i64, 15 - t);
+    let k = numbers::cut::raise(j as i64, super::limits::DATA_UNIT - t);
     let factor = numbers::bit_length::magnitude32(j);
     let mut seen: u16 = 0;
     let mut i: usize = 0;
@@ -113,10 +115,11 @@ fn adapt_all(few: bool, w: &mut [i16], a: &[i16], j: i32, t: u32) -> u16
     seen
 }
 
-// Step 6: the new weights of a filter, whose data are raised by 15 − t bits, and the bits of their magnitudes together.
+// Step 6: the new weights of a filter, whose data are raised by DATA_UNIT − t bits, and the bits of their magnitudes
+// together.
 pub fn adapt(w: &mut [i16], a: &[i16], j: i32, t: u32) -> u16
     requires { ⌜ Adaptable j t (now w) (now a) ⌝ }
-    ensures { λ r. ⌜ (now (w .exit) ≡ adapt (raise j (15 - t)) (now (w .entry)) (now (a .entry))) × (r ≡ orAll (magnitudes (now (w .exit)))) ⌝ }
+    ensures { λ r. ⌜ (now (w .exit) ≡ adapt (raise j (dataUnit - t)) (now (w .entry)) (now (a .entry))) × (r ≡ orAll (magnitudes (now (w .exit)))) ⌝ }
 {
     if w.len() <= FEW {
         adapt_all(true, w, a, j, t)

@@ -11,6 +11,7 @@ use borrow.Author.Needs.{needs, sfits-of}
 use Rattle.laws.specs.Loops.{written-read}
 use Rattle.laws.specs.Machine.{kept}
 use Rattle.numbers.specs.Cut.{raise}
+use Rattle.steps.specs.Limits.{dataUnit}
 use Rattle.steps.specs.Fir.{adapt}
 use Rattle.steps.proofs.FirLaws.{adapt-length, adapt-at, adapt-room, changing-none, changing-next, changing-all, Changing}
 use Rattle.steps.proofs.IncrementLaws.{raise-room}
@@ -18,7 +19,7 @@ use Rattle.steps.proofs.fir.adapt_all.Statement.{statement}
 use Rattle.steps.proofs.fir.adapt_all.Tie as tie
 
 abbrev Inv-loop : tie.InvT-loop
-Inv-loop few w₀ a j t k factor seen₀ i₀ w seen i = Changing (adapt (raise (toZ w32 j) (15 - t)) w₀ a) w₀ i w seen
+Inv-loop few w₀ a j t k factor seen₀ i₀ w seen i = Changing (adapt (raise (toZ w32 j) (dataUnit - t)) w₀ a) w₀ i w seen
 
 abbrev μ-loop : tie.MeasureT-loop
 μ-loop few w₀ a j t k factor seen₀ i₀ w seen i = length w₀ - i
@@ -41,7 +42,7 @@ loop-holds c = changing-none _ _
 abbrev start : tie.At-loop Inv-loop μ-loop → tie.Start Inv-loop μ-loop
 start c = c .before .before .before
 
-raised : (c : tie.At-loop Inv-loop μ-loop) → toZ w64 (ofZ w64 (c .before .before .raise .result)) ≡ raise (start c .args .j) (15 - start c .args .t)
+raised : (c : tie.At-loop Inv-loop μ-loop) → toZ w64 (ofZ w64 (c .before .before .raise .result)) ≡ raise (start c .args .j) (dataUnit - start c .args .t)
 raised c =
     kept w64 (c .before .before .raise .result) (c .before .before .raise .ok) ∙ c .before .before .raise .ensures
     ∙ simp (toZ-ofZ (start c .fits .j), toZ-ofZ (wide (start c)))
@@ -76,7 +77,7 @@ loop-again c =
     changing-next (l .loop .inv) (toZ w16 (ofZ w16 (d .adapted-by .result))) (c .magnitude16 .result) (adapt-length _ (s .w .now) _) (omega arith)
     (kept w16 (d .adapted-by .result) (d .adapted-by .ok) ∙ d .adapted-by .ensures
     ∙ simp (weight (d .before .before), datum (d .before), toZ-ofZ (start l .fits .j))
-    (sym (adapt-at (raise (s .j) (15 - s .t)) (s .w .now) (s .a .now) (l .loop .i) (omega arith) (omega arith))))
+    (sym (adapt-at (raise (s .j) (dataUnit - s .t)) (s .w .now) (s .a .now) (l .loop .i) (omega arith) (omega arith))))
     (c .magnitude16 .ensures)
 
 same-length : tie.Need-same-length Inv-loop μ-loop
@@ -86,7 +87,7 @@ returns : tie.Need-returns Inv-loop μ-loop
 returns c =
     let s = start (c .before) in
     let all = changing-all (c .before .loop .inv) (adapt-length _ (s .args .w .now) _) (omega arith) in
-    (all .0 ∙ ap (λ (z : ℤ). adapt (raise z (15 - s .args .t)) (s .args .w .now) (s .args .a .now)) (toZ-ofZ (s .fits .j)), all .1)
+    (all .0 ∙ ap (λ (z : ℤ). adapt (raise z (dataUnit - s .args .t)) (s .args .w .now) (s .args .a .now)) (toZ-ofZ (s .fits .j)), all .1)
 
 pub adapt-all-spec : {M : Type 1} → statement M
 adapt-all-spec =

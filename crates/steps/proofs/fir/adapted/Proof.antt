@@ -1,4 +1,4 @@
--- The product fits 64 bits. Cut by 30 bits it is below 2^14, as the weight is, so the sum fits 16 bits.
+-- The product fits 64 bits. The weight and what it gains are below half of 2^weightUnit, so the sum fits 16 bits.
 use mathlib.Core.Path.{_≡_, _∙_}
 use native.Mathlib.Omega.{arith}
 use lib.IntN.{_*ℤ_}
@@ -9,6 +9,7 @@ use borrow.Author.Needs.{needs}
 use Rattle.laws.specs.Integers.{abs-mul}
 use Rattle.laws.specs.Machine.{fits-abs, kept}
 use Rattle.numbers.specs.Cut.{cut}
+use Rattle.steps.specs.Limits.{updateShift}
 use Rattle.steps.specs.Fir.{adapted}
 use Rattle.steps.proofs.IncrementLaws.{adapted-fits}
 use Rattle.steps.proofs.FirLaws.{fits-64}
@@ -30,7 +31,7 @@ mul-cut c = simp (toZ-ofZ (c .fits .k), toZ-ofZ (c .fits .a), toZ-ofZ (fits-64 (
 cut-requires : tie.Need-cut-requires
 cut-requires c κs = search needs
 
-gave : (c : tie.After-cut) → toZ w64 (ofZ w64 (c .cut .result)) ≡ cut (c .before .args .k *ℤ c .before .args .a) 30
+gave : (c : tie.After-cut) → toZ w64 (ofZ w64 (c .cut .result)) ≡ cut (c .before .args .k *ℤ c .before .args .a) updateShift
 gave c =
     kept w64 (c .cut .result) (c .cut .ok) ∙ c .cut .ensures
     ∙ simp (toZ-ofZ (c .before .fits .k), toZ-ofZ (c .before .fits .a), toZ-ofZ (fits-64 (c .before .fits .a)), toZ-ofZ (product (c .before)))

@@ -1,12 +1,14 @@
--- The weight and the gain are below 2^14, so the new weight fits 16 bits. The gain is subtracted where one of j and a is negative.
+-- The weight and what it gains are below half of 2^weightUnit, so the new weight fits 16 bits. The gain is subtracted
+-- where one of j and a is negative.
 use mathlib.Core.Path.{_≡_, refl, ap, ap₂, _∙_}
-use Prim.Native.Nat.{ℕ, _+_, _*_, _/_, _^_, _<_}
+use Prim.Native.Nat.{ℕ, _+_, _*_, _-_, _/_, _^_, _<_}
 use native.Mathlib.Omega.{arith}
 use lib.IntN.{ℤ, pos, natAbs, _+ℤ_}
 use mir.Syntax.{w16}
 use mir.Facts.{toZ-ofZ}
 use borrow.Author.Needs.{needs}
 use Rattle.laws.specs.Machine.{sum-kept, difference-kept}
+use Rattle.steps.specs.Limits.{weightUnit, dataUnit, updateShift}
 use Rattle.steps.proofs.IncrementLaws.{increment-small, alike-increment, unlike-increment}
 use Rattle.steps.proofs.fir.adapted_by_size.Statement.{statement}
 use Rattle.steps.proofs.fir.adapted_by_size.Tie as tie
@@ -21,12 +23,12 @@ increment-requires : tie.Need-increment-requires
 increment-requires c κs = rw (product c) (c .before .pre .0, c .before .pre .3)
 
 abbrev increment : tie.Start → ℕ
-increment c = natAbs (c .args .j) * natAbs (c .args .a) / 2 ^ (15 + c .args .t)
+increment c = natAbs (c .args .j) * natAbs (c .args .a) / 2 ^ (updateShift - dataUnit + c .args .t)
 
 incremented : (c : tie.After-increment) → c .increment .result ≡ pos (increment (c .before .before))
-incremented c = c .increment .ensures ∙ ap (λ (n : ℕ). pos (n / 2 ^ (15 + c .before .before .args .t))) (product (c .before))
+incremented c = c .increment .ensures ∙ ap (λ (n : ℕ). pos (n / 2 ^ (updateShift - dataUnit + c .before .before .args .t))) (product (c .before))
 
-small : (c : tie.Start) → natAbs (c .args .w) + increment c < 2 ^ 15
+small : (c : tie.Start) → natAbs (c .args .w) + increment c < 2 ^ weightUnit
 small c = omega (arith, c .pre .2, increment-small (natAbs (c .args .j) * natAbs (c .args .a)) (c .args .t) (c .pre .3))
 
 sub-result : tie.Need-sub-result
