@@ -1,15 +1,13 @@
 // One sample.
 ghost use mathlib.Core.Path.{_≡_};
-ghost use mathlib.Core.List.{map};
 ghost use Prim.Native.Nat.{_+_, _^_, _<_, _≤_};
 ghost use lib.Bits.{bitOr};
-ghost use lib.IntN.{ℤ, natAbs};
+ghost use lib.IntN.{natAbs};
 ghost use lib.ListN.{drop};
 ghost use Rattle.laws.specs.Sums.{Each};
-ghost use Rattle.numbers.specs.Cut.{rescale};
 ghost use Rattle.steps.specs.Limits.{symbolLimit, exponentLimit, outputExponentLimit};
-ghost use Rattle.steps.specs.Sound.{lineLength, orAll, Storable};
-ghost use Rattle.steps.specs.Fir.{largestBits, magnitudes};
+ghost use Rattle.steps.specs.Sound.{lineLength, orAll};
+ghost use Rattle.steps.specs.Fir.{Small, halved, doubled, largestBits, magnitudes};
 ghost use Rattle.filter.specs.Calls.{LargestBitsAt, nextDelay, SymbolBounds, FilterBounds, Output-is, DecisionBounds, Decision-is, chosen, UpdateBounds, updated, Normalised-is, ChangeBounds, Changed-is, resultOf, Ready, SampleResult-is, settingsOf, filterStateOf};
 
 // The settings of a station.
@@ -67,7 +65,7 @@ fn reach(r: u32, delay: usize, symbols: &[i16]) -> u32
     if delay < symbols.len() {
         r + 1
     } else {
-        steps::fir::largest_bits(symbols)
+        steps::past::largest_bits(symbols)
     }
 }
 
@@ -87,8 +85,8 @@ pub fn filter_output(
     ensures { λ h. ⌜ Output-is sb gamma30 psi (now (forward .entry)) (now (back .entry)) (now (samples .entry)) (now (symbols .entry)) h ⌝ }
 {
     let nu = sb + reach(r, delay, symbols);
-    let f = steps::fir::sum(forward, samples);
-    let h = steps::fir::sum(back, symbols);
+    let f = steps::weights::sum(forward, samples);
+    let h = steps::weights::sum(back, symbols);
     let o = steps::output::output(f, h, gamma30, nu, psi);
     Output {
         nu: nu,
@@ -136,16 +134,24 @@ pub fn update(
     ensures { λ r. ⌜ (now (w .exit) ≡ updated m z psi theta scale exponent more (now (w .entry)) (now (a .entry))) × (r ≡ orAll (magnitudes (now (w .exit)))) ⌝ }
 {
     let j = steps::factor::factor(m, z, 60 + psi + scale - (exponent + theta));
-    steps::fir::adapt(w, a, j as i32, 15 - (scale + more))
+    steps::weights::adapt(w, a, j as i32, 15 - (scale + more))
 }
 
-// The weights of both filters at another exponent.
-fn rescale_both(forward: &mut [i16], back: &mut [i16], i: u32, j: u32)
-    requires { ⌜ (Each (Storable i j) (now forward)) × (Each (Storable i j) (now back)) ⌝ }
-    ensures { λ _. ⌜ (now (forward .exit) ≡ map (λ (a : ℤ). rescale a i j) (now (forward .entry))) × (now (back .exit) ≡ map (λ (a : ℤ). rescale a i j) (now (back .entry))) ⌝ }
+// Half of each weight of both filters.
+fn halve_both(forward: &mut [i16], back: &mut [i16])
+    ensures { λ _. ⌜ (now (forward .exit) ≡ halved (now (forward .entry))) × (now (back .exit) ≡ halved (now (back .entry))) ⌝ }
 {
-    steps::fir::rescale_all(forward, i, j);
-    steps::fir::rescale_all(back, i, j);
+    steps::weights::halve(forward);
+    steps::weights::halve(back);
+}
+
+// Twice each weight of both filters.
+fn double_both(forward: &mut [i16], back: &mut [i16])
+    requires { ⌜ (Each Small (now forward)) × (Each Small (now back)) ⌝ }
+    ensures { λ _. ⌜ (now (forward .exit) ≡ doubled (now (forward .entry))) × (now (back .exit) ≡ doubled (now (back .entry))) ⌝ }
+{
+    steps::weights::double(forward);
+    steps::weights::double(back);
 }
 
 // Step 7 and what follows it: the new ψ, where seen has the bits of all new magnitudes together.
@@ -154,7 +160,7 @@ pub fn normalise(forward: &mut [i16], back: &mut [i16], seen: u16, psi: u32) -> 
     ensures { λ r. ⌜ Normalised-is psi (now (forward .entry)) (now (back .entry)) r (now (forward .exit)) (now (back .exit)) ⌝ }
 {
     if steps::limits::HALVING <= seen {
-        rescale_both(forward, back, 0, 1);
+        halve_both(forward, back);
         return psi + 1;
     }
     if psi == 0 {
@@ -163,7 +169,7 @@ pub fn normalise(forward: &mut [i16], back: &mut [i16], seen: u16, psi: u32) -> 
     if steps::limits::DOUBLING <= seen {
         return psi;
     }
-    rescale_both(forward, back, 1, 0);
+    double_both(forward, back);
     psi - 1
 }
 

@@ -1,15 +1,16 @@
 -- Zeros and stored samples are tested by the largest bit length.
-use mathlib.Core.Path.{_≡_, refl, sym, ap, _∙_}
+use mathlib.Core.Path.{_≡_, refl, sym, ap, _∙_, fun-ext}
+use mathlib.Core.Bool.{Bool}
 use mathlib.Core.List.{List}
 use Prim.Native.Nat.{ℕ, zero, suc, _+_, _*_, _-_, _^_, _≤_}
 use native.Mathlib.Omega.{arith}
 use native.Mathlib.Nat.{lt-of-lt-of-le}
-use lib.Dec.{leb, eqb}
+use lib.Dec.{ltb, leb, eqb}
 use lib.IntN.{ℤ, natAbs}
-use borrow.Author.Tests.{ltb-true, lt-ltb, lt-leb, eqb-true, eq-eqb, ne-eqb}
+use borrow.Author.Tests.{ltb-true, lt-ltb, le-ltb, lt-leb, eqb-true, eq-eqb, ne-eqb}
 use Rattle.laws.specs.Lists.{all}
 use Rattle.laws.specs.Powers.{positive, rises, lower, raise}
-use Rattle.steps.specs.Fir.{largestBits}
+use Rattle.steps.specs.Fir.{allBelow, largestBits}
 use Rattle.steps.proofs.LargestBitsTests.{by-largest-bits}
 use Rattle.state.specs.State.{isZero, isStored}
 
@@ -22,6 +23,14 @@ zeros-pass xs = none (largestBits xs) ∙ zero-largest-bits xs
     none : (n : ℕ) → eqb n 0 ≡ leb n 0
     none zero = refl
     none (suc n) = ne-eqb (suc n) 0 (λ e. omega arith) ∙ sym (lt-leb (suc n) 0 (omega arith))
+
+-- weights that are all below 1 are zeros
+pub below-one : (w : List ℤ) → allBelow 1 w ≡ all isZero w
+below-one w = ap (λ (p : ℤ → Bool). all p w) (fun-ext (λ z. none (natAbs z)))
+  where
+    none : (n : ℕ) → ltb n 1 ≡ eqb n 0
+    none zero = refl
+    none (suc n) = le-ltb (suc n) 1 (omega arith) ∙ sym (ne-eqb (suc n) 0 (λ e. omega arith))
 
 -- |A|·2^(B+s) < 2^(15+b) as a bound on |A|, or as A = 0 where B + s is no less than 15 + b
 module _ (s b B : ℕ) (xs : List ℤ) where
