@@ -133,8 +133,12 @@ pub fn update(
     requires { ⌜ UpdateBounds m z psi theta scale exponent more (now w) (now a) ⌝ }
     ensures { λ r. ⌜ (now (w .exit) ≡ updated m z psi theta scale exponent more (now (w .entry)) (now (a .entry))) × (r ≡ orAll (magnitudes (now (w .exit)))) ⌝ }
 {
-    let j = steps::factor::factor(m, z, 60 + psi + scale - (exponent + theta));
-    steps::weights::adapt(w, a, j as i32, 15 - (scale + more))
+    let j = steps::factor::factor(
+        m,
+        z,
+        steps::limits::STEP_UNIT + steps::limits::RECEIVED_UNIT + psi + scale - (exponent + theta),
+    );
+    steps::weights::adapt(w, a, j as i32, steps::limits::DATA_UNIT - (scale + more))
 }
 
 // Half of each weight of both filters.
@@ -194,7 +198,17 @@ pub fn change(
     let z = j.z;
     let theta = j.theta;
     let ahead = update(forward, samples, m, z, psi, theta, s, gamma30, 0);
-    let behind = update(back, symbols, m, z, psi, theta, sb, nu + 30, 15 - nu);
+    let behind = update(
+        back,
+        symbols,
+        m,
+        z,
+        psi,
+        theta,
+        sb,
+        nu + steps::limits::RECEIVED_UNIT,
+        steps::limits::DATA_UNIT - nu,
+    );
     normalise(forward, back, ahead | behind, psi)
 }
 

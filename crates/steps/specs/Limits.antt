@@ -69,9 +69,17 @@ updateShift = outputUnit + dataUnit - weightUnit
 abbrev pub exactUnit : ℕ
 exactUnit = weightUnit + mantissaUnit
 
--- the exact new weight is compared times 2^exactWeightUnit
+-- and Y, which means Y·2^(ξ − outputUnit), is then raised by ξ + outputRaise
+abbrev pub outputRaise : ℕ
+outputRaise = exactUnit - outputUnit
+
+-- the exact new weight is compared times 2^exactWeightUnit: one part each for μ, for a mantissa and for y*
 abbrev pub exactWeightUnit : ℕ
 exactWeightUnit = stepUnit + mantissaUnit + exactUnit
+
+-- and W, which means W·2^(ψ − weightUnit), is then raised by weightRaise + ψ
+abbrev pub weightRaise : ℕ
+weightRaise = exactWeightUnit - weightUnit
 
 -- S and S′: the scale count of the most taps
 abbrev pub scaleLimit : ℕ
