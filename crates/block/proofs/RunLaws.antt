@@ -23,7 +23,7 @@ use Rattle.filter.specs.declared.sample.SampleResult.{SampleResult}
 use Rattle.block.specs.Block.{Block, Memory, Outputs, newb, newB, Γ, after, at, ψFits, entryAt, blockY, blockξ, blockDecision, blockZ, blockθ, outputsOf}
 use Rattle.block.specs.Calls.{count, outputsUpTo, filterStateAfter, filterStateAt, Advanceable, Runnable, BegunOn, ProgressedOn, BlockResult-is}
 use Rattle.block.specs.Line.{place, newest}
-use Rattle.block.specs.declared.run.BlockExponents.{BlockExponents}
+use Rattle.filter.specs.declared.sample.BlockExponents.{BlockExponents}
 use Rattle.block.specs.declared.run.Progress.{Progress}
 use Rattle.block.specs.declared.run.BlockResult.{BlockResult}
 use Rattle.filter.proofs.NextLaws.{next-symbols}

@@ -15,7 +15,7 @@ use Rattle.steps.specs.Fir.{push}
 use Rattle.block.specs.Block.{Block, Memory, Outputs, storedAll, newb, newB, Γ, stored, old, start, after}
 use Rattle.block.specs.Line.{place, newest, started, added}
 use Rattle.block.specs.Calls.{Startable, BlockExponents-is, ExponentsOf, FillBounds, filled, SampleLine, Runnable, BegunOn}
-use Rattle.block.specs.declared.run.BlockExponents.{BlockExponents}
+use Rattle.filter.specs.declared.sample.BlockExponents.{BlockExponents}
 use Rattle.block.proofs.BlockStored.{receivable, store-bounds, old-storable}
 use Rattle.block.proofs.BlockWindow.{after-next}
 use Rattle.block.proofs.LineLaws.{started-length, started-old, added-length, added-old, added-at, newest-next}

@@ -14,10 +14,10 @@ use Rattle.steps.specs.Settings.{Settings, scaleForward, scaleBack}
 use Rattle.steps.specs.Fir.{largest, magnitudes}
 use Rattle.filter.specs.Sample.{FilterState}
 use Rattle.filter.specs.Calls.{LargestBitsAt, Ready, filterStateOf}
+use Rattle.filter.specs.declared.sample.BlockExponents.{BlockExponents}
 use Rattle.block.specs.Line.{newest, started, added}
 use Rattle.block.specs.Block.{Block, Memory, Outputs, receivedAll, storedAll, newb, newB, Γ, after, ψFits, blockY, blockξ, blockDecision, blockZ, blockθ}
 use Rattle.block.specs.Sound.{Sound, Acceptable, Receivable, StoreBounds}
-use Rattle.block.specs.declared.run.BlockExponents.{BlockExponents}
 use Rattle.block.specs.declared.run.Progress.{Progress}
 use Rattle.block.specs.declared.run.BlockResult.{BlockResult}
 
@@ -68,7 +68,7 @@ pub record Advanceable (k : Settings) (e : BlockExponents) (delay n : ℕ) (entr
   pub room : n < blockLimit
   pub samples-long : length samples ≡ lineLength
   pub symbols-long : length symbols ≡ lineLength
-  pub ready : Ready k (e .s) (e .sb) (e .gamma30) t entry
+  pub ready : Ready k e t entry
   pub largest-bits-at : LargestBitsAt (k .r) delay (t .symbols)
 
 -- ---- a block in progress

@@ -1,22 +1,14 @@
 // One block.
 ghost use mathlib.Core.Path.{_≡_};
 ghost use Prim.Native.Nat.{suc};
-ghost use Rattle.filter.specs.Calls.{settingsOf, SampleResult-is};
+ghost use Rattle.filter.specs.Calls.{SampleResult-is};
 ghost use Rattle.block.specs.Block.{storedAll, outputsOf};
 ghost use Rattle.block.specs.Line.{newest};
 ghost use Rattle.block.specs.Calls.{blockOf, memoryOf, BlockExponents-is, Startable, FillBounds, filled, filterStateAt, Advanceable, Begun, Progressed, Runnable, BlockResult-is};
+use filter::sample::BlockExponents;
 use filter::sample::SampleResult;
-use filter::sample::Settings;
 use steps::limits;
-
-// The scale counts of a block, its b and B, and γ + 30.
-pub struct BlockExponents {
-    pub s: u32,
-    pub sb: u32,
-    pub b: u32,
-    pub bmax: u32,
-    pub gamma30: u32,
-}
+use steps::settings::Settings;
 
 // How many samples are run, and ψ after them.
 pub struct Progress {
@@ -33,8 +25,8 @@ pub struct BlockResult {
 
 // Step 1 of a block.
 pub fn begin(k: Settings, was: u32, m: &[i16], gains: &[u8]) -> BlockExponents
-    requires { ⌜ Startable (settingsOf k) was (now m) (now gains) ⌝ }
-    ensures { λ r. ⌜ BlockExponents-is (settingsOf k) was (now (m .entry)) (now (gains .entry)) r ⌝ }
+    requires { ⌜ Startable k was (now m) (now gains) ⌝ }
+    ensures { λ r. ⌜ BlockExponents-is k was (now (m .entry)) (now (gains .entry)) r ⌝ }
 {
     let s = numbers::scale_count::scale_count(k.p as usize);
     let sb = numbers::scale_count::scale_count(k.q as usize);
@@ -45,7 +37,7 @@ pub fn begin(k: Settings, was: u32, m: &[i16], gains: &[u8]) -> BlockExponents
         sb: sb,
         b: b,
         bmax: bmax,
-        gamma30: k.r + bmax + s,
+        gamma30: (k.r as u32) + bmax + s,
     }
 }
 
@@ -78,17 +70,15 @@ fn advance(
     samples: &[i16],
     symbols: &mut [i16],
 ) -> SampleResult
-    requires { ⌜ Advanceable (settingsOf k) e delay n entry (now samples) (now symbols) (filterStateAt (settingsOf k) n (now forward) (now back) (now samples) (now symbols) psi) ⌝ }
-    ensures { λ r. ⌜ SampleResult-is (settingsOf k) (e .gamma30) (filterStateAt (settingsOf k) n (now (forward .entry)) (now (back .entry)) (now (samples .entry)) (now (symbols .entry)) psi) entry r (now (forward .exit)) (now (back .exit)) (newest (suc (k .q)) (suc n) (now (symbols .exit))) ⌝ }
+    requires { ⌜ Advanceable k e delay n entry (now samples) (now symbols) (filterStateAt k n (now forward) (now back) (now samples) (now symbols) psi) ⌝ }
+    ensures { λ r. ⌜ SampleResult-is k (e .gamma30) (filterStateAt k n (now (forward .entry)) (now (back .entry)) (now (samples .entry)) (now (symbols .entry)) psi) entry r (now (forward .exit)) (now (back .exit)) (newest (suc (k .q)) (suc n) (now (symbols .exit))) ⌝ }
 {
     let first = limits::BLOCK - 1 - n;
     let oldest = first + (k.p as usize);
     let last = first + (k.q as usize) + 1;
     filter::sample::step(
         k,
-        e.s,
-        e.sb,
-        e.gamma30,
+        e,
         psi,
         delay,
         wide(entry),
@@ -115,8 +105,8 @@ fn run_samples(
     z: &mut [i32],
     theta: &mut [u8],
 ) -> Progress
-    requires { ⌜ Begun (settingsOf k) e psi (now entries) (now forward) (now back) (now samples) (now symbols) (outputsOf (now y) (now xi) (now decision) (now z) (now theta)) ⌝ }
-    ensures { λ r. ⌜ Progressed (settingsOf k) e psi (now (entries .entry)) (now (forward .entry)) (now (back .entry)) (now (samples .entry)) (now (symbols .entry)) (outputsOf (now (y .entry)) (now (xi .entry)) (now (decision .entry)) (now (z .entry)) (now (theta .entry))) r (now (forward .exit)) (now (back .exit)) (now (symbols .exit)) (outputsOf (now (y .exit)) (now (xi .exit)) (now (decision .exit)) (now (z .exit)) (now (theta .exit))) ⌝ }
+    requires { ⌜ Begun k e psi (now entries) (now forward) (now back) (now samples) (now symbols) (outputsOf (now y) (now xi) (now decision) (now z) (now theta)) ⌝ }
+    ensures { λ r. ⌜ Progressed k e psi (now (entries .entry)) (now (forward .entry)) (now (back .entry)) (now (samples .entry)) (now (symbols .entry)) (outputsOf (now (y .entry)) (now (xi .entry)) (now (decision .entry)) (now (z .entry)) (now (theta .entry))) r (now (forward .exit)) (now (back .exit)) (now (symbols .exit)) (outputsOf (now (y .exit)) (now (xi .exit)) (now (decision .exit)) (now (z .exit)) (now (theta .exit))) ⌝ }
 {
     let mut at = psi;
     // No symbol is known to have the largest bit length.
@@ -172,8 +162,8 @@ pub fn run(
     z: &mut [i32],
     theta: &mut [u8],
 ) -> BlockResult
-    requires { ⌜ Runnable (settingsOf k) (memoryOf (now forward) (now back) (now samples) (now symbols) psi b bmax) (blockOf (now m) (now gains) (now entries)) (now samples) (outputsOf (now y) (now xi) (now decision) (now z) (now theta)) ⌝ }
-    ensures { λ r. ⌜ BlockResult-is (settingsOf k) (memoryOf (now (forward .entry)) (now (back .entry)) (now (samples .entry)) (now (symbols .entry)) psi b bmax) (blockOf (now (m .entry)) (now (gains .entry)) (now (entries .entry))) (outputsOf (now (y .entry)) (now (xi .entry)) (now (decision .entry)) (now (z .entry)) (now (theta .entry))) r (now (forward .exit)) (now (back .exit)) (now (samples .exit)) (now (symbols .exit)) (outputsOf (now (y .exit)) (now (xi .exit)) (now (decision .exit)) (now (z .exit)) (now (theta .exit))) ⌝ }
+    requires { ⌜ Runnable k (memoryOf (now forward) (now back) (now samples) (now symbols) psi b bmax) (blockOf (now m) (now gains) (now entries)) (now samples) (outputsOf (now y) (now xi) (now decision) (now z) (now theta)) ⌝ }
+    ensures { λ r. ⌜ BlockResult-is k (memoryOf (now (forward .entry)) (now (back .entry)) (now (samples .entry)) (now (symbols .entry)) psi b bmax) (blockOf (now (m .entry)) (now (gains .entry)) (now (entries .entry))) (outputsOf (now (y .entry)) (now (xi .entry)) (now (decision .entry)) (now (z .entry)) (now (theta .entry))) r (now (forward .exit)) (now (back .exit)) (now (samples .exit)) (now (symbols .exit)) (outputsOf (now (y .exit)) (now (xi .exit)) (now (decision .exit)) (now (z .exit)) (now (theta .exit))) ⌝ }
 {
     let e = begin(k, b, m, gains);
     steps::past::rescale_all(samples, bmax, e.bmax);

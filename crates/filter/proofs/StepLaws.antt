@@ -14,6 +14,7 @@ use Rattle.steps.specs.Fir.{Fir, largestBits}
 use Rattle.filter.specs.Sample.{FilterState, ν, F, H, Y, ξ, decision, v, κ, Z, θ, J, forwardFir, backFir, newForward, newBack, outcome, next}
 use Rattle.steps.specs.Sound.{Adaptable}
 use Rattle.filter.specs.Calls.{LargestBitsAt, SymbolBounds, FilterBounds, Output-is, DecisionBounds, Decision-is, UpdateBounds, ChangeBounds, Changed-is, Ready, SampleResult-is, resultOf, updatedForward, updatedBack}
+use Rattle.filter.specs.declared.sample.BlockExponents.{BlockExponents}
 use Rattle.filter.specs.declared.sample.Output.{Output}
 use Rattle.filter.specs.declared.sample.Decision.{Decision}
 use Rattle.filter.specs.declared.sample.SampleResult.{SampleResult}
@@ -24,20 +25,23 @@ use Rattle.filter.proofs.SampleFirs as S
 use Rattle.filter.proofs.SampleBounds as B
 use Rattle.filter.proofs.SampleLaws.{normalised-of}
 
-module _ (k : Settings) (s sb Γ : ℕ) (t : FilterState) (entry : ℤ) (r : Ready k s sb Γ t entry) where
+module _ (k : Settings) (x : BlockExponents) (t : FilterState) (entry : ℤ) (r : Ready k x t entry) where
+  abbrev Γ : ℕ
+  Γ = x .gamma30
+
   -- ---- steps 1 to 3
 
-  ν-of : sb + largestBits (t .symbols) ≡ ν k Γ t entry
+  ν-of : x .sb + largestBits (t .symbols) ≡ ν k Γ t entry
   unfolding ν
   ν-of = ap (λ (n : ℕ). n + largestBits (t .symbols)) (r .back-scale)
 
-  held : raise (dot (t .back) (t .symbols)) (dataUnit - (sb + largestBits (t .symbols))) ≡ H k Γ t entry
+  held : raise (dot (t .back) (t .symbols)) (dataUnit - (x .sb + largestBits (t .symbols))) ≡ H k Γ t entry
   held = ap (λ (n : ℕ). raise (dot (t .back) (t .symbols)) (dataUnit - n)) ν-of ∙ sym (S.H-raised k Γ t entry (r .fit))
 
   pub symbol-bounds : {delay : ℕ} → LargestBitsAt (k .r) delay (t .symbols) → SymbolBounds (k .r) delay (t .symbols)
   symbol-bounds h = record { r-most = r .fit .within .r-most; symbols-are = r .fit .symbols-are; largest-bits-at = h }
 
-  pub filter-bounds : FilterBounds sb Γ (t .ψ) (t .forward) (t .back) (t .samples) (t .symbols)
+  pub filter-bounds : FilterBounds x (t .ψ) (t .forward) (t .back) (t .samples) (t .symbols)
   unfolding F
   filter-bounds = record {
     forward-sum = B.forward-summable k Γ t entry (r .fit);
@@ -57,7 +61,7 @@ module _ (k : Settings) (s sb Γ : ℕ) (t : FilterState) (entry : ℤ) (r : Rea
     pub y-as : h .y ≡ Y k Γ t entry
     pub xi-as : h .xi ≡ ξ k Γ t entry
 
-  pub output-as : (h : Output) → Output-is sb Γ (t .ψ) (t .forward) (t .back) (t .samples) (t .symbols) h → Output-as h
+  pub output-as : (h : Output) → Output-is x (t .ψ) (t .forward) (t .back) (t .samples) (t .symbols) h → Output-as h
   unfolding Y ξ F
   output-as h p = record {
     nu-as = p .nu ∙ ν-of;
@@ -67,7 +71,7 @@ module _ (k : Settings) (s sb Γ : ℕ) (t : FilterState) (entry : ℤ) (r : Rea
 
   -- ---- steps 4 and 5
 
-  pub decision-bounds : (h : Output) → Output-as h → DecisionBounds (k .r) sb (h .y) (h .xi) entry
+  pub decision-bounds : (h : Output) → Output-as h → DecisionBounds (k .r) (x .sb) (h .y) (h .xi) entry
   decision-bounds h p = record {
     r-most = r .fit .within .r-most;
     scale-least = rw (r .back-scale) (S.scaleBack-least k Γ t entry (r .fit));
@@ -84,7 +88,7 @@ module _ (k : Settings) (s sb Γ : ℕ) (t : FilterState) (entry : ℤ) (r : Rea
     pub z-as : j .z ≡ Z k Γ t entry
     pub theta-as : j .theta ≡ θ k Γ t entry
 
-  pub decision-as : (h : Output) (j : Decision) → Output-as h → Decision-is (k .r) sb (h .y) (h .xi) entry j → Decision-as j
+  pub decision-as : (h : Output) (j : Decision) → Output-as h → Decision-is (k .r) (x .sb) (h .y) (h .xi) entry j → Decision-as j
   unfolding decision v κ Z θ
   decision-as h j p q = record {
     decision-as = q .decision ∙ rw (p .y-as, p .xi-as);
@@ -117,7 +121,7 @@ module _ (k : Settings) (s sb Γ : ℕ) (t : FilterState) (entry : ℤ) (r : Rea
       update-bounds (backFir k Γ t entry) (S.back-fit k Γ t entry (r .fit)) (dataUnit - ν k Γ t entry) (S.symbol-scale-most k Γ t entry (r .fit)) (t .back) (t .symbols)
       (B.back-adaptable k Γ t entry (r .fit) (r .entry-is))
 
-  pub change-bounds : (h : Output) (j : Decision) → Output-as h → Decision-as j → ChangeBounds (k .M) s sb Γ (t .ψ) h j (t .forward) (t .back) (t .samples) (t .symbols)
+  pub change-bounds : (h : Output) (j : Decision) → Output-as h → Decision-as j → ChangeBounds (k .M) x (t .ψ) h j (t .forward) (t .back) (t .samples) (t .symbols)
   change-bounds h j p q = record {
     ν-most = rw (p .nu-as) (S.ν-most k Γ t entry (r .fit));
     ahead = rw (q .z-as, q .theta-as, r .forward-scale) ahead;
@@ -136,20 +140,20 @@ module _ (k : Settings) (s sb Γ : ℕ) (t : FilterState) (entry : ℤ) (r : Rea
     )),
   )
 
-  forward-updated : (j : Decision) → Decision-as j → updatedForward (k .M) s Γ (t .ψ) j (t .forward) (t .samples) ≡ newForward k Γ t entry
+  forward-updated : (j : Decision) → Decision-as j → updatedForward (k .M) x (t .ψ) j (t .forward) (t .samples) ≡ newForward k Γ t entry
   unfolding newForward J
   forward-updated j q = rw (q .z-as, q .theta-as, r .forward-scale, add-zero)
 
-  back-updated : (h : Output) (j : Decision) → Output-as h → Decision-as j → updatedBack (k .M) sb (h .nu) (t .ψ) j (t .back) (t .symbols) ≡ newBack k Γ t entry
+  back-updated : (h : Output) (j : Decision) → Output-as h → Decision-as j → updatedBack (k .M) x (h .nu) (t .ψ) j (t .back) (t .symbols) ≡ newBack k Γ t entry
   unfolding J
   back-updated h j p q = rw (q .z-as, q .theta-as, p .nu-as, r .back-scale) (sym (S.newBack-raised k Γ t entry (r .fit)))
 
   pub result-as : (h : Output) (j : Decision) → Output-as h → Decision-as j → (ψ′ : ℕ) (f′ b′ y y′ : List ℤ) →
-      Changed-is (k .M) s sb Γ (t .ψ) h j (t .forward) (t .back) (t .samples) y ψ′ f′ b′ → y ≡ t .symbols → y′ ≡ j .v ∷ t .symbols → (x : SampleResult) → x ≡ resultOf h j ψ′ →
-      SampleResult-is k Γ t entry x f′ b′ y′
+      Changed-is (k .M) x (t .ψ) h j (t .forward) (t .back) (t .samples) y ψ′ f′ b′ → y ≡ t .symbols → y′ ≡ j .v ∷ t .symbols → (z : SampleResult) → z ≡ resultOf h j ψ′ →
+      SampleResult-is k Γ t entry z f′ b′ y′
   unfolding next outcome
-  result-as h j p q ψ′ f′ b′ y y′ c l d x e =
-      let behind = ap (updatedBack (k .M) sb (h .nu) (t .ψ) j (t .back)) l ∙ back-updated h j p q in
+  result-as h j p q ψ′ f′ b′ y y′ c l d o e =
+      let behind = ap (updatedBack (k .M) x (h .nu) (t .ψ) j (t .back)) l ∙ back-updated h j p q in
       let w = normalised-of (forward-updated j q) behind c in
       record {
         y = ap (λ (z : SampleResult). z .y) e ∙ p .y-as;

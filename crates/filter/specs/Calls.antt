@@ -18,13 +18,10 @@ use Rattle.steps.specs.Error.{error, errorExponent}
 use Rattle.filter.specs.Sample.{FilterState, outcomeOf, normalised, normalisedExponent, Y, ξ, decision, v, Z, θ, next}
 use Rattle.filter.specs.Sound.{Fit}
 use Rattle.steps.specs.Sound.{Summable, Adaptable, OutputBounds}
-use Rattle.filter.specs.declared.sample.Settings as Declared
+use Rattle.filter.specs.declared.sample.BlockExponents.{BlockExponents}
 use Rattle.filter.specs.declared.sample.Output.{Output}
 use Rattle.filter.specs.declared.sample.Decision.{Decision}
 use Rattle.filter.specs.declared.sample.SampleResult.{SampleResult}
-
-abbrev pub settingsOf : Declared.Settings → Settings
-settingsOf k = record { p = k .p; q = k .q; N = k .n; r = k .r; L = k .l; M = k .m }
 
 abbrev pub filterStateOf : List ℤ → List ℤ → List ℤ → List ℤ → ℕ → FilterState
 filterStateOf forward back samples symbols ψ = record { forward = forward; back = back; samples = samples; symbols = symbols; ψ = ψ }
@@ -44,16 +41,16 @@ pub record SymbolBounds (r delay : ℕ) (symbols : List ℤ) : Type 0 where
   pub symbols-are : Each (λ (v : ℤ). isEntry r v ≡ true) symbols
   pub largest-bits-at : LargestBitsAt r delay symbols
 
-pub record FilterBounds (sb Γ ψ : ℕ) (forward back samples symbols : List ℤ) : Type 0 where
+pub record FilterBounds (e : BlockExponents) (ψ : ℕ) (forward back samples symbols : List ℤ) : Type 0 where
   pub forward-sum : Summable forward samples
   pub back-sum : Summable back symbols
-  pub ν-most : sb + largestBits symbols ≤ dataExponentLimit
-  pub output-bounds : OutputBounds (dot forward samples) (dot back symbols) Γ (sb + largestBits symbols) ψ
+  pub ν-most : e .sb + largestBits symbols ≤ dataExponentLimit
+  pub output-bounds : OutputBounds (dot forward samples) (dot back symbols) (e .gamma30) (e .sb + largestBits symbols) ψ
 
-pub record Output-is (sb Γ ψ : ℕ) (forward back samples symbols : List ℤ) (h : Output) : Type 0 where
-  pub nu : h .nu ≡ sb + largestBits symbols
-  pub y : h .y ≡ output (dot forward samples) (raise (dot back symbols) (dataUnit - (sb + largestBits symbols))) Γ (sb + largestBits symbols)
-  pub xi : h .xi ≡ outputExponent ψ Γ (sb + largestBits symbols)
+pub record Output-is (e : BlockExponents) (ψ : ℕ) (forward back samples symbols : List ℤ) (h : Output) : Type 0 where
+  pub nu : h .nu ≡ e .sb + largestBits symbols
+  pub y : h .y ≡ output (dot forward samples) (raise (dot back symbols) (dataUnit - (e .sb + largestBits symbols))) (e .gamma30) (e .sb + largestBits symbols)
+  pub xi : h .xi ≡ outputExponent ψ (e .gamma30) (e .sb + largestBits symbols)
 
 -- ---- steps 4 and 5
 
@@ -102,32 +99,32 @@ pub record Normalised-is (ψ : ℕ) (forward back : List ℤ) (ψ′ : ℕ) (for
 
 -- ---- steps 6 and 7
 
-pub record ChangeBounds (m s sb Γ ψ : ℕ) (h : Output) (j : Decision) (forward back samples symbols : List ℤ) : Type 0 where
+pub record ChangeBounds (m : ℕ) (e : BlockExponents) (ψ : ℕ) (h : Output) (j : Decision) (forward back samples symbols : List ℤ) : Type 0 where
   pub ν-most : h .nu ≤ dataExponentLimit
-  pub ahead : UpdateBounds m (j .z) ψ (j .theta) s Γ 0 forward samples
-  pub behind : UpdateBounds m (j .z) ψ (j .theta) sb (h .nu + receivedUnit) (dataUnit - h .nu) back symbols
+  pub ahead : UpdateBounds m (j .z) ψ (j .theta) (e .s) (e .gamma30) 0 forward samples
+  pub behind : UpdateBounds m (j .z) ψ (j .theta) (e .sb) (h .nu + receivedUnit) (dataUnit - h .nu) back symbols
 
 -- the new weights before step 7
-abbrev pub updatedForward : ℕ → ℕ → ℕ → ℕ → Decision → List ℤ → List ℤ → List ℤ
-updatedForward m s Γ ψ j forward samples = updated m (j .z) ψ (j .theta) s Γ 0 forward samples
+abbrev pub updatedForward : ℕ → BlockExponents → ℕ → Decision → List ℤ → List ℤ → List ℤ
+updatedForward m e ψ j forward samples = updated m (j .z) ψ (j .theta) (e .s) (e .gamma30) 0 forward samples
 
-abbrev pub updatedBack : ℕ → ℕ → ℕ → ℕ → Decision → List ℤ → List ℤ → List ℤ
-updatedBack m sb ν ψ j back symbols = updated m (j .z) ψ (j .theta) sb (ν + receivedUnit) (dataUnit - ν) back symbols
+abbrev pub updatedBack : ℕ → BlockExponents → ℕ → ℕ → Decision → List ℤ → List ℤ → List ℤ
+updatedBack m e ν ψ j back symbols = updated m (j .z) ψ (j .theta) (e .sb) (ν + receivedUnit) (dataUnit - ν) back symbols
 
-abbrev pub Changed-is : ℕ → ℕ → ℕ → ℕ → ℕ → Output → Decision → List ℤ → List ℤ → List ℤ → List ℤ → ℕ → List ℤ → List ℤ → Type 0
-Changed-is m s sb Γ ψ h j forward back samples symbols ψ′ forward′ back′ =
-    Normalised-is ψ (updatedForward m s Γ ψ j forward samples) (updatedBack m sb (h .nu) ψ j back symbols) ψ′ forward′ back′
+abbrev pub Changed-is : ℕ → BlockExponents → ℕ → Output → Decision → List ℤ → List ℤ → List ℤ → List ℤ → ℕ → List ℤ → List ℤ → Type 0
+Changed-is m e ψ h j forward back samples symbols ψ′ forward′ back′ =
+    Normalised-is ψ (updatedForward m e ψ j forward samples) (updatedBack m e (h .nu) ψ j back symbols) ψ′ forward′ back′
 
 -- ---- the sample as a whole
 
 abbrev pub resultOf : Output → Decision → ℕ → SampleResult
 resultOf h j ψ = record { y = h .y; xi = h .xi; decision = j .decision; z = j .z; theta = j .theta; psi = ψ }
 
-pub record Ready (k : Settings) (s sb Γ : ℕ) (t : FilterState) (entry : ℤ) : Type 0 where
-  pub fit : Fit k Γ t
+pub record Ready (k : Settings) (e : BlockExponents) (t : FilterState) (entry : ℤ) : Type 0 where
+  pub fit : Fit k (e .gamma30) t
   pub entry-is : isEntry (k .r) entry ≡ true
-  pub forward-scale : s ≡ scaleForward k
-  pub back-scale : sb ≡ scaleBack k
+  pub forward-scale : e .s ≡ scaleForward k
+  pub back-scale : e .sb ≡ scaleBack k
 
 -- symbols has the new symbol before the old ones
 pub record SampleResult-is (k : Settings) (Γ : ℕ) (t : FilterState) (entry : ℤ) (r : SampleResult) (forward back symbols : List ℤ) : Type 0 where

@@ -8,16 +8,16 @@ ghost use Rattle.laws.specs.Sums.{Each};
 ghost use Rattle.steps.specs.Limits.{symbolLimit, exponentLimit, outputExponentLimit};
 ghost use Rattle.steps.specs.Sound.{lineLength, orAll};
 ghost use Rattle.steps.specs.Fir.{Small, halved, doubled, largestBits, magnitudes};
-ghost use Rattle.filter.specs.Calls.{LargestBitsAt, nextDelay, SymbolBounds, FilterBounds, Output-is, DecisionBounds, Decision-is, chosen, UpdateBounds, updated, Normalised-is, ChangeBounds, Changed-is, resultOf, Ready, SampleResult-is, settingsOf, filterStateOf};
+ghost use Rattle.filter.specs.Calls.{LargestBitsAt, nextDelay, SymbolBounds, FilterBounds, Output-is, DecisionBounds, Decision-is, chosen, UpdateBounds, updated, Normalised-is, ChangeBounds, Changed-is, resultOf, Ready, SampleResult-is, filterStateOf};
+use steps::settings::Settings;
 
-// The settings of a station.
-pub struct Settings {
-    pub p: u32,
-    pub q: u32,
-    pub n: u32,
-    pub r: u32,
-    pub l: u32,
-    pub m: u32,
+// The scale counts of a block, its b and B, and γ + RECEIVED_UNIT.
+pub struct BlockExponents {
+    pub s: u32,
+    pub sb: u32,
+    pub b: u32,
+    pub bmax: u32,
+    pub gamma30: u32,
 }
 
 // What steps 1 to 3 give.
@@ -46,11 +46,11 @@ pub struct SampleResult {
 }
 
 // How many symbols have come since one of the largest bit length, after the symbol v.
-pub fn next_delay(r: u32, delay: usize, v: i16) -> usize
+pub fn next_delay(r: u8, delay: usize, v: i16) -> usize
     requires { ⌜ (r ≤ symbolLimit) × (delay ≤ lineLength) ⌝ }
     ensures { λ a. ⌜ a ≡ nextDelay r delay v ⌝ }
 {
-    if numbers::bit_length::magnitude16(v) >> r == 0 {
+    if numbers::bit_length::magnitude16(v) >> (r as u32) == 0 {
         delay + 1
     } else {
         0
@@ -73,21 +73,20 @@ fn reach(r: u32, delay: usize, symbols: &[i16]) -> u32
 pub fn filter_output(
     r: u32,
     delay: usize,
-    sb: u32,
-    gamma30: u32,
+    e: BlockExponents,
     psi: u32,
     forward: &[i16],
     back: &[i16],
     samples: &[i16],
     symbols: &[i16],
 ) -> Output
-    requires { ⌜ FilterBounds sb gamma30 psi (now forward) (now back) (now samples) (now symbols) × SymbolBounds r delay (now symbols) ⌝ }
-    ensures { λ h. ⌜ Output-is sb gamma30 psi (now (forward .entry)) (now (back .entry)) (now (samples .entry)) (now (symbols .entry)) h ⌝ }
+    requires { ⌜ FilterBounds e psi (now forward) (now back) (now samples) (now symbols) × SymbolBounds r delay (now symbols) ⌝ }
+    ensures { λ h. ⌜ Output-is e psi (now (forward .entry)) (now (back .entry)) (now (samples .entry)) (now (symbols .entry)) h ⌝ }
 {
-    let nu = sb + reach(r, delay, symbols);
+    let nu = e.sb + reach(r, delay, symbols);
     let f = steps::weights::sum(forward, samples);
     let h = steps::weights::sum(back, symbols);
-    let o = steps::output::output(f, h, gamma30, nu, psi);
+    let o = steps::output::output(f, h, e.gamma30, nu, psi);
     Output {
         nu: nu,
         y: o.y,
@@ -180,9 +179,7 @@ pub fn normalise(forward: &mut [i16], back: &mut [i16], seen: u16, psi: u32) -> 
 // Steps 6 and 7: the new weights and the new ψ.
 pub fn change(
     m: u32,
-    s: u32,
-    sb: u32,
-    gamma30: u32,
+    e: BlockExponents,
     psi: u32,
     h: Output,
     j: Decision,
@@ -191,13 +188,13 @@ pub fn change(
     samples: &[i16],
     symbols: &[i16],
 ) -> u32
-    requires { ⌜ ChangeBounds m s sb gamma30 psi h j (now forward) (now back) (now samples) (now symbols) ⌝ }
-    ensures { λ r. ⌜ Changed-is m s sb gamma30 psi h j (now (forward .entry)) (now (back .entry)) (now (samples .entry)) (now (symbols .entry)) r (now (forward .exit)) (now (back .exit)) ⌝ }
+    requires { ⌜ ChangeBounds m e psi h j (now forward) (now back) (now samples) (now symbols) ⌝ }
+    ensures { λ r. ⌜ Changed-is m e psi h j (now (forward .entry)) (now (back .entry)) (now (samples .entry)) (now (symbols .entry)) r (now (forward .exit)) (now (back .exit)) ⌝ }
 {
     let nu = h.nu;
     let z = j.z;
     let theta = j.theta;
-    let ahead = update(forward, samples, m, z, psi, theta, s, gamma30, 0);
+    let ahead = update(forward, samples, m, z, psi, theta, e.s, e.gamma30, 0);
     let behind = update(
         back,
         symbols,
@@ -205,7 +202,7 @@ pub fn change(
         z,
         psi,
         theta,
-        sb,
+        e.sb,
         nu + steps::limits::RECEIVED_UNIT,
         steps::limits::DATA_UNIT - nu,
     );
@@ -230,9 +227,7 @@ fn result_of(h: Output, j: Decision, psi: u32) -> SampleResult
 // Steps 1 to 8. The first of the symbols is the place of the new one, which is written before the weights change.
 pub fn step(
     k: Settings,
-    s: u32,
-    sb: u32,
-    gamma30: u32,
+    e: BlockExponents,
     psi: u32,
     delay: usize,
     entry: i16,
@@ -241,35 +236,14 @@ pub fn step(
     samples: &[i16],
     symbols: &mut [i16],
 ) -> SampleResult
-    requires { ⌜ Ready (settingsOf k) s sb gamma30 (filterStateOf (now forward) (now back) (now samples) (drop 1 (now symbols)) psi) entry × LargestBitsAt (k .r) delay (drop 1 (now symbols)) ⌝ }
-    ensures { λ r. ⌜ SampleResult-is (settingsOf k) gamma30 (filterStateOf (now (forward .entry)) (now (back .entry)) (now (samples .entry)) (drop 1 (now (symbols .entry))) psi) entry r (now (forward .exit)) (now (back .exit)) (now (symbols .exit)) ⌝ }
+    requires { ⌜ Ready k e (filterStateOf (now forward) (now back) (now samples) (drop 1 (now symbols)) psi) entry × LargestBitsAt (k .r) delay (drop 1 (now symbols)) ⌝ }
+    ensures { λ r. ⌜ SampleResult-is k (e .gamma30) (filterStateOf (now (forward .entry)) (now (back .entry)) (now (samples .entry)) (drop 1 (now (symbols .entry))) psi) entry r (now (forward .exit)) (now (back .exit)) (now (symbols .exit)) ⌝ }
 {
-    let h = filter_output(
-        k.r,
-        delay,
-        sb,
-        gamma30,
-        psi,
-        forward,
-        back,
-        samples,
-        &symbols[1..],
-    );
-    let j = decision_error(k.r, sb, h.y, h.xi, entry);
+    let r = k.r as u32;
+    let h = filter_output(r, delay, e, psi, forward, back, samples, &symbols[1..]);
+    let j = decision_error(r, e.sb, h.y, h.xi, entry);
     let v = j.v;
     symbols[0] = v;
-    let next = change(
-        k.m,
-        s,
-        sb,
-        gamma30,
-        psi,
-        h,
-        j,
-        forward,
-        back,
-        samples,
-        &symbols[1..],
-    );
+    let next = change(k.M, e, psi, h, j, forward, back, samples, &symbols[1..]);
     result_of(h, j, next)
 }

@@ -8,9 +8,9 @@ use borrow.Author.Tests.{leb-true}
 use Rattle.laws.specs.Powers.{rises}
 use Rattle.laws.specs.Tests.{last-le}
 use Rattle.steps.specs.Limits.{tapLimit, blockLimit, symbolLimit, gainLimit}
-use Rattle.steps.specs.Settings.{Settings, stepBound}
+use Rattle.steps.specs.Settings.{Settings, given, stepBound}
 use Rattle.steps.specs.Sound.{Within, Admitted}
-use Rattle.state.specs.Sizes.{sizesFit, admits, settingsNumber, given}
+use Rattle.state.specs.Sizes.{sizesFit, admits, settingsNumber}
 
 -- ---- sizes
 

@@ -13,12 +13,12 @@ use borrow.Author.Tests.{leb-true, le-leb, ltb-true, lt-ltb, eqb-true}
 use Rattle.laws.specs.Lists.{all, and-left, and-right}
 use Rattle.laws.specs.Tests.{both, last-le, each-tested, each-parts, all-take, all-drop, all-replicate}
 use Rattle.steps.specs.Limits.{exponentLimit, halvingLimit, lengthLimit, slots}
-use Rattle.steps.specs.Settings.{Settings, scaleForward, isEntry}
+use Rattle.steps.specs.Settings.{Settings, given, scaleForward, isEntry}
 use Rattle.steps.specs.Sound.{Within}
 use Rattle.steps.specs.Fir.{Small, isBelow}
 use Rattle.steps.proofs.LargestLaws.{all-below}
 use Rattle.block.specs.Sound.{Sound}
-use Rattle.state.specs.Sizes.{sizesFit, admits, settingsNumber, given}
+use Rattle.state.specs.Sizes.{sizesFit, admits, settingsNumber}
 use Rattle.state.specs.State.{settings, memory, taps, samples, filler, symbols, isZero, isStored, soundExponents, soundWeights, soundPast, isSound, fresh, refused}
 use Rattle.state.specs.Answers.{setUpState, examined}
 use Rattle.state.specs.declared.equaliser.Equaliser.{Equaliser}

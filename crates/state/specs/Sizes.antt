@@ -18,7 +18,3 @@ admits k = leb (k .M * stepBound k) (2 ^ (30 + k .L))
 -- what set-up answers: 0, or the number of the refusal
 unfoldable pub settingsNumber : Settings → ℕ
 settingsNumber k = cond (sizesFit k) (cond (admits k) 0 2) 1
-
--- the settings of these numbers
-abbrev pub given : ℕ → ℕ → ℕ → ℕ → ℕ → ℕ → Settings
-given p q N r L M = record { p = p; q = q; N = N; r = r; L = L; M = M }

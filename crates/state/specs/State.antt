@@ -7,7 +7,7 @@ use lib.ListN.{length, take, drop, getD, replicate}
 use lib.IntN.{ℤ, pos, natAbs}
 use Rattle.laws.specs.Lists.{all}
 use Rattle.steps.specs.Limits.{exponentLimit, lengthLimit, slots}
-use Rattle.steps.specs.Settings.{Settings, scaleForward, isEntry}
+use Rattle.steps.specs.Settings.{Settings, given, scaleForward, isEntry}
 use Rattle.steps.specs.Fir.{allSmall}
 use Rattle.block.specs.Block.{Memory}
 use Rattle.state.specs.declared.equaliser.Equaliser.{Equaliser}
@@ -105,4 +105,4 @@ fresh k = record {
 
 -- the state of a refused set-up
 unfoldable pub refused : Equaliser
-refused = fresh (record { p = 1; q = 1; N = 1; r = 0; L = 0; M = 0 })
+refused = fresh (given 1 1 1 0 0 0)

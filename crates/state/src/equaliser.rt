@@ -1,9 +1,9 @@
 // The equaliser of a station: its state in the image's order, its limits and its set-up.
 ghost use mathlib.Core.Path.{_≡_};
-ghost use Rattle.state.specs.Sizes.{given};
-ghost use Rattle.state.specs.State.{fresh};
+ghost use Rattle.state.specs.State.{fresh, refused, settings};
 ghost use Rattle.state.specs.Answers.{SetUp};
 use steps::limits;
+use steps::settings::Settings;
 
 #[repr(C)]
 pub struct Equaliser {
@@ -27,23 +27,53 @@ pub struct Answer {
     pub state: Equaliser,
 }
 
+// The settings of a state.
+pub fn settings(e: Equaliser) -> Settings
+    ensures { λ k. ⌜ k ≡ settings e ⌝ }
+{
+    Settings {
+        p: e.p,
+        q: e.q,
+        N: e.n,
+        r: e.r,
+        L: e.l,
+        M: e.m,
+    }
+}
+
 // Weights, ψ, past samples and symbols, b and B of 0.
-pub fn fresh(p: u8, q: u8, n: u8, r: u8, l: u8, m: u32) -> Equaliser
-    ensures { λ e. ⌜ e ≡ fresh (given p q n r l m) ⌝ }
+pub fn fresh(k: Settings) -> Equaliser
+    ensures { λ e. ⌜ e ≡ fresh k ⌝ }
 {
     Equaliser {
-        p: p,
-        q: q,
-        n: n,
-        r: r,
-        l: l,
+        p: k.p,
+        q: k.q,
+        n: k.N,
+        r: k.r,
+        l: k.L,
         psi: 0,
         b: 0,
         bmax: 0,
-        m: m,
+        m: k.M,
         weights: [0i16; Equaliser::SLOTS],
         past: [0i16; Equaliser::SLOTS],
     }
+}
+
+// The smallest state, which stands beside the number of a refusal.
+pub fn refused() -> Equaliser
+    ensures { λ e. ⌜ e ≡ refused ⌝ }
+{
+    fresh(
+        Settings {
+            p: 1,
+            q: 1,
+            N: 1,
+            r: 0,
+            L: 0,
+            M: 0,
+        },
+    )
 }
 
 impl Equaliser {
@@ -72,19 +102,19 @@ impl Equaliser {
         + (Equaliser::WEIGHT + Equaliser::DATUM) * Equaliser::SLOTS;
 
     // A fresh state, or the number of the refusal beside the smallest one.
-    pub fn set_up(p: u8, q: u8, n: u8, r: u8, l: u8, m: u32) -> Answer
-        ensures { λ a. ⌜ SetUp (given p q n r l m) a ⌝ }
+    pub fn set_up(k: Settings) -> Answer
+        ensures { λ a. ⌜ SetUp k a ⌝ }
     {
-        let number = super::sizes::settings_number(p, q, n, r, l, m);
+        let number = super::sizes::settings_number(k);
         if number == 0 {
             return Answer {
                 number: 0,
-                state: fresh(p, q, n, r, l, m),
+                state: fresh(k),
             };
         }
         Answer {
             number: number,
-            state: fresh(1, 1, 1, 0, 0, 0),
+            state: refused(),
         }
     }
 }

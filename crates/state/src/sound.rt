@@ -94,7 +94,7 @@ pub fn is_sound(e: Equaliser) -> bool
 pub fn examined(e: Equaliser) -> u8
     ensures { λ f. ⌜ f ≡ examined e ⌝ }
 {
-    let number = super::sizes::settings_number(e.p, e.q, e.n, e.r, e.l, e.m);
+    let number = super::sizes::settings_number(super::equaliser::settings(e));
     if number != 0 {
         return number;
     }

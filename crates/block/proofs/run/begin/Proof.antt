@@ -32,11 +32,11 @@ length-most c = omega (arith, c .before .bit-length .ensures, bit-length-le (lou
 larger-most : (c : tie.After-larger) → c .larger .result ≤ 64
 larger-most c = omega (arith, c .larger .ensures, length-most c, start (loud c) .pre .was-most)
 
-add-t10 : tie.Need-add-t10
-add-t10 c = record { fits = omega (arith, larger-most (c .before), start (loud (c .before)) .pre .within .r-most) }
-
 add-t12 : tie.Need-add-t12
-add-t12 c =
+add-t12 c = record { fits = omega (arith, larger-most (c .before), start (loud (c .before)) .pre .within .r-most) }
+
+add-t13 : tie.Need-add-t13
+add-t13 c =
     let s = start (loud (c .before)) in
     record {
       fits = omega (
@@ -66,4 +66,4 @@ begin-spec =
     tie.close
     (tie.spec
     (λ c. search needs) (λ c κs. search needs) (λ c. search needs) (λ c κs. search needs) (λ c κs. search needs)
-    (λ c. search needs) (λ c κs. search needs) (λ c κs. search needs) add-t10 add-t12 returns)
+    (λ c. search needs) (λ c κs. search needs) (λ c κs. search needs) (λ c. search needs) add-t12 add-t13 returns)

@@ -6,7 +6,6 @@ use lib.IntN.{ℤ, pos}
 use borrow.Author.Needs.{needs}
 use Rattle.steps.specs.Sound.{lineLength}
 use Rattle.steps.specs.Settings.{Settings}
-use Rattle.filter.specs.Calls.{settingsOf}
 use Rattle.block.specs.Block.{Block, Memory, Outputs, outputsOf}
 use Rattle.block.specs.Calls.{blockOf, memoryOf, ExponentsOf, BegunOn, ProgressedOn}
 use Rattle.block.proofs.RunStart.{startable, symbols-most, exponents-of, window-storable, window-long, window-most, fill-bounds, begun-on}
@@ -15,7 +14,7 @@ use Rattle.block.proofs.run.run.Statement.{statement}
 use Rattle.block.proofs.run.run.Tie as tie
 
 abbrev settings : tie.Start → Settings
-settings s = settingsOf (s .args .k)
+settings s = s .args .k
 
 abbrev block : tie.Start → Block
 block s = blockOf (s .args .m .now) (s .args .gains .now) (s .args .entries .now)

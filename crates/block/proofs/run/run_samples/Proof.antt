@@ -12,7 +12,6 @@ use Rattle.laws.specs.Machine.{kept}
 use Rattle.steps.specs.Limits.{blockLimit}
 use Rattle.steps.specs.Sound.{lineLength}
 use Rattle.steps.specs.Settings.{Settings}
-use Rattle.filter.specs.Calls.{settingsOf}
 use Rattle.block.specs.Block.{Block, Memory, Outputs, outputsOf}
 use Rattle.block.specs.Line.{place}
 use Rattle.block.specs.Calls.{BegunOn}
@@ -23,8 +22,8 @@ use Rattle.block.proofs.run.run_samples.Tie as tie
 -- of any block that has begun so
 abbrev Inv-loop : tie.InvT-loop
 Inv-loop k e psi entries forward₀ back₀ samples symbols₀ y₀ xi₀ decision₀ z₀ theta₀ at₀ delay₀ n₀ forward back symbols y xi decision z theta at delay n =
-    (o : Memory) (i : Block) → BegunOn (settingsOf k) o i e psi entries forward₀ back₀ samples symbols₀ (outputsOf y₀ xi₀ decision₀ z₀ theta₀) →
-    Passed (settingsOf k) o i samples (outputsOf y₀ xi₀ decision₀ z₀ theta₀)
+    (o : Memory) (i : Block) → BegunOn k o i e psi entries forward₀ back₀ samples symbols₀ (outputsOf y₀ xi₀ decision₀ z₀ theta₀) →
+    Passed k o i samples (outputsOf y₀ xi₀ decision₀ z₀ theta₀)
     (record { n = n; forward = forward; back = back; symbols = symbols; ψ = at; outputs = outputsOf y xi decision z theta }) delay
 
 abbrev μ-loop : tie.MeasureT-loop
@@ -40,7 +39,7 @@ abbrev start : tie.At-loop Inv-loop μ-loop → tie.Start Inv-loop μ-loop
 start c = c .before .before .before
 
 abbrev settings : tie.Start Inv-loop μ-loop → Settings
-settings s = settingsOf (s .args .k)
+settings s = s .args .k
 
 abbrev given : tie.Start Inv-loop μ-loop → Outputs
 given s = outputsOf (s .args .y .now) (s .args .xi .now) (s .args .decision .now) (s .args .z .now) (s .args .theta .now)
@@ -54,7 +53,7 @@ work c =
 passed : (c : tie.At-loop Inv-loop μ-loop) → let s = start c in Passed (settings s) (s .pre .o) (s .pre .i) (s .args .samples .now) (given s) (work c) (c .loop .delay)
 passed c = let q = start c .pre in c .loop .inv (q .o) (q .i) (q .begun)
 
-more : (c : tie.In-loop Inv-loop μ-loop) → c .before .loop .n < start (c .before) .args .k .n
+more : (c : tie.In-loop Inv-loop μ-loop) → c .before .loop .n < start (c .before) .args .k .N
 more c =
     let b = start (c .before) .pre .begun in
     subst (λ (m : ℕ). c .before .loop .n < m) (ap length (b .entries-are) ∙ b .acceptable .entries-long) (c .loop-test .taken)

@@ -29,10 +29,10 @@ normalise-requires c κs =
 error-kept : (c : tie.After-update) → toZ w32 (ofZ w32 (start c .args .j .z)) ≡ start c .args .j .z
 error-kept c = kept w32 (start c .args .j .z) (omega (arith, c .before .before .struct-told .given))
 
-ahead : (c : tie.After-update) → let a = start c .args in c .update .last .0 ≡ updatedForward (a .m) (a .s) (a .gamma30) (a .psi) (a .j) (a .forward .now) (a .samples .now)
+ahead : (c : tie.After-update) → let a = start c .args in c .update .last .0 ≡ updatedForward (a .m) (a .e) (a .psi) (a .j) (a .forward .now) (a .samples .now)
 ahead c = c .update .ensures .0 ∙ rw (error-kept c)
 
-behind : (c : tie.After-update2) → let a = start (first c) .args in c .update2 .last .0 ≡ updatedBack (a .m) (a .sb) (a .h .nu) (a .psi) (a .j) (a .back .now) (a .symbols .now)
+behind : (c : tie.After-update2) → let a = start (first c) .args in c .update2 .last .0 ≡ updatedBack (a .m) (a .e) (a .h .nu) (a .psi) (a .j) (a .back .now) (a .symbols .now)
 behind c = c .update2 .ensures .0 ∙ rw (error-kept (first c))
 
 returns : tie.Need-returns

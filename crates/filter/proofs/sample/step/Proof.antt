@@ -13,7 +13,7 @@ use borrow.Author.Needs.{needs}
 use Rattle.laws.specs.Machine.{kept}
 use Rattle.steps.specs.Settings.{Settings}
 use Rattle.filter.specs.Sample.{FilterState}
-use Rattle.filter.specs.Calls.{settingsOf, filterStateOf, SymbolBounds, FilterBounds, Output-is, ChangeBounds}
+use Rattle.filter.specs.Calls.{filterStateOf, SymbolBounds, FilterBounds, Output-is, ChangeBounds}
 use Rattle.filter.proofs.SampleLaws.{first-place, past, past-kept}
 use Rattle.filter.proofs.StepLaws as L
 use Rattle.filter.proofs.sample.step.Statement.{statement}
@@ -21,14 +21,14 @@ use Rattle.filter.proofs.sample.step.Tie as tie
 
 -- the settings and the filter state at the start
 abbrev settings : tie.Start → Settings
-settings c = settingsOf (c .args .k)
+settings c = c .args .k
 
 abbrev filters : tie.Start → FilterState
 filters c = filterStateOf (c .args .forward .now) (c .args .back .now) (c .args .samples .now) (drop 1 (c .args .symbols .now)) (c .args .psi)
 
 -- the places of the calls
 abbrev start : tie.After-filter-output → tie.Start
-start c = c .before .before .before .before .before
+start c = c .before .before .before .before .before .before
 
 abbrev put-out : tie.After-decision-error → tie.After-filter-output
 put-out c = c .before .before
@@ -50,35 +50,35 @@ symbol-kept c = kept w16 (c .before .decision-error .result .v) (omega (arith, c
 -- ---- what the code asks
 
 sub-filter-output : tie.Need-sub-filter-output
-sub-filter-output c = room (c .before .before)
+sub-filter-output c = room (c .before .before .before)
 
 part-filter-output-start : tie.Need-part-filter-output-start
-part-filter-output-start c = room (c .before .before .before)
+part-filter-output-start c = room (c .before .before .before .before)
 
 filter-output-requires : tie.Need-filter-output-requires
 filter-output-requires c κs =
-    let s = c .before .before .before .before in
+    let s = c .before .before .before .before .before in
     let a = s .args in
-    subst (λ (l : List ℤ). FilterBounds (a .sb) (a .gamma30) (a .psi) (a .forward .now) (a .back .now) (a .samples .now) l × SymbolBounds (a .k .r) (a .delay) l) (sym (past (a .symbols .now)))
-    (L.filter-bounds (settings s) (a .s) (a .sb) (a .gamma30) (filters s) (a .entry) (s .pre .0), L.symbol-bounds (settings s) (a .s) (a .sb) (a .gamma30) (filters s) (a .entry) (s .pre .0) (s .pre .1))
+    subst (λ (l : List ℤ). FilterBounds (a .e) (a .psi) (a .forward .now) (a .back .now) (a .samples .now) l × SymbolBounds (a .k .r) (a .delay) l) (sym (past (a .symbols .now)))
+    (L.filter-bounds (settings s) (a .e) (filters s) (a .entry) (s .pre .0), L.symbol-bounds (settings s) (a .e) (filters s) (a .entry) (s .pre .0) (s .pre .1))
 
-given-output : (c : tie.After-filter-output) → let s = start c in L.Output-as (settings s) (s .args .s) (s .args .sb) (s .args .gamma30) (filters s) (s .args .entry) (s .pre .0) (c .filter-output .result)
+given-output : (c : tie.After-filter-output) → let s = start c in L.Output-as (settings s) (s .args .e) (filters s) (s .args .entry) (s .pre .0) (c .filter-output .result)
 given-output c =
     let s = start c in
     let a = s .args in
-    L.output-as (settings s) (a .s) (a .sb) (a .gamma30) (filters s) (a .entry) (s .pre .0) (c .filter-output .result)
-    (subst (λ (l : List ℤ). Output-is (a .sb) (a .gamma30) (a .psi) (a .forward .now) (a .back .now) (a .samples .now) l (c .filter-output .result)) (past (a .symbols .now)) (c .filter-output .ensures))
+    L.output-as (settings s) (a .e) (filters s) (a .entry) (s .pre .0) (c .filter-output .result)
+    (subst (λ (l : List ℤ). Output-is (a .e) (a .psi) (a .forward .now) (a .back .now) (a .samples .now) l (c .filter-output .result)) (past (a .symbols .now)) (c .filter-output .ensures))
 
 decision-error-requires : tie.Need-decision-error-requires
 decision-error-requires c κs =
     let s = start (c .before) in
     rw (kept w32 (c .before .filter-output .result .y) (omega (arith, c .struct-told .given)), toZ-ofZ (s .fits .entry))
-    (L.decision-bounds (settings s) (s .args .s) (s .args .sb) (s .args .gamma30) (filters s) (s .args .entry) (s .pre .0) (c .before .filter-output .result) (given-output (c .before)))
+    (L.decision-bounds (settings s) (s .args .e) (filters s) (s .args .entry) (s .pre .0) (c .before .filter-output .result) (given-output (c .before)))
 
-decided : (c : tie.After-decision-error) → let s = start (put-out c) in L.Decision-as (settings s) (s .args .s) (s .args .sb) (s .args .gamma30) (filters s) (s .args .entry) (s .pre .0) (c .decision-error .result)
+decided : (c : tie.After-decision-error) → let s = start (put-out c) in L.Decision-as (settings s) (s .args .e) (filters s) (s .args .entry) (s .pre .0) (c .decision-error .result)
 decided c =
     let s = start (put-out c) in
-    L.decision-as (settings s) (s .args .s) (s .args .sb) (s .args .gamma30) (filters s) (s .args .entry) (s .pre .0) (put-out c .filter-output .result) (c .decision-error .result) (given-output (put-out c))
+    L.decision-as (settings s) (s .args .e) (filters s) (s .args .entry) (s .pre .0) (put-out c .filter-output .result) (c .decision-error .result) (given-output (put-out c))
     (rw (kept w32 (put-out c .filter-output .result .y) (omega (arith, c .before .struct-told .given)), toZ-ofZ (s .fits .entry)) at (c .decision-error .ensures))
 
 slice-set-from-v : tie.Need-slice-set-from-v
@@ -95,9 +95,9 @@ change-requires c κs =
     let j = written c in
     let s = start (put-out j) in
     let a = s .args in
-    subst (λ (l : List ℤ). ChangeBounds (a .k .m) (a .s) (a .sb) (a .gamma30) (a .psi) (put-out j .filter-output .result) (j .decision-error .result) (a .forward .now) (a .back .now) (a .samples .now) l)
+    subst (λ (l : List ℤ). ChangeBounds (a .k .M) (a .e) (a .psi) (put-out j .filter-output .result) (j .decision-error .result) (a .forward .now) (a .back .now) (a .samples .now) l)
     (sym (past-kept (a .symbols .now) _))
-    (L.change-bounds (settings s) (a .s) (a .sb) (a .gamma30) (filters s) (a .entry) (s .pre .0) (put-out j .filter-output .result) (j .decision-error .result) (given-output (put-out j)) (decided j))
+    (L.change-bounds (settings s) (a .e) (filters s) (a .entry) (s .pre .0) (put-out j .filter-output .result) (j .decision-error .result) (given-output (put-out j)) (decided j))
 
 -- the place before the change
 abbrev changing : tie.After-back → tie.After-change-arg3
@@ -107,7 +107,7 @@ result-of-requires : tie.Need-result-of-requires
 result-of-requires c κs =
     let j = written (changing c) in
     let s = start (put-out j) in
-    L.handable (settings s) (s .args .s) (s .args .sb) (s .args .gamma30) (filters s) (s .args .entry) (s .pre .0) (put-out j .filter-output .result) (j .decision-error .result) (given-output (put-out j)) (decided j)
+    L.handable (settings s) (s .args .e) (filters s) (s .args .entry) (s .pre .0) (put-out j .filter-output .result) (j .decision-error .result) (given-output (put-out j)) (decided j)
 
 returns : tie.Need-returns
 returns c =
@@ -115,7 +115,7 @@ returns c =
     let j = written d in
     let s = start (put-out j) in
     let a = s .args in
-    L.result-as (settings s) (a .s) (a .sb) (a .gamma30) (filters s) (a .entry) (s .pre .0) (put-out j .filter-output .result) (j .decision-error .result) (given-output (put-out j)) (decided j)
+    L.result-as (settings s) (a .e) (filters s) (a .entry) (s .pre .0) (put-out j .filter-output .result) (j .decision-error .result) (given-output (put-out j)) (decided j)
     _ _ _ _ _ (c .before .before .before .change .ensures) (past-kept (a .symbols .now) _)
     (set-split (a .symbols .now) 0 _ (room s) ∙ ap (λ (x : ℤ). x ∷ drop 1 (a .symbols .now)) (symbol-kept (d .before .before .before .before)))
     (c .result-of .result) (c .result-of .ensures)
@@ -124,6 +124,6 @@ pub step-spec : {M : Type 1} → statement M
 step-spec =
     tie.close
     (tie.spec
-    sub-filter-output part-filter-output-start (λ c. search needs) filter-output-requires
+    (λ c. search needs) sub-filter-output part-filter-output-start (λ c. search needs) filter-output-requires
     decision-error-requires slice-set-from-v sub-change part-change-start (λ c. search needs) change-requires
     result-of-requires (λ c. search needs) (λ c. search needs) (λ c. search needs) returns)
