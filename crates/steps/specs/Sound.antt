@@ -75,11 +75,11 @@ pub record DifferenceBounds (v y : ℤ) (ξ κ : ℕ) : Type 0 where
   pub κ-most : κ ≤ outputUnit
   pub room : natAbs v * 2 ^ (outputUnit - errorExponent ξ κ) ≤ 2 ^ (outputUnit - 1)
 
--- a number whose T(z·2^(i−j)) fits 16 bits
+-- a stored sample at another exponent: T(z·2^(i−j)) is one too
 pub record Storable (i j : ℕ) (z : ℤ) : Type 0 where
   pub shift : i < 63
   pub room : natAbs z * 2 ^ i < 2 ^ 63
-  pub bound : natAbs (rescale z i j) < 2 ^ 15
+  pub bound : natAbs (rescale z i j) < 2 ^ dataUnit
 
 -- the bitwise or of several numbers
 unfoldable pub orAll : List ℕ → ℕ
