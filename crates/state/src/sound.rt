@@ -15,13 +15,13 @@ pub fn all_zero(xs: &[i16]) -> bool
     steps::past::largest_bits(xs) == 0
 }
 
-// |A|·2^(B+S) < 2^(15+b) for each: it goes by the largest bit length.
+// |A|·2^(B+S) < 2^(DATA_UNIT + b) for each: it goes by the largest bit length.
 pub fn all_stored(xs: &[i16], s: u32, b: u8, bmax: u8) -> bool
     requires { ⌜ s ≤ scaleLimit ⌝ }
     ensures { λ r. ⌜ r ≡ all (isStored s b bmax) (now (xs .entry)) ⌝ }
 {
     let scale = (bmax as u32) + s;
-    let room = 15 + (b as u32);
+    let room = steps::limits::DATA_UNIT + (b as u32);
     if scale < room {
         steps::past::largest_bits(xs) <= room - scale
     } else {
