@@ -6,8 +6,9 @@ use native.Mathlib.Omega.{arith}
 use lib.ListN.{length, getD}
 use lib.IntN.{ℤ, pos}
 use Rattle.laws.specs.Sums.{each-at}
+use Rattle.laws.specs.Values.{values-at}
 use Rattle.steps.specs.Settings.{Settings, isEntry}
-use Rattle.block.specs.Block.{Block, Memory, Γ, after, at, ψFits, entryAt, blockY, blockξ, blockDecision, blockZ, blockθ, AtSample}
+use Rattle.block.specs.Block.{Block, Memory, Γ, after, at, ψFits, entryAt, blockOutputs, AtSample}
 use Rattle.filter.specs.Sound.{Fit}
 use Rattle.block.specs.Sound.{Sound, Acceptable}
 use Rattle.filter.specs.Sample.{Y, ξ, decision, Z, θ, Bounded, Faithful}
@@ -15,21 +16,20 @@ use Rattle.filter.proofs.SampleBounds as S
 use Rattle.filter.proofs.Distance as D
 use Rattle.filter.proofs.NextLaws.{next-forward-length, next-back-length}
 use Rattle.filter.proofs.SampleSteps.{normalised-once, frozen}
-use Rattle.block.proofs.ValuesLaws.{values-at}
 use Rattle.block.proofs.BlockCount.{ψ-fits-before}
 use Rattle.block.proofs.BlockSound.{fit-at}
 
 -- what a block hands out at sample n is what the sample's steps give
 module _ (k : Settings) (o : Memory) (i : Block) (n : ℕ) where
   pub record OutputAt : Type 0 where
-    pub Y-is : getD (blockY k o i) n (pos 0) ≡ Y k (Γ k o i) (at k o i n) (entryAt k o i n)
-    pub ξ-is : getD (blockξ k o i) n 0 ≡ ξ k (Γ k o i) (at k o i n) (entryAt k o i n)
-    pub decision-is : getD (blockDecision k o i) n (pos 0) ≡ decision k (Γ k o i) (at k o i n) (entryAt k o i n)
-    pub Z-is : getD (blockZ k o i) n (pos 0) ≡ Z k (Γ k o i) (at k o i n) (entryAt k o i n)
-    pub θ-is : getD (blockθ k o i) n 0 ≡ θ k (Γ k o i) (at k o i n) (entryAt k o i n)
+    pub Y-is : getD (blockOutputs k o i .y) n (pos 0) ≡ Y k (Γ k o i) (at k o i n) (entryAt k o i n)
+    pub ξ-is : getD (blockOutputs k o i .xi) n 0 ≡ ξ k (Γ k o i) (at k o i n) (entryAt k o i n)
+    pub decision-is : getD (blockOutputs k o i .decision) n (pos 0) ≡ decision k (Γ k o i) (at k o i n) (entryAt k o i n)
+    pub Z-is : getD (blockOutputs k o i .z) n (pos 0) ≡ Z k (Γ k o i) (at k o i n) (entryAt k o i n)
+    pub θ-is : getD (blockOutputs k o i .theta) n 0 ≡ θ k (Γ k o i) (at k o i n) (entryAt k o i n)
 
   pub output-at : n < k .N → OutputAt
-  unfolding blockY blockξ blockDecision blockZ blockθ
+  unfolding blockOutputs
   output-at h = record {
     Y-is = values-at _ (pos 0) (k .N) n h;
     ξ-is = values-at _ 0 (k .N) n h;

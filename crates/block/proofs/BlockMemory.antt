@@ -7,15 +7,15 @@ use lib.Dec.{leb}
 use lib.ListN.{take}
 use lib.IntN.{ℤ}
 use Rattle.laws.specs.Loops.{overlay-all}
+use Rattle.laws.specs.Values.{values-length}
 use Rattle.steps.specs.Limits.{exponentLimit}
 use Rattle.steps.specs.Settings.{Settings}
 use Rattle.filter.specs.Sample.{FilterState}
 use Rattle.filter.specs.Calls.{filterStateOf}
-use Rattle.block.specs.Block.{Block, Memory, Outputs, newb, newB, after, ψFits, blockY, blockξ, blockDecision, blockZ, blockθ, blockOutputs, nextMemory, outputsOf}
+use Rattle.block.specs.Block.{Block, Memory, Outputs, newb, newB, after, ψFits, blockOutputs, nextMemory, outputsOf}
 use Rattle.block.specs.Calls.{count, outputsUpTo, OutputsLong, BlockResult-is}
 use Rattle.block.specs.Sound.{Sound}
 use Rattle.block.specs.declared.run.BlockResult.{BlockResult}
-use Rattle.block.proofs.ValuesLaws.{values-length}
 use Rattle.block.proofs.BlockCount.{count-all, ψ-fits-count}
 
 -- lists that are the same, one by one
@@ -26,7 +26,7 @@ same-outputs ey ex ed ez et = rw (ey, ex, ed, ez, et)
 module _ (k : Settings) (o : Memory) (i : Block) where
   -- each list has an element for each sample
   pub block-long : OutputsLong k (blockOutputs k o i)
-  unfolding blockY blockξ blockDecision blockZ blockθ
+  unfolding blockOutputs
   block-long = record {
     y-long = values-length _ (k .N);
     xi-long = values-length _ (k .N);
@@ -40,11 +40,11 @@ module _ (k : Settings) (o : Memory) (i : Block) where
       outputsUpTo k o i (count k o i (k .N)) l ≡ blockOutputs k o i
   block-all e l h = rw (
     count-all k o i (k .N) e,
-    overlay-all (k .N) (blockY k o i) (l .y) (block-long .y-long) (h .y-long),
-    overlay-all (k .N) (blockξ k o i) (l .xi) (block-long .xi-long) (h .xi-long),
-    overlay-all (k .N) (blockDecision k o i) (l .decision) (block-long .decision-long) (h .decision-long),
-    overlay-all (k .N) (blockZ k o i) (l .z) (block-long .z-long) (h .z-long),
-    overlay-all (k .N) (blockθ k o i) (l .theta) (block-long .theta-long) (h .theta-long),
+    overlay-all (k .N) (blockOutputs k o i .y) (l .y) (block-long .y-long) (h .y-long),
+    overlay-all (k .N) (blockOutputs k o i .xi) (l .xi) (block-long .xi-long) (h .xi-long),
+    overlay-all (k .N) (blockOutputs k o i .decision) (l .decision) (block-long .decision-long) (h .decision-long),
+    overlay-all (k .N) (blockOutputs k o i .z) (l .z) (block-long .z-long) (h .z-long),
+    overlay-all (k .N) (blockOutputs k o i .theta) (l .theta) (block-long .theta-long) (h .theta-long),
   )
 
 module _ {k : Settings} {o : Memory} {i : Block} {l : Outputs} {r : BlockResult} {forward back window symbols : List ℤ} {l′ : Outputs}

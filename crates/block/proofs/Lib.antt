@@ -1,4 +1,3 @@
-pub mod ValuesLaws
 pub mod ReceivedLaws
 pub mod BlockExponents
 pub mod BlockStored
@@ -12,5 +11,4 @@ pub mod RunStart
 pub mod RunLaws
 pub mod BlockHolds
 pub mod BlockOutcomes
-pub mod ValueLists
 pub mod SwappedLaws

@@ -13,6 +13,7 @@ use mir.Val.{Fits}
 use borrow.Author.Tests.{le-leb}
 use Rattle.laws.specs.Loops.{Written, written-none, written-next}
 use Rattle.laws.specs.Sums.{each-at}
+use Rattle.laws.specs.Values.{values-length, values-at}
 use Rattle.steps.specs.Limits.{tapLimit, blockLimit, exponentLimit}
 use Rattle.steps.specs.Sound.{lineLength}
 use Rattle.steps.specs.Settings.{Settings, isEntry}
@@ -20,7 +21,7 @@ use Rattle.filter.specs.Sample.{FilterState}
 use Rattle.filter.specs.Sound.{Fit}
 use Rattle.filter.specs.Calls.{LargestBitsAt, nextDelay, SampleResult-is, filterStateOf}
 use Rattle.filter.specs.declared.sample.SampleResult.{SampleResult}
-use Rattle.block.specs.Block.{Block, Memory, Outputs, newb, newB, Γ, after, at, ψFits, entryAt, blockY, blockξ, blockDecision, blockZ, blockθ, outputsOf}
+use Rattle.block.specs.Block.{Block, Memory, Outputs, newb, newB, Γ, after, at, ψFits, entryAt, blockOutputs, outputsOf}
 use Rattle.block.specs.Calls.{count, outputsUpTo, filterStateAfter, filterStateAt, Advanceable, Runnable, BegunOn, ProgressedOn, BlockResult-is}
 use Rattle.block.specs.Line.{place, newest}
 use Rattle.filter.specs.declared.sample.BlockExponents.{BlockExponents}
@@ -28,7 +29,6 @@ use Rattle.block.specs.declared.run.Progress.{Progress}
 use Rattle.block.specs.declared.run.BlockResult.{BlockResult}
 use Rattle.filter.proofs.NextLaws.{next-symbols}
 use Rattle.filter.proofs.DelayLaws.{next-delay-most, next-largest-bits-at}
-use Rattle.block.proofs.ValuesLaws.{values-length, values-at}
 use Rattle.block.proofs.BlockCount.{count-most, count-all, count-stopped}
 use Rattle.block.proofs.BlockSound.{fit-at, fit-after}
 use Rattle.block.proofs.BlockWindow.{after-next}
@@ -49,11 +49,11 @@ pub record Reached (k : Settings) (o : Memory) (i : Block) (samples : List ℤ) 
   pub within : w .n ≤ k .N
   pub symbols-long : length (w .symbols) ≡ lineLength
   pub filter-state-is : filterStateAfter k (w .n) (w .forward) (w .back) samples (w .symbols) (w .ψ) ≡ after k o i (w .n)
-  pub y-written : Written (blockY k o i) (l .y) (w .n) (w .outputs .y)
-  pub xi-written : Written (blockξ k o i) (l .xi) (w .n) (w .outputs .xi)
-  pub decision-written : Written (blockDecision k o i) (l .decision) (w .n) (w .outputs .decision)
-  pub z-written : Written (blockZ k o i) (l .z) (w .n) (w .outputs .z)
-  pub theta-written : Written (blockθ k o i) (l .theta) (w .n) (w .outputs .theta)
+  pub y-written : Written (blockOutputs k o i .y) (l .y) (w .n) (w .outputs .y)
+  pub xi-written : Written (blockOutputs k o i .xi) (l .xi) (w .n) (w .outputs .xi)
+  pub decision-written : Written (blockOutputs k o i .decision) (l .decision) (w .n) (w .outputs .decision)
+  pub z-written : Written (blockOutputs k o i .z) (l .z) (w .n) (w .outputs .z)
+  pub theta-written : Written (blockOutputs k o i .theta) (l .theta) (w .n) (w .outputs .theta)
 
 -- and ψ kept its limit
 pub record Passed (k : Settings) (o : Memory) (i : Block) (samples : List ℤ) (l : Outputs) (w : Work) (delay : ℕ) : Type 0 where
@@ -181,7 +181,7 @@ module _ {k : Settings} {o : Memory} {i : Block} {e : BlockExponents} {ψ : ℕ}
             )
 
         reached : Reached k o i samples l work
-        unfolding blockY blockξ blockDecision blockZ blockθ
+        unfolding blockOutputs
         reached = record {
           within = omega arith;
           symbols-long = long;

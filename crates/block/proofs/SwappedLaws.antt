@@ -7,6 +7,7 @@ use lib.Dec.{leb}
 use lib.ListN.{length-map}
 use lib.IntN.{ℤ, negℤ}
 use Rattle.laws.specs.Negated.{negated, negated-negated, map-odd, each-negated, negated-at, negated-take}
+use Rattle.laws.specs.Values.{values}
 use Rattle.numbers.specs.Cut.{rescale}
 use Rattle.numbers.proofs.CutLaws.{raise-neg, rescale-neg}
 use Rattle.steps.specs.Limits.{dataUnit, gainLimit, exponentLimit, halvingLimit}
@@ -14,10 +15,9 @@ use Rattle.steps.specs.Settings.{Settings, scaleForward}
 use Rattle.steps.proofs.NegatedLaws.{push-neg, magnitudes-neg}
 use Rattle.filter.specs.Sample.{FilterState, Y, ξ, decision, Z, θ, next}
 use Rattle.filter.proofs.NegatedLaws.{swappedFilterState, Y-same, ξ-same, decision-same, Z-same, θ-same, next-swapped}
-use Rattle.block.specs.Block.{Block, Memory, receivedAll, values, newb, newB, Γ, stored, old, start, entered, after, at, entryAt, ψFits, blockY, blockξ, blockDecision, blockZ, blockθ, blockOutputs, nextMemory}
+use Rattle.block.specs.Block.{Block, Memory, receivedAll, newb, newB, Γ, stored, old, start, entered, after, at, entryAt, ψFits, blockOutputs, nextMemory}
 use Rattle.block.specs.Sound.{Sound}
-use Rattle.block.specs.Swapped.{swapped}
-use Rattle.block.specs.Calls.{swappedBlock}
+use Rattle.block.specs.Swapped.{swapped, swappedBlock}
 use Rattle.block.proofs.BlockMemory.{same-outputs}
 
 pub swapped-back : (o : Memory) → swapped (swapped o) ≡ o
@@ -95,7 +95,7 @@ module _ (k : Settings) (o : Memory) (i : Block) where
   each-same f h = ap (λ h. values h (k .N)) (fun-ext (λ n. rw (Γ-same, at-swapped) (h (Γ k o i) (at k o i n) (entryAt k o i n))))
 
   pub block-same : blockOutputs k o′ i′ ≡ blockOutputs k o i
-  unfolding blockY blockξ blockDecision blockZ blockθ
+  unfolding blockOutputs
   block-same = same-outputs (each-same Y (Y-same k)) (each-same ξ (ξ-same k)) (each-same decision (decision-same k)) (each-same Z (Z-same k)) (each-same θ (θ-same k))
 
   pub next-memory-swapped : nextMemory k o′ i′ ≡ swapped (nextMemory k o i)

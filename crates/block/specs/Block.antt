@@ -7,6 +7,7 @@ use lib.Dec.{leb}
 use lib.ListN.{length, getD, take}
 use lib.IntN.{ℤ, pos, natAbs, _-ℤ_}
 use Rattle.laws.specs.Sums.{Each}
+use Rattle.laws.specs.Values.{values}
 use Rattle.numbers.specs.BitLength.{bitLength}
 use Rattle.numbers.specs.Cut.{raise, rescale}
 use Rattle.steps.specs.Limits.{dataUnit, gainLimit, exponentLimit}
@@ -19,6 +20,9 @@ pub record Block : Type 0 where
   pub samples : List ℤ
   pub gains : List ℕ
   pub entries : List ℤ
+
+abbrev pub blockOf : List ℤ → List ℕ → List ℤ → Block
+blockOf m gains entries = record { samples = m; gains = gains; entries = entries }
 
 -- what a block leaves to the next: the last p − 1 stored samples, the rest as at a sample, b and B
 pub record Memory : Type 0 where
@@ -54,10 +58,8 @@ pub record Outputs : Type 0 where
 abbrev pub outputsOf : List ℤ → List ℕ → List ℤ → List ℤ → List ℕ → Outputs
 outputsOf y xi decision z theta = record { y = y; xi = xi; decision = decision; z = z; theta = theta }
 
--- the values of f at 0 to n − 1
-unfoldable pub values {ℓ} : {A : Type ℓ} → (ℕ → A) → ℕ → List A
-values f zero = []
-values f (suc n) = values f n ++ (f n ∷ [])
+abbrev pub outputLengths : Outputs → List ℕ
+outputLengths l = length (l .y) ∷ length (l .xi) ∷ length (l .decision) ∷ length (l .z) ∷ length (l .theta) ∷ []
 
 -- A stored sample A means A·2^(γ − dataUnit), with γ = r − receivedUnit + B + S, and the received value is
 -- x = X·2^(r − receivedUnit). Both are compared times 2^(mantissaUnit − r): A at B + S = e is off X by less than
@@ -118,23 +120,14 @@ module _ (k : Settings) (o : Memory) (i : Block) where
   entryAt n = getD (i .entries) n (pos 0)
 
   -- what a block hands out: Y, ξ, decision, Z and θ of each sample
-  unfoldable pub blockY : List ℤ
-  blockY = values (λ n. Y k Γ (at n) (entryAt n)) (k .N)
-
-  unfoldable pub blockξ : List ℕ
-  blockξ = values (λ n. ξ k Γ (at n) (entryAt n)) (k .N)
-
-  unfoldable pub blockDecision : List ℤ
-  blockDecision = values (λ n. decision k Γ (at n) (entryAt n)) (k .N)
-
-  unfoldable pub blockZ : List ℤ
-  blockZ = values (λ n. Z k Γ (at n) (entryAt n)) (k .N)
-
-  unfoldable pub blockθ : List ℕ
-  blockθ = values (λ n. θ k Γ (at n) (entryAt n)) (k .N)
-
-  abbrev pub blockOutputs : Outputs
-  blockOutputs = record { y = blockY; xi = blockξ; decision = blockDecision; z = blockZ; theta = blockθ }
+  unfoldable pub blockOutputs : Outputs
+  blockOutputs = record {
+    y = values (λ n. Y k Γ (at n) (entryAt n)) (k .N);
+    xi = values (λ n. ξ k Γ (at n) (entryAt n)) (k .N);
+    decision = values (λ n. decision k Γ (at n) (entryAt n)) (k .N);
+    z = values (λ n. Z k Γ (at n) (entryAt n)) (k .N);
+    theta = values (λ n. θ k Γ (at n) (entryAt n)) (k .N);
+  }
 
   -- what an accepted block leaves
   unfoldable pub nextMemory : Memory

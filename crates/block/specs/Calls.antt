@@ -16,13 +16,10 @@ use Rattle.filter.specs.Sample.{FilterState}
 use Rattle.filter.specs.Calls.{LargestBitsAt, Ready, filterStateOf}
 use Rattle.filter.specs.declared.sample.BlockExponents.{BlockExponents}
 use Rattle.block.specs.Line.{newest, started, added}
-use Rattle.block.specs.Block.{Block, Memory, Outputs, receivedAll, storedAll, newb, newB, Γ, after, ψFits, blockY, blockξ, blockDecision, blockZ, blockθ}
+use Rattle.block.specs.Block.{Block, Memory, Outputs, receivedAll, storedAll, newb, newB, Γ, after, ψFits, blockOutputs}
 use Rattle.block.specs.Sound.{Sound, Acceptable, Receivable, StoreBounds}
 use Rattle.block.specs.declared.run.Progress.{Progress}
 use Rattle.block.specs.declared.run.BlockResult.{BlockResult}
-
-abbrev pub blockOf : List ℤ → List ℕ → List ℤ → Block
-blockOf m gains entries = record { samples = m; gains = gains; entries = entries }
 
 -- the window has the last p − 1 stored samples and a place for the next
 abbrev pub memoryOf : List ℤ → List ℤ → List ℤ → List ℤ → ℕ → ℕ → ℕ → Memory
@@ -81,15 +78,17 @@ module _ (k : Settings) (o : Memory) (i : Block) where
 
   -- the first n of each, over lists that were there
   abbrev pub outputsUpTo : ℕ → Outputs → Outputs
-  outputsUpTo n l = record {
-    y = overlay n (blockY k o i) (l .y);
-    xi = overlay n (blockξ k o i) (l .xi);
-    decision = overlay n (blockDecision k o i) (l .decision);
-    z = overlay n (blockZ k o i) (l .z);
-    theta = overlay n (blockθ k o i) (l .theta);
-  }
+  outputsUpTo n l =
+      let h = blockOutputs k o i in
+      record {
+        y = overlay n (h .y) (l .y);
+        xi = overlay n (h .xi) (l .xi);
+        decision = overlay n (h .decision) (l .decision);
+        z = overlay n (h .z) (l .z);
+        theta = overlay n (h .theta) (l .theta);
+      }
 
--- five lists of N elements
+-- lists of N elements
 pub record OutputsLong (k : Settings) (l : Outputs) : Type 0 where
   pub y-long : length (l .y) ≡ k .N
   pub xi-long : length (l .xi) ≡ k .N
@@ -151,7 +150,3 @@ pub record BlockResult-is (k : Settings) (o : Memory) (i : Block) (l : Outputs) 
   pub outputs-are : l′ ≡ outputsUpTo k o i (count k o i (k .N)) l
 
 -- ---- the two conductors swapped
-
--- samples are the negatives; gains and training entries are the same
-abbrev pub swappedBlock : Block → Block
-swappedBlock i = record { samples = negated (i .samples); gains = i .gains; entries = i .entries }

@@ -2,9 +2,9 @@
 ghost use mathlib.Core.Path.{_≡_};
 ghost use Prim.Native.Nat.{suc};
 ghost use Rattle.filter.specs.Calls.{SampleResult-is};
-ghost use Rattle.block.specs.Block.{storedAll, outputsOf};
+ghost use Rattle.block.specs.Block.{storedAll, blockOf, outputsOf};
 ghost use Rattle.block.specs.Line.{newest};
-ghost use Rattle.block.specs.Calls.{blockOf, memoryOf, BlockExponents-is, Startable, FillBounds, filled, filterStateAt, Advanceable, Begun, Progressed, Runnable, BlockResult-is};
+ghost use Rattle.block.specs.Calls.{memoryOf, BlockExponents-is, Startable, FillBounds, filled, filterStateAt, Advanceable, Begun, Progressed, Runnable, BlockResult-is};
 use filter::sample::BlockExponents;
 use filter::sample::SampleResult;
 use steps::limits;

@@ -12,7 +12,7 @@ use Rattle.checks.specs.Checks.{Buffers, lengthsFit, gainFits, checkNumb
 
 pub check-most : (e : Equaliser) (l : Buffers) → checkNumber e l ≤ 9
 unfolding checkNumber
-check-most e l = go (eqb (examined e) 0) (lengthsFit (e .n) l) (all (gainFits (e .l)) (l .gains)) (all (isEntry (e .r)) (l .entries))
+check-most e l = go (eqb (examined e) 0) (lengthsFit (e .n) l) (all (gainFits (e .l)) (l .block .gains)) (all (isEntry (e .r)) (l .block .entries))
   where
     go : (t a b c : Bool) → cond t (cond a (cond b (cond c 0 5) 4) 3) (examined e) ≤ 9
     go true true true true = omega arith

@@ -12,11 +12,11 @@ use Rattle.station.specs.Answers.{Run}
 
 -- running a block in place on the record s: its number, the record after it, and the lists after it
 abbrev pub InPlace : Equaliser → Buffers → ℕ → Equaliser → Outputs → Type 0
-InPlace s l n s′ h = Run s l (record { number = n; state = s′ }) (h .y) (h .xi) (h .decision) (h .z) (h .theta)
+InPlace s l n s′ h = Run s l (record { number = n; state = s′ }) h
 
 -- a trial on the record s: its answer, the record after it, and the lists after it
 abbrev pub Trial : Equaliser → Buffers → Answer → Equaliser → Outputs → Type 0
-Trial s l a s′ h = Run s l a (h .y) (h .xi) (h .decision) (h .z) (h .theta) × (s′ ≡ s)
+Trial s l a s′ h = Run s l a h × (s′ ≡ s)
 
 -- saving the record s: its answer, the record after it, and the buffer after it
 abbrev pub Saving : Equaliser → List ℕ → Saved → Equaliser → List ℕ → Type 0

@@ -11,11 +11,7 @@ use Rattle.station.specs.Claim.{Call, run, trial, save, load}
 pub record SameAsRun (a : Answer) (h : Outputs) (n : ℕ) (c : Equaliser) (k : Outputs) : Type 0 where
   pub number : a .number ≡ n
   pub state : a .state ≡ c
-  pub y-same : h .y ≡ k .y
-  pub xi-same : h .xi ≡ k .xi
-  pub decision-same : h .decision ≡ k .decision
-  pub z-same : h .z ≡ k .z
-  pub theta-same : h .theta ≡ k .theta
+  pub outputs : h ≡ k
 
 -- ---- trials in a list of calls
 

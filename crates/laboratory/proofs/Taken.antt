@@ -11,35 +11,35 @@ use Rattle.laws.specs.Sums.{each-of}
 use Rattle.steps.specs.Limits.{outputExponentLimit}
 use Rattle.steps.specs.Fir.{allBelow}
 use Rattle.steps.proofs.LargestLaws.{below-all}
-use Rattle.block.specs.Block.{Outputs, blockOutputs, blockY, blockξ, blockZ, blockθ, AtSample}
+use Rattle.block.specs.Block.{blockOutputs, AtSample}
 use Rattle.block.proofs.BlockHolds.{OutputAt, output-at}
 use Rattle.block.proofs.BlockMemory.{block-long}
 use Rattle.state.specs.State.{settings, memory}
 use Rattle.state.specs.declared.equaliser.Equaliser.{Equaliser}
 use Rattle.state.proofs.SizesLaws.{fit-within}
-use Rattle.checks.specs.Checks.{Buffers, block}
+use Rattle.checks.specs.Checks.{Buffers}
 use Rattle.station.specs.Answers.{runNumber, runState, runOutputs}
 use Rattle.station.specs.Claim.{Call, run, trial, save, load, left, Start, WithinLimits, AcceptedBlock, RunHolds, CallHolds, Holds}
 use Rattle.station.proofs.AnswerLaws.{outputs-new}
 use Rattle.station.proofs.Claim.{claim}
 use Rattle.readings.specs.Limits.{outputLimit, errorLimit}
-use Rattle.readings.specs.Readings.{Lists, exponentFits, readable, listsOf}
+use Rattle.readings.specs.Readings.{Lists, exponentFits, readable}
 use Rattle.readings.specs.Calls.{Exponent}
 use Rattle.readings.proofs.ListLaws.{exponents-fit}
 use Rattle.readings.proofs.ReadableLaws.{Readable, readable-of, number-given, given}
 use Rattle.readings.proofs.ReadingsHold.{readings-hold}
-use Rattle.laboratory.specs.Taken.{Taken, BlockTaken, CallTaken, AllTaken}
+use Rattle.laboratory.specs.Taken.{readLists, Taken, BlockTaken, CallTaken, AllTaken}
 
 -- what an accepted block hands out
 abbrev out : Equaliser → Buffers → Lists
-out s l = listsOf (blockY (settings s) (memory s) (block l)) (blockξ (settings s) (memory s) (block l)) (blockZ (settings s) (memory s) (block l)) (blockθ (settings s) (memory s) (block l))
+out s l = readLists (blockOutputs (settings s) (memory s) (l .block))
 
 module _ (s : Equaliser) (g : WithinLimits s) (l : Buffers) (h : AcceptedBlock s l (runState s l) (runOutputs s l)) where
-  at : (n : ℕ) → n < s .n → AtSample (settings s) (memory s) (block l) n
+  at : (n : ℕ) → n < s .n → AtSample (settings s) (memory s) (l .block) n
   at n k = h .sample n k
 
-  out-at : (n : ℕ) → n < s .n → OutputAt (settings s) (memory s) (block l) n
-  out-at n k = output-at (settings s) (memory s) (block l) n k
+  out-at : (n : ℕ) → n < s .n → OutputAt (settings s) (memory s) (l .block) n
+  out-at n k = output-at (settings s) (memory s) (l .block) n k
 
   exponents : (xs : List ℕ) → length xs ≡ s .n → ((n : ℕ) → n < s .n → (1 ≤ getD xs n 0) × (getD xs n 0 ≤ outputExponentLimit)) → all exponentFits xs ≡ true
   exponents xs e f = exponents-fit xs (each-of Exponent 0 xs (λ n k. f n (omega arith)))
@@ -50,7 +50,7 @@ module _ (s : Equaliser) (g : WithinLimits s) (l : Buffers) (h : AcceptedBlock s
   can-be-read : Readable (out s l) (s .n)
   can-be-read =
       let w = fit-within (settings s) (g .sizes) in
-      let long = block-long (settings s) (memory s) (block l) in
+      let long = block-long (settings s) (memory s) (l .block) in
       record {
         fill = record {
           long = record { some = w .N-least; few = w .N-most; y-long = long .y-long; xi-long = long .xi-long; z-long = long .z-long; theta-long = long .theta-long };
@@ -61,7 +61,7 @@ module _ (s : Equaliser) (g : WithinLimits s) (l : Buffers) (h : AcceptedBlock s
         y-small = all-small outputLimit (out s l .y) (long .y-long) (λ n k. let b = at n k in subst (λ (x : ℤ). natAbs x < outputLimit) (sym (out-at n k .Y-is)) (b .bounded .Y-small));
       }
 
-  taken : Taken (out s l .y) (out s l .xi) (out s l .z) (out s l .theta) (s .n)
+  taken : Taken (out s l) (s .n)
   taken =
       let ok = readable-of can-be-read in
       record {
@@ -72,15 +72,10 @@ module _ (s : Equaliser) (g : WithinLimits s) (l : Buffers) (h : AcceptedBlock s
 
 -- what the contract of an accepted block says of its lists
 block-taken : (s : Equaliser) → WithinLimits s → (l : Buffers) → RunHolds s l (runNumber s l) (runState s l) (runOutputs s l) → BlockTaken s l
-block-taken s g l h a y xi decision z theta r e =
-    rw (r .y-is ∙ ap (λ (t : Outputs). t .y) o, r .xi-is ∙ ap (λ (t : Outputs). t .xi) o, r .z-is ∙ ap (λ (t : Outputs). t .z) o, r .theta-is ∙ ap (λ (t : Outputs). t .theta) o)
-    (taken s g l (h .accepted ok))
+block-taken s g l h a o r e = rw (r .outputs, outputs-new s l ok) (taken s g l (h .accepted ok))
   where
     ok : runNumber s l ≡ 0
     ok = sym (r .number) ∙ e
-
-    o : runOutputs s l ≡ blockOutputs (settings s) (memory s) (block l)
-    o = outputs-new s l ok
 
 call-taken : (s : Equaliser) → WithinLimits s → (c : Call) → CallHolds s c → CallTaken s c
 call-taken s g (run l t) h = block-taken s g l h

@@ -10,5 +10,7 @@ pub mod Sums
 pub mod Machine
 pub mod Tests
 pub mod Comparisons
+pub mod Values
+pub mod Lent
 pub mod Fills
 pub mod Negated

@@ -6,12 +6,11 @@ use native.Mathlib.Omega.{arith}
 use lib.Dec.{eqb}
 use borrow.Author.Tests.{ne-eqb, eq-eqb, eqb-true, eqb-false}
 use Rattle.block.specs.Block.{Outputs, ψFits, blockOutputs}
-use Rattle.block.proofs.BlockMemory.{same-outputs}
 use Rattle.state.specs.State.{settings, memory}
-use Rattle.station.specs.Answers.{runNumber, runState, ifAccepted, outputsBefore, runOutputs, Run}
+use Rattle.station.specs.Answers.{runNumber, runState, ifAccepted, runOutputs, Run}
 use Rattle.station.specs.Calls.{ψFitsBlock, RunChecked, outputsOr}
 use Rattle.state.specs.declared.equaliser.Answer.{Answer}
-use Rattle.checks.specs.Checks.{Buffers, block, checkNumber}
+use Rattle.checks.specs.Checks.{Buffers, checkNumber}
 use Rattle.state.specs.declared.equaliser.Equaliser.{Equaliser}
 
 -- what is chosen where a block is accepted, and where it isn't
@@ -22,20 +21,17 @@ module _ {A : Type 0} (e : Equaliser) (l : Buffers) (new old : A) where
   pub accepted-old : (runNumber e l ≡ 0 → ⊥) → ifAccepted e l new old ≡ old
   accepted-old f = ap (λ (b : Bool). cond b new old) (ne-eqb (runNumber e l) 0 f)
 
--- the five lists of an accepted block, of one that isn't, and of whatever the contract allows
+-- the lists of an accepted block, and of one that isn't
 module _ (e : Equaliser) (l : Buffers) where
-  pub outputs-new : runNumber e l ≡ 0 → runOutputs e l ≡ blockOutputs (settings e) (memory e) (block l)
+  pub outputs-new : runNumber e l ≡ 0 → runOutputs e l ≡ blockOutputs (settings e) (memory e) (l .block)
   outputs-new ok = accepted-new e l _ _ ok
 
-  pub outputs-old : (runNumber e l ≡ 0 → ⊥) → runOutputs e l ≡ outputsBefore l
+  pub outputs-old : (runNumber e l ≡ 0 → ⊥) → runOutputs e l ≡ l .outputs
   outputs-old f = accepted-old e l _ _ f
 
-pub outputs-are : {e : Equaliser} {l : Buffers} {a : Answer} {h : Outputs} → Run e l a (h .y) (h .xi) (h .decision) (h .z) (h .theta) → h ≡ runOutputs e l
-outputs-are r = same-outputs (r .y-is) (r .xi-is) (r .decision-is) (r .z-is) (r .theta-is)
-
-pub run-tests : (e : Equaliser) (l : Buffers) → runNumber e l ≡ 0 → (checkNumber e l ≡ 0) × (ψFits (settings e) (memory e) (block l) (e .n) ≡ true)
+pub run-tests : (e : Equaliser) (l : Buffers) → runNumber e l ≡ 0 → (checkNumber e l ≡ 0) × (ψFits (settings e) (memory e) (l .block) (e .n) ≡ true)
 unfolding runNumber
-run-tests e l h = go (checkNumber e l) (eqb (checkNumber e l) 0) (ψFits (settings e) (memory e) (block l) (e .n)) refl h
+run-tests e l h = go (checkNumber e l) (eqb (checkNumber e l) 0) (ψFits (settings e) (memory e) (l .block) (e .n)) refl h
   where
     go : (n : ℕ) (t a : Bool) → eqb n 0 ≡ t → cond t (cond a 0 6) n ≡ 0 → (n ≡ 0) × (a ≡ true)
     go n true true f h = (eqb-true n 0 f, refl)
@@ -49,40 +45,27 @@ module _ (e : Equaliser) (l : Buffers) where
   unfolding runNumber
   check-fails n h f = simp (ne-eqb (checkNumber e l) 0 (λ z. f (h ∙ z))) h
 
-  -- ---- the contract, from the number, the state and the five lists
-
-  pub run-is : {a : Answer} {h : Outputs} → a .number ≡ runNumber e l → a .state ≡ runState e l → h ≡ runOutputs e l → Run e l a (h .y) (h .xi) (h .decision) (h .z) (h .theta)
-  run-is n s o = record {
-    number = n;
-    state = s;
-    y-is = ap (λ (t : Outputs). t .y) o;
-    xi-is = ap (λ (t : Outputs). t .xi) o;
-    decision-is = ap (λ (t : Outputs). t .decision) o;
-    z-is = ap (λ (t : Outputs). t .z) o;
-    theta-is = ap (λ (t : Outputs). t .theta) o;
-  }
-
   -- ---- everything as it was
 
-  pub refused : (n : ℕ) → n ≡ runNumber e l → (n ≡ 0 → ⊥) → Run e l (record { number = n; state = e }) (l .y) (l .xi) (l .decision) (l .z) (l .theta)
+  pub refused : (n : ℕ) → n ≡ runNumber e l → (n ≡ 0 → ⊥) → Run e l (record { number = n; state = e }) (l .outputs)
   unfolding runState
-  refused n h f = let g : runNumber e l ≡ 0 → ⊥ = λ z. f (h ∙ z) in run-is {h = outputsBefore l} h (sym (accepted-old e l _ e g)) (sym (outputs-old e l g))
+  refused n h f = let g : runNumber e l ≡ 0 → ⊥ = λ z. f (h ∙ z) in record { number = h; state = sym (accepted-old e l _ e g); outputs = sym (outputs-old e l g) }
 
   -- ---- a block that passed the checks
 
   module _ (c : checkNumber e l ≡ 0) where
-    pub number-is : cond (ψFitsBlock e (block l)) 0 6 ≡ runNumber e l
+    pub number-is : cond (ψFitsBlock e (l .block)) 0 6 ≡ runNumber e l
     unfolding runNumber
     number-is = simp c
 
-    pub ψ-fits-accepted : {A : Type 0} (new old : A) → cond (ψFitsBlock e (block l)) new old ≡ ifAccepted e l new old
-    ψ-fits-accepted new old = rw (sym number-is) (go (ψFitsBlock e (block l)))
+    pub ψ-fits-accepted : {A : Type 0} (new old : A) → cond (ψFitsBlock e (l .block)) new old ≡ ifAccepted e l new old
+    ψ-fits-accepted new old = rw (sym number-is) (go (ψFitsBlock e (l .block)))
       where
         go : (b : Bool) → cond b new old ≡ cond (eqb (cond b 0 6) 0) new old
         go true = refl
         go false = refl
 
-    pub answered : {areas areas′ : Outputs} {a : Answer} {l′ : Outputs} → RunChecked e (block l) areas a areas′ → l′ ≡ outputsOr e (block l) (outputsBefore l) →
-        Run e l a (l′ .y) (l′ .xi) (l′ .decision) (l′ .z) (l′ .theta)
+    pub answered : {areas areas′ : Outputs} {a : Answer} {l′ : Outputs} → RunChecked e (l .block) areas a areas′ → l′ ≡ outputsOr e (l .block) (l .outputs) →
+        Run e l a l′
     unfolding runState
-    answered h o = run-is (h .number ∙ number-is) (h .state ∙ ψ-fits-accepted _ e) (o ∙ ψ-fits-accepted _ (outputsBefore l))
+    answered h o = record { number = h .number ∙ number-is; state = h .state ∙ ψ-fits-accepted _ e; outputs = o ∙ ψ-fits-accepted _ (l .outputs) }

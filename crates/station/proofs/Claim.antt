@@ -10,6 +10,7 @@ use mir.Val.{SFits}
 use borrow.Author.Tests.{ne-eqb, eqb-true, eqb-false}
 use Rattle.laws.specs.Machine.{abs-fits}
 use Rattle.laws.specs.Sums.{Each, each-weaken}
+use Rattle.words.specs.Words.{Byte}
 use Rattle.block.specs.Block.{Memory, nextMemory, ψFits, Raises, SameWeights}
 use Rattle.block.specs.Sound.{Sound}
 use Rattle.block.proofs.BlockSound.{next-memory-sound}
@@ -18,7 +19,7 @@ use Rattle.block.proofs.BlockOutcomes.{stopped-raises, raises-stopped, frozen-m
 use Rattle.block.proofs.BlockNear.{stored-near, met-later}
 use Rattle.state.specs.State.{settings, memory, stateOf}
 use Rattle.state.specs.Answers.{examined}
-use Rattle.image.specs.Image.{Byte, image, saveNumber, saveLength, saveBuffer}
+use Rattle.image.specs.Image.{image, saveNumber, saveLength, saveBuffer}
 use Rattle.image.specs.Load.{loadNumber, loadState}
 use Rattle.state.specs.declared.equaliser.Equaliser.{Equaliser}
 use Rattle.state.proofs.SoundLaws.{Accepted, accepted-sound, examined-tests, tests-examined, set-up-accepted}
@@ -27,7 +28,7 @@ use Rattle.image.proofs.ImageLaws.{save-number}
 use Rattle.image.proofs.LoadLaws.{load-image, saved-front, saved-rest, image-bytes, load-accepted, image-loaded}
 use Rattle.image.proofs.LoadAnswers.{state-refused}
 use Rattle.station.specs.Answers.{runNumber, runState, runOutputs}
-use Rattle.checks.specs.Checks.{Buffers, block, checkNumber}
+use Rattle.checks.specs.Checks.{Buffers, checkNumber}
 use Rattle.checks.specs.Calls.{Sampled, Checked}
 use Rattle.station.specs.Claim.{Typed, Call, run, trial, save, load, left, leftBy, Start, from-set-up, from-load, WithinLimits, StateAccepted, LaterNear, AcceptedBlock, RunHolds, TrialHolds, SaveHolds, LoadHolds, CallHolds, Holds}
 use Rattle.checks.proofs.CheckLaws.{check-number, checked-is}
@@ -53,26 +54,26 @@ start-within s (from-load bytes b e) = subst WithinLimits (sym e) (accepted-with
 
 -- ---- a block
 
-sampled : (l : Buffers) → Typed l → Sampled (l .m)
-sampled l t = each-weaken (SFits w16) _ (λ z f. abs-fits f) (l .m) (t .m)
+sampled : (l : Buffers) → Typed l → Sampled (l .block .samples)
+sampled l t = each-weaken (SFits w16) _ (λ z f. abs-fits f) (l .block .samples) (t .samples)
 
 pub refused-same : (s : Equaliser) (l : Buffers) → (runNumber s l ≡ 0 → ⊥) → runState s l ≡ s
 unfolding runState
 refused-same s l f = accepted-old s l _ s f
 
-accepted-leaves : (s : Equaliser) (l : Buffers) → runNumber s l ≡ 0 → runState s l ≡ stateOf (settings s) (nextMemory (settings s) (memory s) (block l))
+accepted-leaves : (s : Equaliser) (l : Buffers) → runNumber s l ≡ 0 → runState s l ≡ stateOf (settings s) (nextMemory (settings s) (memory s) (l .block))
 unfolding runState
 accepted-leaves s l h = accepted-new s l _ s h
 
 module _ (s : Equaliser) (g : WithinLimits s) (l : Buffers) (t : Typed l) (ok : runNumber s l ≡ 0) where
-  checked : Checked s (block l)
+  checked : Checked s (l .block)
   checked = checked-is s l (run-tests s l ok .0) (g .weights-long) (g .past-long) (sampled l t)
 
   abbrev next : Memory
-  next = nextMemory (settings s) (memory s) (block l)
+  next = nextMemory (settings s) (memory s) (l .block)
 
   next-sound : Sound (settings s) next
-  next-sound = next-memory-sound (settings s) (memory s) (block l) (checked .sound) (checked .acceptable) (run-tests s l ok .1)
+  next-sound = next-memory-sound (settings s) (memory s) (l .block) (checked .sound) (checked .acceptable) (run-tests s l ok .1)
 
   -- the settings and the memory of the state that it leaves
   pub next-settings : settings (runState s l) ≡ settings s
@@ -102,14 +103,14 @@ left-within s g (load bytes t) = accepted-within (load-accepted bytes t)
 module _ (s : Equaliser) (g : WithinLimits s) (l : Buffers) (t : Typed l) (ok : runNumber s l ≡ 0) where
   -- the settings and the memory of the state that it leaves are its own settings and what it left
   near-on : (s′ : Equaliser) (l′ : Buffers) → settings s′ ≡ settings s → memory s′ ≡ next s g l t ok → LaterNear s l s′ l′
-  near-on s′ l′ e f n j h i m = rw (e, f) (met-later (settings s) (memory s) (block l) (checked s g l t ok .sound) (checked s g l t ok .acceptable) (block l′) n j h i m)
+  near-on s′ l′ e f n j h i m = rw (e, f) (met-later (settings s) (memory s) (l .block) (checked s g l t ok .sound) (checked s g l t ok .acceptable) (l′ .block) n j h i m)
 
   accepted-block : AcceptedBlock s l (runState s l) (runOutputs s l)
   accepted-block = record {
-    sample = λ n h. at-sample (settings s) (memory s) (block l) (checked s g l t ok .sound) (checked s g l t ok .acceptable) (run-tests s l ok .1) n h;
+    sample = λ n h. at-sample (settings s) (memory s) (l .block) (checked s g l t ok .sound) (checked s g l t ok .acceptable) (run-tests s l ok .1) n h;
     outputs = outputs-new s l ok;
     leaves = accepted-leaves s l ok;
-    stored = stored-near (settings s) (memory s) (block l) (checked s g l t ok .acceptable);
+    stored = stored-near (settings s) (memory s) (l .block) (checked s g l t ok .acceptable);
     later = λ cs same l′ ok′. near-on (leftBy (runState s l) cs) l′ (ap settings same ∙ next-settings s g l t ok) (ap memory same ∙ next-memory s g l t ok);
   }
 
@@ -122,7 +123,7 @@ other n a b c = record { not-sizes = eqb-false n 1 a; not-step = eqb-false n 2 b
 module _ (s : Equaliser) (sound : examined s ≡ 0) where
   run-accepted : (l : Buffers) → StateAccepted (runNumber s l)
   unfolding runNumber
-  run-accepted l = go (eqb (checkNumber s l) 0) (ψFits (settings s) (memory s) (block l) (s .n))
+  run-accepted l = go (eqb (checkNumber s l) 0) (ψFits (settings s) (memory s) (l .block) (s .n))
     where
       go : (t a : Bool) → StateAccepted (cond t (cond a 0 6) (checkNumber s l))
       go true true = other 0 refl refl refl
@@ -136,23 +137,23 @@ module _ (s : Equaliser) (sound : examined s ≡ 0) where
 
 module _ (s : Equaliser) (g : WithinLimits s) (l : Buffers) where
   -- none of the checks before answers 6
-  six-tests : runNumber s l ≡ 6 → (checkNumber s l ≡ 0) × (ψFits (settings s) (memory s) (block l) (s .n) ≡ false)
+  six-tests : runNumber s l ≡ 6 → (checkNumber s l ≡ 0) × (ψFits (settings s) (memory s) (l .block) (s .n) ≡ false)
   unfolding runNumber
-  six-tests h = go (eqb (checkNumber s l) 0) refl (ψFits (settings s) (memory s) (block l) (s .n)) refl h
+  six-tests h = go (eqb (checkNumber s l) 0) refl (ψFits (settings s) (memory s) (l .block) (s .n)) refl h
     where
-      go : (t : Bool) → eqb (checkNumber s l) 0 ≡ t → (a : Bool) → ψFits (settings s) (memory s) (block l) (s .n) ≡ a → cond t (cond a 0 6) (checkNumber s l) ≡ 6 →
-          (checkNumber s l ≡ 0) × (ψFits (settings s) (memory s) (block l) (s .n) ≡ false)
+      go : (t : Bool) → eqb (checkNumber s l) 0 ≡ t → (a : Bool) → ψFits (settings s) (memory s) (l .block) (s .n) ≡ a → cond t (cond a 0 6) (checkNumber s l) ≡ 6 →
+          (checkNumber s l ≡ 0) × (ψFits (settings s) (memory s) (l .block) (s .n) ≡ false)
       go true e true f h = absurd (omega arith)
       go true e false f h = (eqb-true (checkNumber s l) 0 e, f)
       go false e a f h =
           absurd (check-number s l (λ (n : ℕ). n ≡ 6 → ⊥) (within-accepted g .number) (λ q. omega arith) (λ q. omega arith) (λ q. omega arith) (λ q. omega arith) h)
 
-  raised : runNumber s l ≡ 6 → (checkNumber s l ≡ 0) × Raises (settings s) (memory s) (block l)
-  raised h = let t = six-tests h in (t .0, stopped-raises (settings s) (memory s) (block l) (within-bounds g .ψ-most) (t .1))
+  raised : runNumber s l ≡ 6 → (checkNumber s l ≡ 0) × Raises (settings s) (memory s) (l .block)
+  raised h = let t = six-tests h in (t .0, stopped-raises (settings s) (memory s) (l .block) (within-bounds g .ψ-most) (t .1))
 
-  raised-only : checkNumber s l ≡ 0 → Raises (settings s) (memory s) (block l) → runNumber s l ≡ 6
+  raised-only : checkNumber s l ≡ 0 → Raises (settings s) (memory s) (l .block) → runNumber s l ≡ 6
   unfolding runNumber
-  raised-only e r = simp (e, raises-stopped (settings s) (memory s) (block l) r)
+  raised-only e r = simp (e, raises-stopped (settings s) (memory s) (l .block) r)
 
 -- ---- with M = 0
 
@@ -164,7 +165,7 @@ frozen s g l t m = go (eqb (runNumber s l) 0) refl
         let ok = eqb-true (runNumber s l) 0 e in
         let c = checked s g l t ok in
         subst (SameWeights (memory s)) (sym (next-memory s g l t ok))
-        (frozen-memory (settings s) (memory s) (block l) (c .sound) (c .acceptable) (run-tests s l ok .1) m)
+        (frozen-memory (settings s) (memory s) (l .block) (c .sound) (c .acceptable) (run-tests s l ok .1) m)
     go false e = subst (λ (s′ : Equaliser). SameWeights (memory s) (memory s′)) (sym (refused-same s l (eqb-false (runNumber s l) 0 e))) (record { ahead = refl; behind = refl })
 
 -- ---- saving and loading

@@ -15,8 +15,7 @@ use Rattle.laws.specs.Sums.{Each}
 use Rattle.steps.specs.Settings.{Settings}
 use Rattle.block.specs.Block.{Block, Memory, ψFits, blockOutputs}
 use Rattle.block.specs.Block as Block
-use Rattle.block.specs.Swapped.{swapped}
-use Rattle.block.specs.Calls.{swappedBlock}
+use Rattle.block.specs.Swapped.{swapped, swappedBlock}
 use Rattle.block.proofs.SwappedLaws.{ψ-fits-same, block-same, next-memory-swapped, swapped-back, swapped-sound}
 use Rattle.state.specs.State.{settings, memory}
 use Rattle.state.specs.Answers.{setUpState}
@@ -24,7 +23,7 @@ use Rattle.state.specs.declared.equaliser.Equaliser.{Equaliser}
 use Rattle.state.proofs.SoundLaws.{examined-same, set-up-accepted}
 use Rattle.state.proofs.SetUpLaws.{set-up-swapped}
 use Rattle.state.proofs.KeptLaws.{settings-is, memory-is, kept-accepted}
-use Rattle.checks.specs.Checks.{Buffers, block, lengthsFit, checkNumber}
+use Rattle.checks.specs.Checks.{Buffers, lengthsFit, checkNumber}
 use Rattle.checks.proofs.CheckLaws.{check-same, check-tests}
 use Rattle.station.specs.Answers.{runNumber, runState, runOutputs}
 use Rattle.station.specs.Claim.{Typed, WithinLimits}
@@ -42,25 +41,22 @@ within s g l ok = accepted-within (record { weights-long = g .weights-long; past
 module _ (s s′ : Equaliser) (p : SwappedPair s s′) (l l′ : Buffers) (b : SwappedLists l l′) where
   -- ---- what a block goes by
 
-  block-swapped : block l′ ≡ swappedBlock (block l)
-  block-swapped = rw (b .samples-negated, b .gains-same, b .entries-same)
-
   -- whatever is said of settings, a memory and a block
-  on-both : {A : Type 0} (f : Settings → Memory → Block → A) → f (settings s′) (memory s′) (block l′) ≡ f (settings s) (swapped (memory s)) (swappedBlock (block l))
-  on-both f = ap₂ (λ (k : Settings) (o : Memory). f k o (block l′)) (p .settings-same) (p .memory-swapped) ∙ ap (f (settings s) (swapped (memory s))) block-swapped
+  on-both : {A : Type 0} (f : Settings → Memory → Block → A) → f (settings s′) (memory s′) (l′ .block) ≡ f (settings s) (swapped (memory s)) (swappedBlock (l .block))
+  on-both f = ap₂ (λ (k : Settings) (o : Memory). f k o (l′ .block)) (p .settings-same) (p .memory-swapped) ∙ ap (f (settings s) (swapped (memory s))) (b .block-swapped)
 
   -- ---- the number
 
   lengths-same : lengthsFit (s .n) l′ ≡ lengthsFit (s .n) l
   lengths-same =
-      rw (ap length (b .samples-negated) ∙ length-map (l .m) negℤ, b .gains-same, b .entries-same, b .y-long, b .xi-long, b .decision-long, b .z-long, b .theta-long)
+      rw (b .block-swapped, length-map (l .block .samples) negℤ, b .lengths-same)
 
   checks-same : checkNumber s′ l′ ≡ checkNumber s l
   checks-same =
-      check-same s s′ l l′ (p .settings-same) (examined-same s s′ (p .settings-same) (p .state .sound) (p .state′ .sound)) lengths-same (b .gains-same) (b .entries-same)
+      check-same s s′ l l′ (p .settings-same) (examined-same s s′ (p .settings-same) (p .state .sound) (p .state′ .sound)) lengths-same (ap (λ (i : Block). i .gains) (b .block-swapped)) (ap (λ (i : Block). i .entries) (b .block-swapped))
 
-  going-same : ψFits (settings s′) (memory s′) (block l′) (s′ .n) ≡ ψFits (settings s) (memory s) (block l) (s .n)
-  going-same = on-both (λ k o i. ψFits k o i (k .N)) ∙ ψ-fits-same (settings s) (memory s) (block l) (s .n)
+  going-same : ψFits (settings s′) (memory s′) (l′ .block) (s′ .n) ≡ ψFits (settings s) (memory s) (l .block) (s .n)
+  going-same = on-both (λ k o i. ψFits k o i (k .N)) ∙ ψ-fits-same (settings s) (memory s) (l .block) (s .n)
 
   number-same : runNumber s′ l′ ≡ runNumber s l
   unfolding runNumber
@@ -69,7 +65,7 @@ module _ (s s′ : Equaliser) (p : SwappedPair s s′) (l l′ : Buffers) (b : S
   -- ---- the lists
 
   outputs-same : runNumber s l ≡ 0 → runOutputs s′ l′ ≡ runOutputs s l
-  outputs-same ok = outputs-new s′ l′ (number-same ∙ ok) ∙ on-both blockOutputs ∙ block-same (settings s) (memory s) (block l) ∙ sym (outputs-new s l ok)
+  outputs-same ok = outputs-new s′ l′ (number-same ∙ ok) ∙ on-both blockOutputs ∙ block-same (settings s) (memory s) (l .block) ∙ sym (outputs-new s l ok)
 
   pub same-runs : SameRuns s l s′ l′
   same-runs = record {
@@ -87,7 +83,7 @@ module _ (s s′ : Equaliser) (p : SwappedPair s s′) (l l′ : Buffers) (b : S
       state′ = sound-within (run-within s′ g′ l′ t′);
       settings-same = next-settings s′ g′ l′ t′ ok′ ∙ p .settings-same ∙ sym (next-settings s g l t ok);
       memory-swapped =
-          next-memory s′ g′ l′ t′ ok′ ∙ on-both Block.nextMemory ∙ next-memory-swapped (settings s) (memory s) (block l) ∙ ap swapped (sym (next-memory s g l t ok));
+          next-memory s′ g′ l′ t′ ok′ ∙ on-both Block.nextMemory ∙ next-memory-swapped (settings s) (memory s) (l .block) ∙ ap swapped (sym (next-memory s g l t ok));
     }
       where
         ok′ : runNumber s′ l′ ≡ 0
@@ -120,11 +116,14 @@ none-lowest : (m : List ℤ) → Each (SFits w16) (negated m) → Each NotLowest
 none-lowest [] h = tt
 none-lowest (x ∷ m) h = ((λ e. absurd (omega (arith, subst (SFits w16) (ap negℤ e) (h .0) .sfits))), none-lowest m (h .1))
 
-pub not-lowest : (b : BuffersOfBoth) → Each NotLowest (b .l .m) × Each NotLowest (b .l′ .m)
-not-lowest b = (none-lowest (b .l .m) (subst (Each (SFits w16)) (b .lists .samples-negated) (b .typed′ .m)), none-lowest (b .l′ .m) (subst (Each (SFits w16)) (sym back) (b .typed .m)))
+pub not-lowest : (b : BuffersOfBoth) → Each NotLowest (b .l .block .samples) × Each NotLowest (b .l′ .block .samples)
+not-lowest b =
+    (none-lowest _ (subst (Each (SFits w16)) there (b .typed′ .samples)), none-lowest _ (subst (Each (SFits w16)) (sym back) (b .typed .samples)))
   where
-    back : negated (b .l′ .m) ≡ b .l .m
-    back = ap negated (b .lists .samples-negated) ∙ negated-negated (b .l .m)
+    there : b .l′ .block .samples ≡ negated (b .l .block .samples)
+    there = ap (λ (i : Block). i .samples) (b .lists .block-swapped)
+    back : negated (b .l′ .block .samples) ≡ b .l .block .samples
+    back = ap negated there ∙ negated-negated (b .l .block .samples)
 
 -- and every block without one has a partner
 fits-neg : (x : ℤ) → SFits w16 x → NotLowest x → SFits w16 (negℤ x)
@@ -140,9 +139,9 @@ negated-fits : (m : List ℤ) → Each (SFits w16) m → Each NotLowest m → Ea
 negated-fits [] h f = tt
 negated-fits (x ∷ m) h f = (fits-neg x (h .0) (f .0), negated-fits m (h .1) (f .1))
 
-pub lists-partner : (l : Buffers) → Typed l → Each NotLowest (l .m) → Typed (partnerLists l) × SwappedLists l (partnerLists l)
+pub lists-partner : (l : Buffers) → Typed l → Each NotLowest (l .block .samples) → Typed (partnerLists l) × SwappedLists l (partnerLists l)
 lists-partner l t f =
-    (record { m = negated-fits (l .m) (t .m) f; gains = t .gains; entries = t .entries; y = t .y; xi = t .xi; decision = t .decision; z = t .z; theta = t .theta }, record { samples-negated = refl; gains-same = refl; entries-same = refl; y-long = refl; xi-long = refl; decision-long = refl; z-long = refl; theta-long = refl })
+    (record { samples = negated-fits (l .block .samples) (t .samples) f; gains = t .gains; entries = t .entries; outputs = t .outputs }, record { block-swapped = refl; lengths-same = refl })
 
 -- each is the other's partner
 pub pair-back : (s s′ : Equaliser) → SwappedPair s s′ → SwappedPair s′ s

@@ -9,30 +9,35 @@ use lib.IntN.{pos}
 use mir.Syntax.{w8, w16, w32}
 use mir.Val.{SFits}
 use Rattle.laws.specs.Sums.{Each}
+use Rattle.words.specs.Words.{Byte}
 use Rattle.steps.specs.Limits.{slots}
 use Rattle.steps.specs.Settings.{Settings, scaleForward}
 use Rattle.block.specs.Block.{Outputs, X, newB, at, nextMemory, blockOutputs, QuantisedWithin, AtSample, StoredNear, Raises, SameWeights}
 use Rattle.state.specs.Sizes.{sizesFit, admits}
 use Rattle.state.specs.State.{settings, memory, isSound, stateOf, refused}
 use Rattle.state.specs.Answers.{setUpState}
-use Rattle.image.specs.Image.{Byte, image, saveNumber, saveLength, saveBuffer}
+use Rattle.image.specs.Image.{image, saveNumber, saveLength, saveBuffer}
 use Rattle.image.specs.Load.{loadNumber, loadState}
 use Rattle.state.specs.declared.equaliser.Equaliser.{Equaliser}
-use Rattle.station.specs.Answers.{runNumber, runState, runOutputs, outputsBefore}
-use Rattle.checks.specs.Checks.{Buffers, block, checkNumber}
+use Rattle.station.specs.Answers.{runNumber, runState, runOutputs}
+use Rattle.checks.specs.Checks.{Buffers, checkNumber}
 
 -- ---- calls
 
--- the lists that a block is lent: of any length, with any numbers of their machine types
-pub record Typed (l : Buffers) : Type 0 where
-  pub m : Each (SFits w16) (l .m)
-  pub gains : Each Byte (l .gains)
-  pub entries : Each (SFits w8) (l .entries)
+-- lists for outputs: of any length, with any numbers of their machine types
+pub record TypedOutputs (l : Outputs) : Type 0 where
   pub y : Each (SFits w32) (l .y)
   pub xi : Each Byte (l .xi)
   pub decision : Each (SFits w8) (l .decision)
   pub z : Each (SFits w32) (l .z)
   pub theta : Each Byte (l .theta)
+
+-- and those of a block with them
+pub record Typed (l : Buffers) : Type 0 where
+  pub samples : Each (SFits w16) (l .block .samples)
+  pub gains : Each Byte (l .block .gains)
+  pub entries : Each (SFits w8) (l .block .entries)
+  pub outputs : TypedOutputs (l .outputs)
 
 -- run a block, try one, save to a buffer, load bytes
 pub data Call : Type 0 where
@@ -85,21 +90,21 @@ pub record StateAccepted (number : ℕ) : Type 0 where
 abbrev pub LaterNear : Equaliser → Buffers → Equaliser → Buffers → Type 0
 LaterNear s l s′ l′ =
     let S = scaleForward (settings s) in
-    let B = newB (settings s) (memory s) (block l) in
-    let B′ = newB (settings s′) (memory s′) (block l′) in
+    let B = newB (settings s) (memory s) (l .block) in
+    let B′ = newB (settings s′) (memory s′) (l′ .block) in
     (n j : ℕ) → n < s .n → j < s .p → n < j →
-    QuantisedWithin (B′ + S) (max B B′ + S) (getD (at (settings s′) (memory s′) (block l′) n .samples) j (pos 0)) (getD (X (settings s) (memory s) (block l)) (s .n + n - j) (pos 0))
+    QuantisedWithin (B′ + S) (max B B′ + S) (getD (at (settings s′) (memory s′) (l′ .block) n .samples) j (pos 0)) (getD (X (settings s) (memory s) (l .block)) (s .n + n - j) (pos 0))
 
 -- a block of l that is accepted on s, hands out h and leaves s′
 pub record AcceptedBlock (s : Equaliser) (l : Buffers) (s′ : Equaliser) (h : Outputs) : Type 0 where
   -- at each sample: the bounds of weights, outputs, their sum and the error; one halving is enough, and a doubling changes no weight's value; the distances of y
   -- and of each weight to the exact ones; with M = 0 no weight changes its value
-  pub sample : (n : ℕ) → n < s .n → AtSample (settings s) (memory s) (block l) n
+  pub sample : (n : ℕ) → n < s .n → AtSample (settings s) (memory s) (l .block) n
   -- nothing clipped: what it hands out is what its samples give, and the state that it leaves is the one that its last sample gives
-  pub outputs : h ≡ blockOutputs (settings s) (memory s) (block l)
-  pub leaves : s′ ≡ stateOf (settings s) (nextMemory (settings s) (memory s) (block l))
+  pub outputs : h ≡ blockOutputs (settings s) (memory s) (l .block)
+  pub leaves : s′ ≡ stateOf (settings s) (nextMemory (settings s) (memory s) (l .block))
   -- its stored samples are close to the received values
-  pub stored : StoredNear (settings s) (memory s) (block l)
+  pub stored : StoredNear (settings s) (memory s) (l .block)
   -- and so are those that a later block still uses, where it is accepted on the state that this block left, whatever was called in between
   pub later : (cs : List Call) → leftBy s′ cs ≡ s′ → (l′ : Buffers) → runNumber (leftBy s′ cs) l′ ≡ 0 → LaterNear s l (leftBy s′ cs) l′
 
@@ -108,10 +113,10 @@ pub record RunHolds (s : Equaliser) (l : Buffers) (n : ℕ) (s′ : Equaliser) (
   pub number : StateAccepted n
   pub accepted : n ≡ 0 → AcceptedBlock s l s′ h
   -- turned down, it leaves the state and the lists as they were
-  pub turned-down : (n ≡ 0 → ⊥) → (s′ ≡ s) × (h ≡ outputsBefore l)
+  pub turned-down : (n ≡ 0 → ⊥) → (s′ ≡ s) × (h ≡ l .outputs)
   -- 6 is the answer exactly where a block that passes the checks before would raise ψ to 16 at step 7 of some sample
-  pub raised : n ≡ 6 → (checkNumber s l ≡ 0) × Raises (settings s) (memory s) (block l)
-  pub raised-only : checkNumber s l ≡ 0 → Raises (settings s) (memory s) (block l) → n ≡ 6
+  pub raised : n ≡ 6 → (checkNumber s l ≡ 0) × Raises (settings s) (memory s) (l .block)
+  pub raised-only : checkNumber s l ≡ 0 → Raises (settings s) (memory s) (l .block) → n ≡ 6
   -- with M = 0 every weight keeps its value, though mantissas and ψ may change
   pub frozen : s .m ≡ 0 → SameWeights (memory s) (memory s′)
 

@@ -5,14 +5,13 @@ use mathlib.Core.List.{List, [], _∷_}
 use Prim.Native.Nat.{ℕ, _^_}
 use lib.ListN.{length}
 use lib.IntN.{ℤ, pos, negℤ}
-use Rattle.laws.specs.Negated.{negated}
 use Rattle.steps.specs.Limits.{slots}
-use Rattle.block.specs.Block.{Outputs}
-use Rattle.block.specs.Swapped.{swapped}
+use Rattle.block.specs.Block.{Outputs, outputLengths}
+use Rattle.block.specs.Swapped.{swapped, swappedBlock}
 use Rattle.state.specs.State.{settings, memory, isSound, stateOf}
 use Rattle.state.specs.declared.equaliser.Equaliser.{Equaliser}
 use Rattle.checks.specs.Checks.{Buffers}
-use Rattle.station.specs.Answers.{runNumber, runState, runOutputs, outputsBefore}
+use Rattle.station.specs.Answers.{runNumber, runState, runOutputs}
 use Rattle.station.specs.Claim.{Typed}
 
 -- ---- what both are given
@@ -30,16 +29,10 @@ pub record SwappedPair (s s′ : Equaliser) : Type 0 where
   pub settings-same : settings s′ ≡ settings s
   pub memory-swapped : memory s′ ≡ swapped (memory s)
 
--- the same gains and training entries, samples that are each other's negatives, and five lists of equal lengths for the outputs, whatever else is in all of them
+-- the same gains and training entries, samples that are each other's negatives, and lists of equal lengths for the outputs, whatever else is in them
 pub record SwappedLists (l l′ : Buffers) : Type 0 where
-  pub samples-negated : l′ .m ≡ negated (l .m)
-  pub gains-same : l′ .gains ≡ l .gains
-  pub entries-same : l′ .entries ≡ l .entries
-  pub y-long : length (l′ .y) ≡ length (l .y)
-  pub xi-long : length (l′ .xi) ≡ length (l .xi)
-  pub decision-long : length (l′ .decision) ≡ length (l .decision)
-  pub z-long : length (l′ .z) ≡ length (l .z)
-  pub theta-long : length (l′ .theta) ≡ length (l .theta)
+  pub block-swapped : l′ .block ≡ swappedBlock (l .block)
+  pub lengths-same : outputLengths (l′ .outputs) ≡ outputLengths (l .outputs)
 
 -- a block that both are lent, as numbers of their machine types. So no sample is −32768: its negative has no place in 16 bits
 pub record BuffersOfBoth : Type 0 where
@@ -55,7 +48,7 @@ NotLowest m = m ≡ negℤ (pos (2 ^ 15)) → ⊥
 
 -- the lists with which lists are swapped
 abbrev pub partnerLists : Buffers → Buffers
-partnerLists l = record { m = negated (l .m); gains = l .gains; entries = l .entries; y = l .y; xi = l .xi; decision = l .decision; z = l .z; theta = l .theta }
+partnerLists l = record { block = swappedBlock (l .block); outputs = l .outputs }
 
 -- the state with which a state is a swapped pair
 abbrev pub partner : Equaliser → Equaliser
@@ -67,7 +60,7 @@ partner s = stateOf (settings s) (swapped (memory s))
 pub record SameAnswers (l : Buffers) (n : ℕ) (h : Outputs) (l′ : Buffers) (n′ : ℕ) (h′ : Outputs) : Type 0 where
   pub number-same : n′ ≡ n
   pub outputs-same : n ≡ 0 → h′ ≡ h
-  pub outputs-kept : (n ≡ 0 → ⊥) → (h ≡ outputsBefore l) × (h′ ≡ outputsBefore l′)
+  pub outputs-kept : (n ≡ 0 → ⊥) → (h ≡ l .outputs) × (h′ ≡ l .outputs′)
 
 abbrev pub SameRuns : Equaliser → Buffers → Equaliser → Buffers → Type 0
 SameRuns s l s′ l′ = SameAnswers l (runNumber s l) (runOutputs s l) l′ (runNumber s′ l′) (runOutputs s′ l′)

@@ -1,30 +1,15 @@
 // Running a block.
 ghost use mathlib.Core.Path.{_≡_};
-ghost use Rattle.block.specs.Calls.{blockOf, OutputsLong};
-ghost use Rattle.block.specs.Block.{outputsOf};
-ghost use Rattle.filter.specs.Calls.{settingsOf};
+ghost use Rattle.block.specs.Block.{blockOf, outputsOf};
+ghost use Rattle.block.specs.Calls.{OutputsLong};
 ghost use Rattle.state.specs.State.{settings};
 ghost use Rattle.checks.specs.Calls.{Checked};
 ghost use Rattle.checks.specs.Checks.{buffersOf};
 ghost use Rattle.station.specs.Answers.{Run};
 ghost use Rattle.station.specs.Calls.{Parts, ResultBytes, nextOf, RunChecked};
 use block::run::BlockResult;
-use filter::sample::Settings;
 use state::equaliser::Answer;
 use state::equaliser::Equaliser;
-
-fn settings(e: Equaliser) -> Settings
-    ensures { λ k. ⌜ settingsOf k ≡ settings e ⌝ }
-{
-    Settings {
-        p: e.p as u32,
-        q: e.q as u32,
-        n: e.n as u32,
-        r: e.r as u32,
-        l: e.l as u32,
-        m: e.m,
-    }
-}
 
 // The state that a block leaves, from its numbers, its weights and its data.
 fn next(
@@ -112,7 +97,7 @@ fn run_parts(
     ensures { λ a. ⌜ RunChecked e (blockOf (now (m .entry)) (now (gains .entry)) (now (entries .entry))) (outputsOf (now (y .entry)) (now (xi .entry)) (now (decision .entry)) (now (z .entry)) (now (theta .entry))) a (outputsOf (now (y .exit)) (now (xi .exit)) (now (decision .exit)) (now (z .exit)) (now (theta .exit))) ⌝ }
 {
     let r = block::run::run(
-        settings(e),
+        state::equaliser::settings(e),
         e.psi as u32,
         e.b as u32,
         e.bmax as u32,
@@ -146,7 +131,7 @@ fn run_parts(
     }
 }
 
-// One block: the next state and five lists, or the number of the refusal and everything as it was.
+// One block: the next state and its outputs, or the number of the refusal and everything as it was.
 pub fn run(
     e: Equaliser,
     m: &[i16],
@@ -158,7 +143,7 @@ pub fn run(
     z: &mut [i32],
     theta: &mut [u8],
 ) -> Answer
-    ensures { λ a. ⌜ Run e (buffersOf (now (m .entry)) (now (gains .entry)) (now (entries .entry)) (now (y .entry)) (now (xi .entry)) (now (decision .entry)) (now (z .entry)) (now (theta .entry))) a (now (y .exit)) (now (xi .exit)) (now (decision .exit)) (now (z .exit)) (now (theta .exit)) ⌝ }
+    ensures { λ a. ⌜ Run e (buffersOf (now (m .entry)) (now (gains .entry)) (now (entries .entry)) (now (y .entry)) (now (xi .entry)) (now (decision .entry)) (now (z .entry)) (now (theta .entry))) a (outputsOf (now (y .exit)) (now (xi .exit)) (now (decision .exit)) (now (z .exit)) (now (theta .exit))) ⌝ }
 {
     let number = checks::lists::checked(e, m, gains, entries, y, xi, decision, z, theta);
     if number != 0 {

@@ -8,19 +8,17 @@ use lib.Dec.{leb, eqb}
 use lib.ListN.{length, take, replicate}
 use lib.IntN.{ℤ}
 use borrow.Author.Tests.{leb-true, eq-eqb, ne-eqb}
+use Rattle.laws.specs.Values.{values-length, values, take-values}
+use Rattle.words.specs.Words.{byteAt}
 use Rattle.state.specs.declared.equaliser.Equaliser.{Equaliser}
 use Rattle.state.specs.declared.equaliser.Answer.{Answer}
 use Rattle.checks.specs.Checks.{Buffers, buffersOf}
 use Rattle.station.specs.Answers.{Run}
-use Rattle.image.specs.Load.{byteAt}
 use Rattle.vectors.specs.Compare.{between, outputBytes}
 use Rattle.vectors.specs.Record.{fill, recordLength, recordIn}
 use Rattle.vectors.specs.Block.{listCount, listLimit, lengthAt, listsPlace, gainsPlace, entriesPlace, answerPlace, answerIn, outputsPlace, afterPlace, blockEnd, fillLong, fillSigned, sampleIn, entryIn, buffersOn, resultOn, resultIn, listsFit, sameAccepted, sameRefused, sameBlock}
 use Rattle.vectors.specs.declared.blocks.Lists.{Lists}
 use Rattle.vectors.specs.declared.compare.BlockResult.{BlockResult}
-use Rattle.block.specs.Block.{values}
-use Rattle.block.proofs.ValuesLaws.{values-length}
-use Rattle.block.proofs.ValueLists.{take-values}
 use Rattle.vectors.proofs.ReadLaws.{below16}
 use Rattle.laws.specs.Comparisons.{below-at}
 

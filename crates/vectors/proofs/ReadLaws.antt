@@ -10,8 +10,7 @@ use mir.Syntax.{Width}
 use mir.Val.{SFits, bits, toZ, ofZ}
 use mir.Facts.{toZ-ofZ, ofZ-toZ}
 use lib.ListN.{length, List·getD-eq-default}
-use Rattle.image.specs.Load.{byteAt}
-use Rattle.trace_text.specs.Trace.{unsigned16, unsigned32}
+use Rattle.words.specs.Words.{byteAt, numberAt}
 
 pub beyond : (v : List ℕ) (at : ℕ) → length v ≤ at → 0 ≡ byteAt v at
 beyond v at h = sym (List·getD-eq-default v 0 h)
@@ -20,10 +19,10 @@ beyond v at h = sym (List·getD-eq-default v 0 h)
 pub bits-back : (w : Width) (z : ℤ) (n m : ℕ) → n < 2 ^ bits w → z ≡ toZ w n → n ≡ m → ofZ w z ≡ m
 bits-back w z n m h e f = ap (ofZ w) e ∙ ofZ-toZ {w = w} (record { fits = h }) ∙ f
 
-pub below16 : (v : List ℕ) (at : ℕ) → ((i : ℕ) → byteAt v i < 256) → unsigned16 v at < 2 ^ 16
+pub below16 : (v : List ℕ) (at : ℕ) → ((i : ℕ) → byteAt v i < 256) → numberAt 2 v at < 2 ^ 16
 below16 v at h = omega (arith, h at, h (at + 1))
 
-pub below32 : (v : List ℕ) (at : ℕ) → ((i : ℕ) → byteAt v i < 256) → unsigned32 v at < 2 ^ 32
+pub below32 : (v : List ℕ) (at : ℕ) → ((i : ℕ) → byteAt v i < 256) → numberAt 4 v at < 2 ^ 32
 below32 v at h = omega (arith, h at, h (at + 1), h (at + 2), h (at + 2 + 1))
 
 -- a signed number that is passed on keeps its bits

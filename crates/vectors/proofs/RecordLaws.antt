@@ -4,17 +4,16 @@ use mathlib.Core.List.{List}
 use Prim.Native.Nat.{ℕ}
 use lib.ListN.{length}
 use lib.IntN.{ℤ}
+use Rattle.words.specs.Words.{wordsOf, byteAt, numberAt}
 use Rattle.steps.specs.Limits.{slots}
 use Rattle.state.specs.State.{padded}
 use Rattle.state.specs.declared.equaliser.Equaliser.{Equaliser}
 use Rattle.image.specs.Image.{imageHeaderLength, weightWord, datumWord, saveNumber, Save}
 use Rattle.image.specs.declared.save.Saved.{Saved}
-use Rattle.image.specs.Load.{wordsOf, byteAt}
-use Rattle.trace_text.specs.Trace.{unsigned32}
 use Rattle.vectors.specs.Compare.{part}
 use Rattle.vectors.specs.Record.{weightsLength, pastLength, pastPlace, recordIn, bufferLength, buffer, saved}
 
-pub record-is : (v : List ℕ) (m : ℕ) (weights past : List ℤ) → m ≡ unsigned32 v 8 → weights ≡ padded (wordsOf weightWord slots (part imageHeaderLength weightsLength v)) → past ≡ padded (wordsOf datumWord slots (part pastPlace pastLength v)) →
+pub record-is : (v : List ℕ) (m : ℕ) (weights past : List ℤ) → m ≡ numberAt 4 v 8 → weights ≡ padded (wordsOf weightWord slots (part imageHeaderLength weightsLength v)) → past ≡ padded (wordsOf datumWord slots (part pastPlace pastLength v)) →
     record { p = byteAt v 0; q = byteAt v 1; n = byteAt v 2; r = byteAt v 3; l = byteAt v 4; psi = byteAt v 5; b = byteAt v 6; bmax = byteAt v 7; m = m; weights = weights; past = past } ≡ recordIn v
 unfolding recordIn
 record-is v m weights past a b c = rw (a, b, c) refl

@@ -7,7 +7,7 @@ use native.Mathlib.Omega.{arith}
 use lib.ListN.{length, take, drop, length-append}
 use lib.Seq.{take-append-seam}
 use borrow.Author.Tests.{le-leb, lt-leb}
-use Rattle.trace_text.specs.Trace.{unsigned32}
+use Rattle.words.specs.Words.{numberAt}
 use Rattle.trace_text.specs.Text.{traceText}
 use Rattle.trace_text.specs.TextFront.{TextFront}
 use Rattle.laws.specs.Comparisons.{equal, equal-refl, equal-true}
@@ -15,9 +15,9 @@ use Rattle.laws.specs.Lists.{and-right}
 use Rattle.vectors.specs.Trace.{lengthBytes, textPlace, textLength, textEnd, traceIn, textIn, whole, TraceVector}
 use Rattle.vectors.specs.declared.Step.{Step}
 
-pub text-end : (v : List ℕ) (place n : ℕ) → place ≡ textPlace v → n ≡ unsigned32 v (place - lengthBytes) → place + n ≡ textEnd v
+pub text-end : (v : List ℕ) (place n : ℕ) → place ≡ textPlace v → n ≡ numberAt 4 v (place - lengthBytes) → place + n ≡ textEnd v
 text-end v place n p e =
-    ap₂ (λ (a b : ℕ). a + b) p (e ∙ ap (unsigned32 v) {x = place - lengthBytes} {y = lengthBytes + unsigned32 v 0} (omega arith))
+    ap₂ (λ (a b : ℕ). a + b) p (e ∙ ap (numberAt 4 v) {x = place - lengthBytes} {y = lengthBytes + numberAt 4 v 0} (omega arith))
 
 module _ (v before : List ℕ) (place end : ℕ) (p : place ≡ textPlace v) (e : end ≡ textEnd v) where
   -- the bytes are no vector
@@ -31,7 +31,7 @@ module _ (v before : List ℕ) (place end : ℕ) (p : place ≡ textPlace v) (e 
     whole-is = le-leb (textEnd v) (length v) (omega arith)
 
     trace-is : take (place - lengthBytes - lengthBytes) (drop lengthBytes v) ≡ traceIn v
-    trace-is = ap (λ (n : ℕ). take n (drop lengthBytes v)) {x = place - lengthBytes - lengthBytes} {y = unsigned32 v 0} (omega arith)
+    trace-is = ap (λ (n : ℕ). take n (drop lengthBytes v)) {x = place - lengthBytes - lengthBytes} {y = numberAt 4 v 0} (omega arith)
 
     text-in : take (end - place) (drop place v) ≡ textIn v
     text-in = ap (λ (n : ℕ). take n (drop place v)) {x = end - place} {y = textLength v} (omega arith) ∙ ap (λ (m : ℕ). take (textLength v) (drop m v)) p

@@ -9,12 +9,11 @@ use lib.ListN.{length, replicate}
 use lib.IntN.{ℤ, negsuc}
 use mir.Syntax.{w8, w16}
 use mir.Val.{toZ}
+use Rattle.laws.specs.Values.{values}
+use Rattle.words.specs.Words.{byteAt, numberAt}
 use Rattle.steps.specs.Limits.{blockLimit}
-use Rattle.block.specs.Block.{values}
 use Rattle.checks.specs.Checks.{Buffers, block}
 use Rattle.station.specs.Answers.{runNumber, runState, runOutputs}
-use Rattle.image.specs.Load.{byteAt}
-use Rattle.trace_text.specs.Trace.{unsigned16}
 use Rattle.laws.specs.Comparisons.{below}
 use Rattle.vectors.specs.Compare.{between, outputBytes, sameOutputs}
 use Rattle.vectors.specs.Record.{fill, recordLength, recordIn, sameRecord, sameSaved}
@@ -32,7 +31,7 @@ abbrev pub listLimit : ℕ
 listLimit = 4 * blockLimit
 
 abbrev pub lengthAt : List ℕ → ℕ → ℕ
-lengthAt v k = unsigned16 v (recordLength + 2 * k)
+lengthAt v k = numberAt 2 v (recordLength + 2 * k)
 
 abbrev pub listsPlace : ℕ
 listsPlace = recordLength + 2 * listCount
@@ -68,7 +67,7 @@ abbrev pub fillSigned : ℤ
 fillSigned = negsuc 90
 
 abbrev pub sampleIn : List ℕ → ℕ → ℤ
-sampleIn v i = toZ w16 (unsigned16 v (listsPlace + 2 * i))
+sampleIn v i = toZ w16 (numberAt 2 v (listsPlace + 2 * i))
 
 abbrev pub entryIn : List ℕ → ℕ → ℕ → ℤ
 entryIn v at i = toZ w8 (byteAt v (at + i))

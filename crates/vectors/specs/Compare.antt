@@ -8,8 +8,7 @@ use lib.IntN.{ℤ, pos}
 use mir.Syntax.{w8, w32}
 use mir.Val.{ofZ}
 use Rattle.laws.specs.Comparisons.{below}
-use Rattle.image.specs.Load.{byteAt}
-use Rattle.trace_text.specs.Trace.{unsigned32}
+use Rattle.words.specs.Words.{byteAt, numberAt}
 use Rattle.vectors.specs.declared.compare.BlockResult.{BlockResult}
 
 -- no place that is read lies as far
@@ -43,7 +42,7 @@ outputBytes = θPlace + 1
 -- the same at the front of bytes
 abbrev pub sameSample : List ℕ → ℤ → ℕ → ℤ → ℤ → ℕ → Bool
 sameSample v y ξ d z θ =
-    eqb (ofZ w32 y) (unsigned32 v 0) && eqb ξ (byteAt v ξPlace) && eqb (ofZ w8 d) (byteAt v decisionPlace) && eqb (ofZ w32 z) (unsigned32 v ZPlace) && eqb θ (byteAt v θPlace)
+    eqb (ofZ w32 y) (numberAt 4 v 0) && eqb ξ (byteAt v ξPlace) && eqb (ofZ w8 d) (byteAt v decisionPlace) && eqb (ofZ w32 z) (numberAt 4 v ZPlace) && eqb θ (byteAt v θPlace)
 
 -- for one sample of a block, and for its first n
 abbrev pub sameAt : List ℕ → BlockResult → ℕ → Bool

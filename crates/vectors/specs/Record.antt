@@ -4,12 +4,11 @@ use mathlib.Core.List.{List, _++_}
 use Prim.Native.Nat.{ℕ, _+_, _-_, _*_}
 use lib.Dec.{leb, eqb}
 use lib.ListN.{take, drop, replicate}
+use Rattle.words.specs.Words.{wordsOf, byteAt, width, words, numberAt}
 use Rattle.steps.specs.Limits.{slots}
 use Rattle.state.specs.State.{taps, padded}
 use Rattle.state.specs.declared.equaliser.Equaliser.{Equaliser}
-use Rattle.image.specs.Image.{width, imageHeaderLength, weightWord, datumWord, header, words, image, imageLength, dataPlace, endPlace, saveNumber}
-use Rattle.image.specs.Load.{wordsOf, byteAt}
-use Rattle.trace_text.specs.Trace.{unsigned32}
+use Rattle.image.specs.Image.{imageHeaderLength, weightWord, datumWord, header, image, imageLength, dataPlace, endPlace, saveNumber}
 use Rattle.laws.specs.Comparisons.{equal}
 use Rattle.vectors.specs.Compare.{part, between}
 
@@ -37,7 +36,7 @@ recordIn v = record {
   psi = byteAt v 5;
   b = byteAt v 6;
   bmax = byteAt v 7;
-  m = unsigned32 v 8;
+  m = numberAt 4 v 8;
   weights = padded (wordsOf weightWord slots (part imageHeaderLength weightsLength v));
   past = padded (wordsOf datumWord slots (part pastPlace pastLength v));
 }

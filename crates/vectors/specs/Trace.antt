@@ -5,7 +5,7 @@ use mathlib.Core.Path.{_≡_}
 use Prim.Native.Nat.{ℕ, _+_}
 use lib.Dec.{leb}
 use lib.ListN.{length, take, drop}
-use Rattle.trace_text.specs.Trace.{unsigned32}
+use Rattle.words.specs.Words.{numberAt}
 use Rattle.trace_text.specs.Text.{traceText}
 use Rattle.laws.specs.Comparisons.{equal}
 use Rattle.vectors.specs.declared.Step.{Step}
@@ -15,16 +15,16 @@ abbrev pub lengthBytes : ℕ
 lengthBytes = 4
 
 abbrev pub textPlace : List ℕ → ℕ
-textPlace v = lengthBytes + unsigned32 v 0 + lengthBytes
+textPlace v = lengthBytes + numberAt 4 v 0 + lengthBytes
 
 abbrev pub textLength : List ℕ → ℕ
-textLength v = unsigned32 v (lengthBytes + unsigned32 v 0)
+textLength v = numberAt 4 v (lengthBytes + numberAt 4 v 0)
 
 abbrev pub textEnd : List ℕ → ℕ
 textEnd v = textPlace v + textLength v
 
 abbrev pub traceIn : List ℕ → List ℕ
-traceIn v = take (unsigned32 v 0) (drop lengthBytes v)
+traceIn v = take (numberAt 4 v 0) (drop lengthBytes v)
 
 abbrev pub textIn : List ℕ → List ℕ
 textIn v = take (textLength v) (drop (textPlace v) v)

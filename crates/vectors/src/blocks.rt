@@ -3,7 +3,7 @@
 ghost use mathlib.Core.Path.{_≡_};
 ghost use Prim.Native.Nat.{_+_, _^_, _<_, _≤_};
 ghost use lib.ListN.{length, replicate};
-ghost use Rattle.block.specs.Block.{values};
+ghost use Rattle.laws.specs.Values.{values};
 ghost use Rattle.vectors.specs.Record.{fill, recordLength};
 ghost use Rattle.vectors.specs.Block.{listCount, listLimit, lengthAt, answerPlace, afterPlace, blockEnd, fillLong, fillSigned, sampleIn, entryIn, buffersOn, Roomy, resultOn, resultIn, listsFit, untouched, sameAccepted, sameRefused, sameBlock, BlockVector};
 use super::Step;

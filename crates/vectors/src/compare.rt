@@ -5,8 +5,7 @@ ghost use lib.Dec.{eqb};
 ghost use lib.ListN.{length};
 ghost use mir.Syntax.{w8, w32};
 ghost use mir.Val.{ofZ};
-ghost use Rattle.image.specs.Load.{byteAt};
-ghost use Rattle.trace_text.specs.Trace.{unsigned32};
+ghost use Rattle.words.specs.Words.{byteAt, numberAt};
 ghost use Rattle.vectors.specs.Block.{listLimit};
 ghost use Rattle.laws.specs.Comparisons.{equal};
 ghost use Rattle.vectors.specs.Compare.{farthest, outputBytes, sameSample, sameOutputs};
@@ -60,7 +59,7 @@ pub fn same_bytes(a: &[u8], b: &[u8]) -> bool
 // Whether v has a number at a place.
 fn same_long(v: &[u8], at: usize, z: i32) -> bool
     requires { ⌜ at < farthest ⌝ }
-    ensures { λ r. ⌜ r ≡ eqb (ofZ w32 z) (unsigned32 (now (v .entry)) at) ⌝ }
+    ensures { λ r. ⌜ r ≡ eqb (ofZ w32 z) (numberAt 4 (now (v .entry)) at) ⌝ }
 {
     z == signed32(unsigned32_at(v, at))
 }

@@ -3,9 +3,8 @@ ghost use mathlib.Core.Path.{_≡_};
 ghost use Prim.Native.Nat.{_<_};
 ghost use mir.Syntax.{w8, w16, w32};
 ghost use mir.Val.{toZ};
+ghost use Rattle.words.specs.Words.{byteAt, numberAt};
 ghost use Rattle.vectors.specs.Compare.{farthest};
-ghost use Rattle.image.specs.Load.{byteAt};
-ghost use Rattle.trace_text.specs.Trace.{unsigned16, unsigned32};
 
 pub fn byte_at(v: &[u8], at: usize) -> u8
     ensures { λ r. ⌜ r ≡ byteAt (now (v .entry)) at ⌝ }
@@ -15,14 +14,14 @@ pub fn byte_at(v: &[u8], at: usize) -> u8
 
 pub fn unsigned16_at(v: &[u8], at: usize) -> u32
     requires { ⌜ at < farthest ⌝ }
-    ensures { λ r. ⌜ r ≡ unsigned16 (now (v .entry)) at ⌝ }
+    ensures { λ r. ⌜ r ≡ numberAt 2 (now (v .entry)) at ⌝ }
 {
     image::bytes::unsigned16(byte_at(v, at), byte_at(v, at + 1))
 }
 
 pub fn unsigned32_at(v: &[u8], at: usize) -> u32
     requires { ⌜ at < farthest ⌝ }
-    ensures { λ r. ⌜ r ≡ unsigned32 (now (v .entry)) at ⌝ }
+    ensures { λ r. ⌜ r ≡ numberAt 4 (now (v .entry)) at ⌝ }
 {
     let high = at + 2;
     image::bytes::unsigned32(
@@ -51,7 +50,7 @@ pub fn signed8_at(v: &[u8], at: usize) -> i8
 
 pub fn signed16_at(v: &[u8], at: usize) -> i16
     requires { ⌜ at < farthest ⌝ }
-    ensures { λ r. ⌜ r ≡ toZ w16 (unsigned16 (now (v .entry)) at) ⌝ }
+    ensures { λ r. ⌜ r ≡ toZ w16 (numberAt 2 (now (v .entry)) at) ⌝ }
 {
     image::bytes::signed16(byte_at(v, at), byte_at(v, at + 1))
 }

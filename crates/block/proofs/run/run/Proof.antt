@@ -6,8 +6,8 @@ use lib.IntN.{ℤ, pos}
 use borrow.Author.Needs.{needs}
 use Rattle.steps.specs.Sound.{lineLength}
 use Rattle.steps.specs.Settings.{Settings}
-use Rattle.block.specs.Block.{Block, Memory, Outputs, outputsOf}
-use Rattle.block.specs.Calls.{blockOf, memoryOf, ExponentsOf, BegunOn, ProgressedOn}
+use Rattle.block.specs.Block.{Block, Memory, Outputs, blockOf, outputsOf}
+use Rattle.block.specs.Calls.{memoryOf, ExponentsOf, BegunOn, ProgressedOn}
 use Rattle.block.proofs.RunStart.{startable, symbols-most, exponents-of, window-storable, window-long, window-most, fill-bounds, begun-on}
 use Rattle.block.proofs.RunLaws.{count-room, block-result}
 use Rattle.block.proofs.run.run.Statement.{statement}

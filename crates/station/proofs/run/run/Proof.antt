@@ -11,10 +11,10 @@ use Rattle.block.specs.Calls.{OutputsLong}
 use Rattle.block.proofs.BlockMemory.{same-outputs}
 use Rattle.state.specs.State.{settings}
 use Rattle.state.specs.declared.equaliser.Equaliser.{Equaliser}
-use Rattle.checks.specs.Checks.{Buffers, block, checkNumber, buffersOf}
+use Rattle.checks.specs.Checks.{Buffers, checkNumber, buffersOf}
 use Rattle.checks.specs.Calls.{Checked}
-use Rattle.checks.proofs.CheckLaws.{Long, long, checked-is}
-use Rattle.station.specs.Answers.{outputsBefore}
+use Rattle.checks.proofs.CheckLaws.{outputs-long, checked-is}
+use Rattle.station.specs.Answers.{}
 use Rattle.station.proofs.RunLaws.{area-long, area-room, area-back, area-copied, block-none, block-new}
 use Rattle.station.proofs.AnswerLaws.{check-fails, refused, answered}
 use Rattle.station.proofs.run.run.Statement.{statement}
@@ -48,10 +48,10 @@ past-long c = search needs
 number : (c : tie.Else1) → checkNumber (state (passed c)) (lent (passed c)) ≡ 0
 number c = sym (c .before .checked .ensures) ∙ c .if1 .left
 
-lengths : (c : tie.Else1) → let s = passed c in Long (state s) (lent s) (number c)
-lengths c = long _ _ (number c)
+lengths : (c : tie.Else1) → let s = passed c in OutputsLong (settings (state s)) (lent s .outputs)
+lengths c = outputs-long _ (lent (passed c)) (number c)
 
-checked : (c : tie.After-sixteen-bits) → let s = passed (c .before) in Checked (state s) (block (lent s))
+checked : (c : tie.After-sixteen-bits) → let s = passed (c .before) in Checked (state s) (lent s .block)
 checked c = let s = passed (c .before) in checked-is _ (lent s) (number (c .before)) (weights-long s) (past-long s) (c .sixteen-bits .ensures)
 
 -- N is a place of an area
@@ -74,7 +74,7 @@ abbrev going : tie.After-run-checked → tie.After-sixteen-bits
 going c = c .before .before .before .before .before .before .before
 
 abbrev given : tie.After-run-checked → Outputs
-given c = outputsBefore (lent (passed (going c .before)))
+given c = lent (passed (going c .before)) .outputs
 
 abbrev y-out : tie.After-run-checked → List ℤ
 y-out c = c .run-checked .last .1 .1 .1 .1 .0
@@ -152,31 +152,31 @@ part-copy32-end : tie.Need-part-copy32-end
 part-copy32-end c = let r = c .before .before .before .before .before .before .before .before in area-room (y-out r) _ (y-long r)
 
 copy32-requires : tie.Need-copy32-requires
-copy32-requires c κs = let r = c .before .before .before .before .before .before .before .before .before .before in area-copied (y-out r) _ (y-long r) (lengths (going r .before) .y)
+copy32-requires c κs = let r = c .before .before .before .before .before .before .before .before .before .before in area-copied (y-out r) _ (y-long r) (lengths (going r .before) .y-long)
 
 part-copy-bytes-end : tie.Need-part-copy-bytes-end
 part-copy-bytes-end c = let r = first (c .before .before) in area-room (xi-out r) _ (xi-long r)
 
 copy-bytes-requires : tie.Need-copy-bytes-requires
-copy-bytes-requires c κs = let r = first (c .before .before .before .before) in area-copied (xi-out r) _ (xi-long r) (lengths (going r .before) .xi)
+copy-bytes-requires c κs = let r = first (c .before .before .before .before) in area-copied (xi-out r) _ (xi-long r) (lengths (going r .before) .xi-long)
 
 part-copy8-end : tie.Need-part-copy8-end
 part-copy8-end c = let r = second (c .before .before .before) in area-room (decision-out r) _ (decision-long r)
 
 copy8-requires : tie.Need-copy8-requires
-copy8-requires c κs = let r = second (c .before .before .before .before .before) in area-copied (decision-out r) _ (decision-long r) (lengths (going r .before) .decision)
+copy8-requires c κs = let r = second (c .before .before .before .before .before) in area-copied (decision-out r) _ (decision-long r) (lengths (going r .before) .decision-long)
 
 part-copy32-end-2 : tie.Need-part-copy32-end-2
 part-copy32-end-2 c = let r = third (c .before .before) in area-room (z-out r) _ (z-long r)
 
 copy32-requires-2 : tie.Need-copy32-requires-2
-copy32-requires-2 c κs = let r = third (c .before .before .before .before) in area-copied (z-out r) _ (z-long r) (lengths (going r .before) .z)
+copy32-requires-2 c κs = let r = third (c .before .before .before .before) in area-copied (z-out r) _ (z-long r) (lengths (going r .before) .z-long)
 
 part-copy-bytes-end-2 : tie.Need-part-copy-bytes-end-2
 part-copy-bytes-end-2 c = let r = fourth (c .before .before) in area-room (theta-out r) _ (theta-long r)
 
 copy-bytes-requires-2 : tie.Need-copy-bytes-requires-2
-copy-bytes-requires-2 c κs = let r = fourth (c .before .before .before .before) in area-copied (theta-out r) _ (theta-long r) (lengths (going r .before) .theta)
+copy-bytes-requires-2 c κs = let r = fourth (c .before .before .before .before) in area-copied (theta-out r) _ (theta-long r) (lengths (going r .before) .theta-long)
 
 returns-3 : tie.Need-returns-3
 returns-3 c =

@@ -7,8 +7,8 @@ use lib.ListN.{length, length-set}
 use lib.IntN.{ℤ, pos}
 use borrow.Author.Needs.{needs}
 use Rattle.steps.specs.Limits.{slots}
-use Rattle.block.specs.Block.{Block, Outputs, outputsOf}
-use Rattle.block.specs.Calls.{blockOf, BlockResult-is}
+use Rattle.block.specs.Block.{Block, Outputs, blockOf, outputsOf}
+use Rattle.block.specs.Calls.{BlockResult-is}
 use Rattle.state.specs.State.{settings, memory}
 use Rattle.state.specs.declared.equaliser.Equaliser.{Equaliser}
 use Rattle.station.proofs.RunLaws as R

@@ -1,16 +1,16 @@
 use mathlib.Core.Path.{ap₂, _∙_}
 use mathlib.Core.List.{List}
 use Prim.Native.Nat.{_-_}
-use lib.ListN.{replicate}
+use native.Mathlib.Omega.{arith}
+use lib.ListN.{replicate, length-replicate}
 use lib.IntN.{ℤ, pos}
 use mir.Syntax.{w8, w16}
 use borrow.Author.Needs.{needs}
 use Rattle.laws.specs.Machine.{kept}
 use Rattle.laws.specs.Loops.{Written, written-none}
-use Rattle.block.specs.Block.{values}
+use Rattle.laws.specs.Values.{values, values-written, values-all}
 use Rattle.vectors.specs.Block.{listLimit, sampleIn, entryIn}
 use Rattle.vectors.specs.declared.blocks.Lists.{Lists}
-use Rattle.block.proofs.ValueLists.{read-next, read-all}
 use Rattle.vectors.proofs.blocks.lists_in.Statement.{statement}
 use Rattle.vectors.proofs.blocks.lists_in.Tie as tie
 
@@ -30,8 +30,8 @@ loop-again c =
     let a = l .before .before .args in
     let h = c .before .before .loop-test .taken in
     let x = c .before .signed16-at in (
-      read-next (sampleIn (a .v .now)) listLimit (l .loop .i) (pos 0) (l .loop .samples) (l .loop .inv .0) (pos 0) _ h (kept w16 (x .result) (x .ok) ∙ x .ensures),
-      read-next (entryIn (a .v .now) (a .at)) listLimit (l .loop .i) (pos 0) (l .loop .entries) (l .loop .inv .1) (pos 0) _ h (kept w8 (c .signed8-at .result) (c .signed8-at .ok) ∙ c .signed8-at .ensures),
+      values-written (sampleIn (a .v .now)) listLimit (l .loop .inv .0) (pos 0) _ h (omega (arith, h, length-replicate listLimit (pos 0))) (kept w16 (x .result) (x .ok) ∙ x .ensures),
+      values-written (entryIn (a .v .now) (a .at)) listLimit (l .loop .inv .1) (pos 0) _ h (omega (arith, h, length-replicate listLimit (pos 0))) (kept w8 (c .signed8-at .result) (c .signed8-at .ok) ∙ c .signed8-at .ensures),
     )
 
 returns : tie.Need-returns Inv-loop μ-loop
@@ -39,8 +39,8 @@ returns c =
     let l = c .before in
     let a = l .before .before .args in
     ap₂ (λ (s e : List ℤ). record { samples = s; entries = e })
-    (read-all (sampleIn (a .v .now)) listLimit (l .loop .i) (pos 0) (l .loop .samples) (l .loop .inv .0) (c .loop-test .left))
-    (read-all (entryIn (a .v .now) (a .at)) listLimit (l .loop .i) (pos 0) (l .loop .entries) (l .loop .inv .1) (c .loop-test .left))
+    (values-all (sampleIn (a .v .now)) listLimit (l .loop .inv .0) (length-replicate listLimit (pos 0)) (c .loop-test .left))
+    (values-all (entryIn (a .v .now) (a .at)) listLimit (l .loop .inv .1) (length-replicate listLimit (pos 0)) (c .loop-test .left))
 
 pub lists-in-spec : {M : Type 1} → statement M
 lists-in-spec =

@@ -6,8 +6,7 @@ use mir.Syntax.{w8, w32}
 use mir.Val.{ofZ}
 use borrow.Author.Needs.{needs}
 use borrow.Author.Tests.{not-true, not-false, eq-eqb, ne-eqb}
-use Rattle.image.specs.Load.{byteAt}
-use Rattle.trace_text.specs.Trace.{unsigned32}
+use Rattle.words.specs.Words.{byteAt, numberAt}
 use Rattle.vectors.specs.Compare.{ξPlace, decisionPlace, ZPlace}
 use Rattle.vectors.proofs.ReadLaws.{bits-passed}
 use Rattle.vectors.proofs.compare.same_sample.Statement.{statement}
@@ -16,7 +15,7 @@ use Rattle.vectors.proofs.compare.same_sample.Tie as tie
 returns : tie.Need-returns
 returns c = simp (bits-passed w32 _ _ (c .before .before .before .fits .y) (c .before .same-long .ensures) (not-true _ (c .if1 .taken)))
 
-y-held : (c : tie.Else1) → let a = c .before .before .before .args in eqb (ofZ w32 (a .y)) (unsigned32 (a .v .now) 0) ≡ true
+y-held : (c : tie.Else1) → let a = c .before .before .before .args in eqb (ofZ w32 (a .y)) (numberAt 4 (a .v .now) 0) ≡ true
 y-held c = bits-passed w32 _ _ (c .before .before .before .fits .y) (c .before .same-long .ensures) (not-false _ (c .if1 .left))
 
 returns-2 : tie.Need-returns-2
@@ -39,7 +38,7 @@ returns-4 c =
     let x = d .before .before in
     simp (y-held (x .before .before), xi-held x, d-held d, bits-passed w32 _ _ (x .before .before .before .before .before .fits .z) (c .before .same-long2 .ensures) (not-true _ (c .if4 .taken)))
 
-z-held : (c : tie.Else4) → let a = c .before .before .before .before .before .before .before .before .before .args in eqb (ofZ w32 (a .z)) (unsigned32 (a .v .now) ZPlace) ≡ true
+z-held : (c : tie.Else4) → let a = c .before .before .before .before .before .before .before .before .before .args in eqb (ofZ w32 (a .z)) (numberAt 4 (a .v .now) ZPlace) ≡ true
 z-held c = bits-passed w32 _ _ (c .before .before .before .before .before .before .before .before .before .fits .z) (c .before .same-long2 .ensures) (not-false _ (c .if4 .left))
 
 returns-5 : tie.Need-returns-5
