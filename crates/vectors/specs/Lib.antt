@@ -3,4 +3,3 @@ pub mod Trace
 pub mod Record
 pub mod Block
 pub mod Kind
-pub mod Sample

@@ -3,7 +3,6 @@ pub mod blocks;
 mod compare;
 pub mod kind;
 mod record;
-pub mod sample;
 pub mod trace;
 mod values;
 

@@ -4,7 +4,7 @@ use lib.IntN.{ℤ, pos}
 use Rattle.checks.specs.Checks.{Buffers, buffersOf}
 use Rattle.state.specs.declared.equaliser.Equaliser.{Equaliser}
 use Rattle.station.specs.Answers.{Run}
-use Rattle.vectors.specs.declared.sample.SampleResult.{SampleResult}
+use Rattle.one_sample.specs.declared.SampleResult.{SampleResult}
 
 abbrev pub sampleBuffers : ℤ → ℤ → Buffers
 sampleBuffers sample entry =

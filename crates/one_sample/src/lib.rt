@@ -1,5 +1,5 @@
 // A block of one sample with the gain 0.
-ghost use Rattle.vectors.specs.Sample.{SampleRun};
+ghost use Rattle.one_sample.specs.Sample.{SampleRun};
 use state::equaliser::Answer;
 use state::equaliser::Equaliser;
 

@@ -3,10 +3,10 @@ use mathlib.Core.Path.{_≡_, subst}
 use lib.IntN.{ℤ}
 use mir.Facts.{toZ-ofZ}
 use Rattle.state.specs.declared.equaliser.Equaliser.{Equaliser}
-use Rattle.vectors.specs.Sample.{SampleRun}
-use Rattle.vectors.specs.declared.sample.SampleResult.{SampleResult}
-use Rattle.vectors.proofs.sample.run_sample.Statement.{statement}
-use Rattle.vectors.proofs.sample.run_sample.Tie as tie
+use Rattle.one_sample.specs.Sample.{SampleRun}
+use Rattle.one_sample.specs.declared.SampleResult.{SampleResult}
+use Rattle.one_sample.proofs.run_sample.Statement.{statement}
+use Rattle.one_sample.proofs.run_sample.Tie as tie
 
 -- signed numbers that are passed on are the same
 passed : (e : Equaliser) (s s′ t t′ : ℤ) (r : SampleResult) → s ≡ s′ → t ≡ t′ → SampleRun e s t r → SampleRun e s′ t′ r
