@@ -461,7 +461,7 @@ fn the_stored_vectors_are_these() {
     let traces: Vec<u8> = traces().iter().flat_map(|v| v.bytes()).collect();
     for (name, made) in [
         ("firmware/images.bin", images),
-        ("crates/block_vectors/data/blocks.bin", blocks),
+        ("firmware/blocks.bin", blocks),
         ("crates/trace_vectors/data/traces.bin", traces),
     ] {
         assert!(stored(name) == made, "{name}: run reference/regenerate");
@@ -472,7 +472,6 @@ fn the_stored_vectors_are_these() {
 #[test]
 fn the_programs_count_these() {
     for (program, what, count) in [
-        ("block_vectors", "blocks", blocks().len()),
         ("trace_vectors", "traces", traces().len()),
     ] {
         let text = format!("{count} {what}: no difference\n");
