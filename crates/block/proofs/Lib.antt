@@ -12,5 +12,4 @@ pub mod RunStart
 pub mod RunLaws
 pub mod BlockHolds
 pub mod BlockOutcomes
-pub mod ValueLists
 pub mod SwappedLaws

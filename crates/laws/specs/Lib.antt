@@ -9,6 +9,4 @@ pub mod Loops
 pub mod Sums
 pub mod Machine
 pub mod Tests
-pub mod Comparisons
-pub mod Fills
 pub mod Negated
