@@ -1,6 +1,7 @@
 -- A block of one sample with the gain 0, on five lists of a 0.
 use mathlib.Core.List.{[], _∷_}
 use lib.IntN.{ℤ, pos}
+use Rattle.block.specs.Block.{outputsOf}
 use Rattle.checks.specs.Checks.{Buffers, buffersOf}
 use Rattle.state.specs.declared.equaliser.Equaliser.{Equaliser}
 use Rattle.station.specs.Answers.{Run}
@@ -12,4 +13,4 @@ sampleBuffers sample entry =
 
 -- what running it answers and hands out
 abbrev pub SampleRun : Equaliser → ℤ → ℤ → SampleResult → Type 0
-SampleRun e sample entry r = Run e (sampleBuffers sample entry) (r .answer) (r .y) (r .xi) (r .decision) (r .z) (r .theta)
+SampleRun e sample entry r = Run e (sampleBuffers sample entry) (r .answer) (outputsOf (r .y) (r .xi) (r .decision) (r .z) (r .theta))
