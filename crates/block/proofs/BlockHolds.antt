@@ -6,6 +6,7 @@ use native.Mathlib.Omega.{arith}
 use lib.ListN.{length, getD}
 use lib.IntN.{ℤ, pos}
 use Rattle.laws.specs.Sums.{each-at}
+use Rattle.laws.specs.Values.{values-at}
 use Rattle.steps.specs.Settings.{Settings, isEntry}
 use Rattle.block.specs.Block.{Block, Memory, Γ, after, at, ψFits, entryAt, blockOutputs, AtSample}
 use Rattle.filter.specs.Sound.{Fit}
@@ -15,7 +16,6 @@ use Rattle.filter.proofs.SampleBounds as S
 use Rattle.filter.proofs.Distance as D
 use Rattle.filter.proofs.NextLaws.{next-forward-length, next-back-length}
 use Rattle.filter.proofs.SampleSteps.{normalised-once, frozen}
-use Rattle.block.proofs.ValuesLaws.{values-at}
 use Rattle.block.proofs.BlockCount.{ψ-fits-before}
 use Rattle.block.proofs.BlockSound.{fit-at}
 

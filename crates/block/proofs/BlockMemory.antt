@@ -7,6 +7,7 @@ use lib.Dec.{leb}
 use lib.ListN.{take}
 use lib.IntN.{ℤ}
 use Rattle.laws.specs.Loops.{overlay-all}
+use Rattle.laws.specs.Values.{values-length}
 use Rattle.steps.specs.Limits.{exponentLimit}
 use Rattle.steps.specs.Settings.{Settings}
 use Rattle.filter.specs.Sample.{FilterState}
@@ -15,7 +16,6 @@ use Rattle.block.specs.Block.{Block, Memory, Outputs, newb, newB, after,
 use Rattle.block.specs.Calls.{count, outputsUpTo, OutputsLong, BlockResult-is}
 use Rattle.block.specs.Sound.{Sound}
 use Rattle.block.specs.declared.run.BlockResult.{BlockResult}
-use Rattle.block.proofs.ValuesLaws.{values-length}
 use Rattle.block.proofs.BlockCount.{count-all, ψ-fits-count}
 
 -- lists that are the same, one by one

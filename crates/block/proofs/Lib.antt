@@ -1,4 +1,3 @@
-pub mod ValuesLaws
 pub mod ReceivedLaws
 pub mod BlockExponents
 pub mod BlockStored

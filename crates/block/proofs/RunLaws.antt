@@ -13,6 +13,7 @@ use mir.Val.{Fits}
 use borrow.Author.Tests.{le-leb}
 use Rattle.laws.specs.Loops.{Written, written-none, written-next}
 use Rattle.laws.specs.Sums.{each-at}
+use Rattle.laws.specs.Values.{values-length, values-at}
 use Rattle.steps.specs.Limits.{tapLimit, blockLimit, exponentLimit}
 use Rattle.steps.specs.Sound.{lineLength}
 use Rattle.steps.specs.Settings.{Settings, isEntry}
@@ -28,7 +29,6 @@ use Rattle.block.specs.declared.run.Progress.{Progress}
 use Rattle.block.specs.declared.run.BlockResult.{BlockResult}
 use Rattle.filter.proofs.NextLaws.{next-symbols}
 use Rattle.filter.proofs.DelayLaws.{next-delay-most, next-largest-bits-at}
-use Rattle.block.proofs.ValuesLaws.{values-length, values-at}
 use Rattle.block.proofs.BlockCount.{count-most, count-all, count-stopped}
 use Rattle.block.proofs.BlockSound.{fit-at, fit-after}
 use Rattle.block.proofs.BlockWindow.{after-next}

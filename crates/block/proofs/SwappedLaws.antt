@@ -7,6 +7,7 @@ use lib.Dec.{leb}
 use lib.ListN.{length-map}
 use lib.IntN.{ℤ, negℤ}
 use Rattle.laws.specs.Negated.{negated, negated-negated, map-odd, each-negated, negated-at, negated-take}
+use Rattle.laws.specs.Values.{values}
 use Rattle.numbers.specs.Cut.{rescale}
 use Rattle.numbers.proofs.CutLaws.{raise-neg, rescale-neg}
 use Rattle.steps.specs.Limits.{exponentLimit, halvingLimit}
@@ -14,7 +15,7 @@ use Rattle.steps.specs.Settings.{Settings, scaleForward}
 use Rattle.steps.proofs.NegatedLaws.{push-neg, magnitudes-neg}
 use Rattle.filter.specs.Sample.{FilterState, Y, ξ, decision, Z, θ, next}
 use Rattle.filter.proofs.NegatedLaws.{swappedFilterState, Y-same, ξ-same, decision-same, Z-same, θ-same, next-swapped}
-use Rattle.block.specs.Block.{Block, Memory, receivedAll, values, newb, newB, Γ, stored, old, start, entered, after, at, entryAt, ψFits, blockOutputs, nextMemory}
+use Rattle.block.specs.Block.{Block, Memory, receivedAll, newb, newB, Γ, stored, old, start, entered, after, at, entryAt, ψFits, blockOutputs, nextMemory}
 use Rattle.block.specs.Sound.{Sound}
 use Rattle.block.specs.Swapped.{swapped, swappedBlock}
 use Rattle.block.proofs.BlockMemory.{same-outputs}

@@ -7,6 +7,7 @@ use lib.Dec.{leb}
 use lib.ListN.{length, getD, take}
 use lib.IntN.{ℤ, pos, natAbs, _-ℤ_}
 use Rattle.laws.specs.Sums.{Each}
+use Rattle.laws.specs.Values.{values}
 use Rattle.numbers.specs.BitLength.{bitLength}
 use Rattle.numbers.specs.Cut.{raise, rescale}
 use Rattle.steps.specs.Limits.{exponentLimit}
@@ -59,11 +60,6 @@ outputsOf y xi decision z theta = record { y = y; xi = xi; decision = decision; 
 
 abbrev pub outputLengths : Outputs → List ℕ
 outputLengths l = length (l .y) ∷ length (l .xi) ∷ length (l .decision) ∷ length (l .z) ∷ length (l .theta) ∷ []
-
--- the values of f at 0 to n − 1
-unfoldable pub values {ℓ} : {A : Type ℓ} → (ℕ → A) → ℕ → List A
-values f zero = []
-values f (suc n) = values f n ++ (f n ∷ [])
 
 -- A stored sample A means A·2^(γ−15), with γ = r − 30 + B + S, and the received value is x = X·2^(r−30). Both are compared times 2^(45−r):
 -- A at B + S = e is off X by less than 2^limit, where 2^(γ−15) becomes 2^(B+S)

@@ -1,6 +1,6 @@
 // Reads a description of a cable from standard input and writes its trace to standard output.
 use description::limits::DESCRIPTION;
-use trace_text::limits::TRACE;
+use trace_layout::limits::TRACE;
 
 // One byte more than a description may have, so that an oversize one is seen.
 fn run() {

@@ -10,10 +10,10 @@ use lib.IntN.{ℤ}
 use borrow.Author.Tests.{le-leb, lt-leb, leb-true, eq-eqb, ne-eqb, eqb-true, eqb-false}
 use Rattle.laws.specs.Lists.{all}
 use Rattle.laws.specs.Tests.{last-le}
+use Rattle.laws.specs.Values.{values}
 use Rattle.steps.specs.Settings.{isSymbol}
-use Rattle.block.specs.Block.{values}
+use Rattle.trace_layout.specs.Trace.{traceLimit}
 use Rattle.state.specs.Sizes.{settingsNumber}
-use Rattle.trace_text.specs.Trace.{traceLimit}
 use Rattle.cable_trace.specs.Limits.{responseLimit, countLimit}
 use Rattle.cable_trace.specs.Calls.{sentLimit, Made}
 use Rattle.cable_trace.specs.Cable.{Cable, s, sampleCount, traceLength, cableTrace, responseFits, blocksFit, gainAvailable, lengthCause, listCause, cause, cableNumber}

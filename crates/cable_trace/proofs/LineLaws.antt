@@ -11,18 +11,12 @@ use lib.Seq.{take-all, length-take-le, getD-take, getD-drop, getD-set-same, getD
 use lib.IntN.{ℤ, pos}
 use borrow.Author.Tests.{lt-ltb, le-ltb, ltb-true, ltb-false, leb-true, leb-false}
 use Rattle.laws.specs.Sums.{Each, each-at, each-of}
-use Rattle.block.specs.Block.{values}
-use Rattle.block.proofs.ValuesLaws.{values-length, values-at}
+use Rattle.laws.specs.Values.{values-length, values-at, values}
 use Rattle.cable_trace.specs.Limits.{responseLimit}
 use Rattle.cable_trace.specs.Calls.{sentLimit, sentLineLength, sentPlace, placed, lineOf, emptyLine, emptySums, window}
 use Rattle.cable_trace.specs.Cable.{sentBefore}
 
 -- ---- lists of values
-
-pub values-same : {A : Type 0} (d : A) (f g : ℕ → A) (n : ℕ) → ((i : ℕ) → i < n → f i ≡ g i) → values f n ≡ values g n
-values-same d f g n h =
-    ext-getD d (values f n) (values g n) (values-length f n ∙ sym (values-length g n))
-    (λ i k. let l : i < n = omega (arith, values-length f n) in values-at f d n i l ∙ h i l ∙ sym (values-at g d n i l))
 
 -- one value that is another
 set-values : {A : Type 0} (d : A) (f g : ℕ → A) (n j : ℕ) (x : A) → j < n → x ≡ g j → ((i : ℕ) → (i ≡ j → ⊥) → f i ≡ g i) → set (values f n) j x ≡ values g n

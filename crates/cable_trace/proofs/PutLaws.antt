@@ -14,13 +14,11 @@ use mir.Syntax.{w8, w16}
 use mir.Val.{SFits, ofZ}
 use borrow.Author.Tests.{eqb-true, ltb-true, ltb-false}
 use borrow.Rule.Slice.PartMut.{putMid}
+use Rattle.laws.specs.Values.{values-length, values-at, values, joined}
+use Rattle.laws.specs.Lent.{next-part}
+use Rattle.words.specs.Words.{bytes}
+use Rattle.words.proofs.ByteLaws.{four-bytes, word-bytes}
 use Rattle.steps.specs.Settings.{isSymbol, isEntry}
-use Rattle.block.specs.Block.{values}
-use Rattle.block.proofs.ValuesLaws.{values-length, values-at}
-use Rattle.image.specs.Image.{bytes}
-use Rattle.image.proofs.ByteLaws.{four-bytes}
-use Rattle.image.proofs.ImageLaws.{word-bytes, next-part}
-use Rattle.cable_trace.specs.Cable.{joined}
 use Rattle.cable_trace.specs.Calls.{gainUnit, wordBytes, storedWords}
 
 -- ---- four bytes of each word, three places apart
@@ -92,32 +90,6 @@ entry-symbol r v = go (eqb (natAbs v) 0) refl
     go : (b : Bool) → eqb (natAbs v) 0 ≡ b → ((b || isSymbol r v) && not b) ≡ isSymbol r v
     go true e = sym (ap (λ (n : ℕ). eqb (n % 2) 1 && leb n (2 ^ (r + 1) - 1)) (eqb-true (natAbs v) 0 e))
     go false e = and-true (isSymbol r v)
-
--- ---- a header, and after it a part over the end of which another is written
-
-pub parts-put : (before h u v : List ℕ) (a b e : ℕ) → length h ≡ a → a + length u ≡ e → a ≤ b → b + length v ≡ e → length before ≤ e →
-    putMid b (e - b) (putMid a (e - a) (h ++ drop a before) u) v ≡ h ++ (take (b - a) u ++ v)
-parts-put before h u v a b e long-h long-u l long-v short =
-    ap (λ (x : List ℕ). putMid b (e - b) x v) (next-part h u before a e long-h long-u ∙ none (h ++ u) before short ∙ sym kept)
-    ∙ next-part p v (h ++ u) b e (ap length front ∙ length-take-le b (h ++ u) (omega (arith, whole, long-v))) long-v
-    ∙ none (p ++ v) (h ++ u) (omega (arith, whole)) ∙ append-assoc h (take (b - a) u) v
-  where
-    p : List ℕ
-    p = h ++ take (b - a) u
-
-    whole : length (h ++ u) ≡ e
-    whole = length-append h u ∙ omega (arith, long-h, long-u)
-
-    none : (x y : List ℕ) → length y ≤ e → x ++ drop e y ≡ x
-    none x y k = ap (λ (z : List ℕ). x ++ z) (drop-of-length-le y k) ∙ append-nil x
-
-    front : p ≡ take b (h ++ u)
-    front =
-        let m : length h + (b - a) ≡ b = omega (arith, long-h, l) in
-        sym (take-append-add h u (b - a)) ∙ ap (λ (n : ℕ). take n (h ++ u)) m
-
-    kept : p ++ drop b (h ++ u) ≡ h ++ u
-    kept = ap (λ (x : List ℕ). x ++ drop b (h ++ u)) front ∙ take-append-drop b (h ++ u)
 
 -- ---- the training entries in two parts
 

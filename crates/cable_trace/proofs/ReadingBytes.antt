@@ -12,11 +12,11 @@ use mir.Syntax.{w8, w16}
 use mir.Val.{ofZ, toZ}
 use mir.Facts.{toZ-ofZ, fits-ofZ}
 use Rattle.laws.specs.Machine.{fits-abs}
-use Rattle.block.proofs.ValuesLaws.{values-length, values-at}
-use Rattle.image.proofs.ByteLaws.{two-bytes, four-bytes}
-use Rattle.image.specs.Load.{byteAt}
-use Rattle.trace_text.specs.Trace.{traceHeaderLength, unsigned16, sampleStart}
-use Rattle.cable_trace.specs.Cable.{Cable, s, gain, sample, entry, sampleCount, blockCount, sampleBytes, joined, samplePart, entryPart, cableTrace}
+use Rattle.laws.specs.Values.{values-length, values-at, joined}
+use Rattle.words.specs.Words.{byteAt, numberAt}
+use Rattle.words.proofs.ByteLaws.{two-bytes, four-bytes}
+use Rattle.trace_layout.specs.Trace.{traceHeaderLength, sampleStart}
+use Rattle.cable_trace.specs.Cable.{Cable, s, gain, sample, entry, sampleCount, blockCount, sampleBytes, samplePart, entryPart, cableTrace}
 
 -- ---- lists of three, one after another
 
@@ -88,7 +88,7 @@ module _ (c : Cable) where
     pub gain-byte : byteAt flat (sampleStart n + 2) ≡ gain (c .settings .r) (s c n)
     gain-byte = listed (sampleStart n + 2) 2 (omega arith) (omega arith)
 
-    pub sample-word : natAbs (sample (c .settings .r) (s c n)) < 2 ^ 15 → toZ w16 (unsigned16 flat (sampleStart n)) ≡ sample (c .settings .r) (s c n)
+    pub sample-word : natAbs (sample (c .settings .r) (s c n)) < 2 ^ 15 → toZ w16 (numberAt 2 flat (sampleStart n)) ≡ sample (c .settings .r) (s c n)
     sample-word small =
         let m = sample (c .settings .r) (s c n) in
         let f = fits-abs {w = w16} m small in

@@ -15,12 +15,14 @@ use borrow.Author.Tests.{lt-ltb, le-ltb, le-leb, leb-true, eq-eqb}
 use Rattle.laws.specs.Lists.{all, all-at, and-left, and-right}
 use Rattle.laws.specs.Powers.{rises}
 use Rattle.laws.specs.Tests.{both}
+use Rattle.laws.specs.Values.{values-length, values-at, values}
+use Rattle.words.specs.Words.{byteAt}
 use Rattle.steps.specs.Limits.{gainLimit}
 use Rattle.steps.specs.Settings.{Settings, isSymbol, isEntry}
 use Rattle.steps.specs.Sound.{Within}
 use Rattle.steps.proofs.SymbolLaws.{symbol-entry, entry-below}
-use Rattle.block.specs.Block.{values}
-use Rattle.block.proofs.ValuesLaws.{values-length, values-at}
+use Rattle.trace_layout.specs.Trace.{traceHeaderLength, settingsIn, countIn, samplesIn, wellFormed, sampleStart}
+use Rattle.trace_layout.proofs.ReadLaws.{well-tested}
 use Rattle.state.specs.Sizes.{settingsNumber}
 use Rattle.state.specs.State.{settings, fresh, refused}
 use Rattle.state.specs.Answers.{SetUp, setUpState}
@@ -38,10 +40,8 @@ use Rattle.station.specs.Answers.{runNumber, runState}
 use Rattle.station.specs.Calls.{ψFitsBlock}
 use Rattle.station.proofs.AnswerLaws.{number-is}
 use Rattle.station.proofs.NumberLaws.{run-settings, run-accepted}
-use Rattle.image.specs.Load.{byteAt}
-use Rattle.trace_text.specs.Trace.{traceHeaderLength, settingsIn, countIn, samplesIn, wellFormed, sampleStart, buffersAt}
+use Rattle.trace_text.specs.Trace.{buffersAt}
 use Rattle.trace_text.specs.Text.{textFrom, traceText}
-use Rattle.trace_text.proofs.ReadLaws.{well-tested}
 use Rattle.trace_text.proofs.BufferLaws.{buffers-long, buffers-samples, buffers-gains, buffers-entries}
 use Rattle.trace_text.proofs.TraceLaws.{state-is, accepted-text}
 use Rattle.cable_trace.specs.Limits.{countLimit}

@@ -7,10 +7,10 @@ use lib.ListN.{length, getD, take, drop, length-take, length-drop, List·getD-eq
 use lib.Seq.{take-all, take-take, length-take-le, getD-take, getD-drop, ext-getD}
 use lib.IntN.{ℤ, pos, natAbs, _+ℤ_, _*ℤ_, zero-*ℤ, +ℤ-idr}
 use Rattle.laws.specs.Sums.{each-of, each-take, each-drop, dot, dot-next, dot-bound}
-use Rattle.block.proofs.ValuesLaws.{values-length, values-at}
+use Rattle.laws.specs.Values.{values-length, values-at, values-same}
 use Rattle.cable_trace.specs.Limits.{responseLimit}
 use Rattle.cable_trace.specs.Calls.{tapsLength, sentPlace, window, sums, LineSummable, twice, row, rowSums, RowsSummable, RowSummable}
-use Rattle.cable_trace.proofs.LineLaws.{values-same, each-default, window-long}
+use Rattle.cable_trace.proofs.LineLaws.{each-default, window-long}
 
 -- ---- one sum
 

@@ -14,17 +14,16 @@ use Rattle.laws.specs.Machine.{fits-abs}
 use Rattle.laws.specs.Powers.{rises}
 use Rattle.laws.specs.Sums.{Each, each-at, each-of, dot}
 use Rattle.laws.specs.Tests.{each-tested}
+use Rattle.laws.specs.Values.{values-length, values-at, values, values-same, joined, joined-same}
+use Rattle.words.specs.Words.{bytes}
 use Rattle.steps.specs.Limits.{symbolLimit}
 use Rattle.steps.specs.Settings.{isSymbol}
 use Rattle.steps.proofs.SymbolLaws.{symbol-below}
-use Rattle.block.specs.Block.{values}
-use Rattle.block.proofs.ValuesLaws.{values-length, values-at}
-use Rattle.image.specs.Image.{bytes}
 use Rattle.checks.specs.Calls.{Sampled}
 use Rattle.cable_trace.specs.Limits.{responseLimit}
 use Rattle.cable_trace.specs.Calls.{sentLimit, placed, lineOf, sums, LineSummable, Gainable, sampleWord, sampleWords, NotNegative, wordBytes, traceBytes, sentLineLength}
-use Rattle.cable_trace.specs.Cable.{Cable, s, gain, sample, sampleCount, blockCount, traceHeader, sampleBytes, joined, entryPart, cableTrace}
-use Rattle.cable_trace.proofs.LineLaws.{values-same, line-small, window-is}
+use Rattle.cable_trace.specs.Cable.{Cable, s, gain, sample, sampleCount, blockCount, traceHeader, sampleBytes, entryPart, cableTrace}
+use Rattle.cable_trace.proofs.LineLaws.{line-small, window-is}
 use Rattle.cable_trace.proofs.GainLaws.{gain-most, sample-small}
 use Rattle.cable_trace.proofs.PutLaws.{word-is}
 
@@ -49,11 +48,6 @@ module _ (c : Cable) (few : sampleCount c ≤ sentLimit) (response : length (c .
   }
 
 -- ---- the trace
-
-joined-same : (f g : ℕ → List ℕ) (n : ℕ) → ((i : ℕ) → i < n → f i ≡ g i) → joined f n ≡ joined g n
-unfolding joined
-joined-same f g zero h = refl
-joined-same f g (suc n) h = ap₂ (λ (a b : List ℕ). a ++ b) (joined-same f g n (λ i l. h i (omega arith))) (h n (omega arith))
 
 pub words-whole : (r : ℕ) (sums : List ℤ) → Each NotNegative (sampleWords r sums)
 words-whole r sums =

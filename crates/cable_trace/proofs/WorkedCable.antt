@@ -5,11 +5,11 @@ use mathlib.Core.List.{[], _∷_, map}
 use Prim.Native.Nat.{_-_, _^_}
 use lib.IntN.{pos, negsuc}
 use Rattle.laws.specs.Sums.{dot}
+use Rattle.laws.specs.Values.{values, joined}
+use Rattle.words.specs.Words.{bytes}
 use Rattle.numbers.specs.Cut.{cut}
-use Rattle.block.specs.Block.{values}
 use Rattle.state.specs.Sizes.{given, settingsNumber}
-use Rattle.image.specs.Image.{bytes}
-use Rattle.cable_trace.specs.Cable.{Cable, s, greatest, gain, hasGain, sample, joined, cableTrace, lengthCause, listCause, cause, cableNumber}
+use Rattle.cable_trace.specs.Cable.{Cable, s, greatest, gain, hasGain, sample, cableTrace, lengthCause, listCause, cause, cableNumber}
 
 steps : Unit {0}
 unfolding dot cut values settingsNumber bytes s greatest gain sample joined cableTrace lengthCause listCause cause cableNumber

@@ -6,13 +6,14 @@ use Prim.Native.Nat.{ℕ}
 use lib.Dec.{eqb}
 use lib.ListN.{length}
 use lib.IntN.{ℤ}
-use Rattle.state.specs.Sizes.{given, settingsNumber}
+use Rattle.steps.specs.Settings.{Settings}
+use Rattle.state.specs.Sizes.{settingsNumber}
 use Rattle.cable_trace.specs.Cable.{Cable, cause, cableNumber, cableTrace}
 use Rattle.cable_trace.specs.declared.Simulated.{Simulated}
 
--- the cable of these numbers and lists
-abbrev pub cableOf : ℕ → ℕ → ℕ → ℕ → ℕ → ℕ → List ℤ → List ℤ → ℕ → Cable
-cableOf p q N r L M response symbols training = record { settings = given p q N r L M; response = response; symbols = symbols; training = training }
+-- the cable of these settings and lists
+abbrev pub cableOf : Settings → List ℤ → List ℤ → ℕ → Cable
+cableOf k response symbols training = record { settings = k; response = response; symbols = symbols; training = training }
 
 -- the trace of an accepted cable, or what there was
 abbrev pub written : Cable → List ℕ → List ℕ

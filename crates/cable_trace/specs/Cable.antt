@@ -1,21 +1,18 @@
 -- A cable on paper: a response, the symbols that are sent over it, and the trace that a station receives.
 use mathlib.Core.Bool.{Bool, _&&_, cond}
-use mathlib.Core.List.{List, [], _∷_, _++_}
+use mathlib.Core.List.{List}
 use Prim.Native.Nat.{ℕ, zero, suc, _+_, _*_, _-_, _/_, _%_, _^_}
 use lib.Dec.{leb, ltb, eqb}
 use lib.ListN.{length, getD}
 use lib.IntN.{ℤ, pos, natAbs}
-use mir.Syntax.{w8, w16}
-use mir.Val.{ofZ}
 use Rattle.laws.specs.Lists.{all}
 use Rattle.laws.specs.Sums.{dot}
+use Rattle.laws.specs.Values.{values}
 use Rattle.numbers.specs.Cut.{rescale}
 use Rattle.steps.specs.Limits.{gainLimit}
 use Rattle.steps.specs.Settings.{Settings, isSymbol}
-use Rattle.block.specs.Block.{values}
+use Rattle.trace_layout.specs.Trace.{traceHeaderLength, traceLimit, traceOf}
 use Rattle.state.specs.Sizes.{settingsNumber}
-use Rattle.image.specs.Image.{bytes, width}
-use Rattle.trace_text.specs.Trace.{traceHeaderLength, traceLimit}
 use Rattle.cable_trace.specs.Limits.{responseLimit, countLimit}
 
 -- what is given: the settings, the response h in units of 1/32768, the symbols, and how many of them are training entries
@@ -72,28 +69,11 @@ blockCount c = sampleCount c / c .settings .N
 abbrev pub traceLength : Cable → ℕ
 traceLength c = traceHeaderLength + 4 * sampleCount c
 
--- p, q, N, r, L, a 0 byte, the block count and M
-abbrev pub traceHeader : Settings → ℕ → List ℕ
-traceHeader k count = k .p ∷ k .q ∷ k .N ∷ k .r ∷ k .L ∷ 0 ∷ (bytes 2 count ++ bytes 4 (k .M))
-
--- m and its gain
-abbrev pub sampleBytes : ℕ → ℤ → List ℕ
-sampleBytes r s = bytes (width w16) (ofZ w16 (sample r s)) ++ (gain r s ∷ [])
-
--- the lists f 0 to f (n − 1), one after another
-unfoldable pub joined : (ℕ → List ℕ) → ℕ → List ℕ
-joined f zero = []
-joined f (suc n) = joined f n ++ f n
-
--- 3 bytes for each sample, one for each training entry
-abbrev pub samplePart : Cable → List ℕ
-samplePart c = joined (λ n. sampleBytes (c .settings .r) (s c n)) (sampleCount c)
-
-abbrev pub entryPart : Cable → List ℕ
-entryPart c = values (λ n. ofZ w8 (entry c n)) (sampleCount c)
-
+-- its samples, gains and training entries in the trace layout
 unfoldable pub cableTrace : Cable → List ℕ
-cableTrace c = traceHeader (c .settings) (blockCount c) ++ (samplePart c ++ entryPart c)
+cableTrace c =
+    let r = c .settings .r in
+    traceOf (c .settings) (blockCount c) (λ n. sample r (s c n)) (λ n. gain r (s c n)) (entry c) (sampleCount c)
 
 -- ---- what is turned down
 

@@ -11,16 +11,16 @@ use Rattle.laws.specs.Lists.{all}
 use Rattle.laws.specs.Sums.{Each, dot}
 use mir.Syntax.{w8, w16}
 use mir.Val.{ofZ}
+use Rattle.laws.specs.Values.{values, joined}
+use Rattle.words.specs.Words.{bytes}
 use Rattle.numbers.specs.BitLength.{bitLength}
 use Rattle.numbers.specs.Cut.{rescale}
 use Rattle.steps.specs.Limits.{symbolLimit, gainLimit}
 use Rattle.steps.specs.Settings.{Settings}
-use Rattle.block.specs.Block.{values}
+use Rattle.trace_layout.specs.Trace.{traceHeaderLength, traceLimit, traceHeader}
 use Rattle.cable_trace.specs.Limits.{responseLimit}
 use Rattle.state.specs.Sizes.{settingsNumber}
-use Rattle.image.specs.Image.{bytes}
-use Rattle.trace_text.specs.Trace.{traceHeaderLength, traceLimit}
-use Rattle.cable_trace.specs.Cable.{Cable, s, gain, hasGain, sample, sampleCount, traceHeader, joined, cableTrace, gainAvailable, listCause}
+use Rattle.cable_trace.specs.Cable.{Cable, s, gain, hasGain, sample, sampleCount, cableTrace, gainAvailable, listCause}
 
 -- ---- lengths that follow from those of a trace
 
@@ -163,8 +163,8 @@ traceBytes k symbols training words =
     ++ (joined (λ n. take 3 (wordBytes words n)) (length words)
     ++ values (λ n. ofZ w8 (cond (ltb n training) (getD symbols n (pos 0)) (pos 0))) (length symbols))
 
-pub record Puttable (N : ℕ) (symbols : List ℤ) (training : ℕ) (words : List ℤ) (out : List ℕ) : Type 0 where
-  pub N-least : 1 ≤ N
+pub record Puttable (k : Settings) (symbols : List ℤ) (training : ℕ) (words : List ℤ) (out : List ℕ) : Type 0 where
+  pub N-least : 1 ≤ k .N
   pub some : 1 ≤ length symbols
   pub few : length symbols ≤ sentLimit
   pub training-most : training ≤ length symbols

@@ -8,11 +8,12 @@ use lib.ListN.{getD}
 use lib.IntN.{pos, natAbs}
 use Rattle.steps.specs.Limits.{gainLimit}
 use Rattle.steps.specs.Settings.{isEntry}
+use Rattle.trace_layout.specs.Trace.{settingsIn, countIn, samplesIn, wellFormed, traceSample, traceGain, traceEntry}
 use Rattle.state.specs.Sizes.{settingsNumber}
 use Rattle.state.specs.State.{fresh}
 use Rattle.state.specs.declared.equaliser.Equaliser.{Equaliser}
 use Rattle.station.specs.Answers.{runNumber, runState}
-use Rattle.trace_text.specs.Trace.{settingsIn, countIn, samplesIn, wellFormed, traceSample, traceGain, traceEntry, buffersAt}
+use Rattle.trace_text.specs.Trace.{buffersAt}
 use Rattle.trace_text.specs.Text.{textFrom, traceText}
 use Rattle.cable_trace.specs.Cable.{Cable, s, gain, sample, entry, sampleCount, blockCount}
 

@@ -7,7 +7,8 @@ ghost use Rattle.steps.specs.Settings.{isSymbol};
 ghost use Rattle.cable_trace.specs.Cable.{responseFits, blocksFit, lengthCause, listCause};
 ghost use Rattle.cable_trace.specs.Answers.{cableOf};
 use super::limits;
-use trace_text::limits::TRACE_HEADER;
+use steps::settings::Settings;
+use trace_layout::limits::TRACE_HEADER;
 
 fn is_symbol(v: i8, r: u32) -> bool
     requires { ⌜ r ≤ symbolLimit ⌝ }
@@ -44,14 +45,14 @@ fn blocks_fit(n: usize, symbols: usize) -> bool
 }
 
 // 1 to 4, by the lengths of the lists: the first of them, or 0.
-fn length_cause(n: u8, response: &[i16], symbols: &[i8], training: usize) -> u8
-    requires { ⌜ 1 ≤ n ⌝ }
-    ensures { λ f. ⌜ f ≡ lengthCause (cableOf 1 1 n 0 0 0 (now (response .entry)) (now (symbols .entry)) training) ⌝ }
+fn length_cause(k: Settings, response: &[i16], symbols: &[i8], training: usize) -> u8
+    requires { ⌜ 1 ≤ k .N ⌝ }
+    ensures { λ f. ⌜ f ≡ lengthCause (cableOf k (now (response .entry)) (now (symbols .entry)) training) ⌝ }
 {
     if !response_fits(response.len()) {
         return 1;
     }
-    if !blocks_fit(n as usize, symbols.len()) {
+    if !blocks_fit(k.N as usize, symbols.len()) {
         return 2;
     }
     if symbols.len() < training {
@@ -62,21 +63,20 @@ fn length_cause(n: u8, response: &[i16], symbols: &[i8], training: usize) -> u8
 
 // 1 to 6: the first of them, or 0.
 pub fn list_cause(
-    n: u8,
-    r: u8,
+    k: Settings,
     response: &[i16],
     symbols: &[i8],
     training: usize,
     room: usize,
 ) -> u8
-    requires { ⌜ (1 ≤ n) × (r ≤ symbolLimit) ⌝ }
-    ensures { λ f. ⌜ f ≡ listCause (cableOf 1 1 n r 0 0 (now (response .entry)) (now (symbols .entry)) training) room ⌝ }
+    requires { ⌜ (1 ≤ k .N) × (k .r ≤ symbolLimit) ⌝ }
+    ensures { λ f. ⌜ f ≡ listCause (cableOf k (now (response .entry)) (now (symbols .entry)) training) room ⌝ }
 {
-    let cause = length_cause(n, response, symbols, training);
+    let cause = length_cause(k, response, symbols, training);
     if cause != 0 {
         return cause;
     }
-    if !all_symbols(symbols, r as u32) {
+    if !all_symbols(symbols, k.r as u32) {
         return 5;
     }
     if room == TRACE_HEADER + 4 * symbols.len() {

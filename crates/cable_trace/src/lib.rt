@@ -2,6 +2,7 @@
 ghost use lib.ListN.{length};
 ghost use Rattle.cable_trace.specs.Answers.{cableOf, Output, Simulation};
 ghost use Rattle.cable_trace.specs.Calls.{Makeable, Made};
+use steps::settings::Settings;
 
 pub mod causes;
 pub mod limits;
@@ -18,63 +19,53 @@ pub struct Simulated {
 
 // The trace of a cable whose settings and lists fit. Whether its gains fit too: where they don't, the output is as it was.
 fn make(
-    p: u8,
-    q: u8,
-    n: u8,
-    r: u8,
-    l: u8,
-    m: u32,
+    k: Settings,
     response: &[i16],
     symbols: &[i8],
     training: usize,
     out: &mut [u8],
 ) -> bool
-    requires { ⌜ Makeable (cableOf p q n r l m (now response) (now symbols) training) (length (now out)) ⌝ }
-    ensures { λ f. ⌜ Made (cableOf p q n r l m (now (response .entry)) (now (symbols .entry)) training) (now (out .entry)) f (now (out .exit)) ⌝ }
+    requires { ⌜ Makeable (cableOf k (now response) (now symbols) training) (length (now out)) ⌝ }
+    ensures { λ f. ⌜ Made (cableOf k (now (response .entry)) (now (symbols .entry)) training) (now (out .entry)) f (now (out .exit)) ⌝ }
 {
     let mut line = sums::empty_line();
     let mut sums = sums::empty_sums();
-    let k = symbols.len();
+    let n = symbols.len();
     checks::lists::sixteen_bits(response);
     sums::line(symbols, &mut line);
-    let bits = sums::sums(response, &line, &mut sums[0..k]);
-    if 15 + (r as u32) - (l as u32) < numbers::bit_length::bit_length(bits as u64) {
+    let bits = sums::sums(response, &line, &mut sums[0..n]);
+    if 15 + (k.r as u32) - (k.L as u32) < numbers::bit_length::bit_length(bits as u64) {
         return false;
     }
-    put::trace(p, q, n, r, l, m, symbols, training, &mut sums[0..k], out);
+    put::trace(k, symbols, training, &mut sums[0..n], out);
     true
 }
 
 // The trace that a station receives, or the number of the refusal and the output as it was.
 pub fn simulate(
-    p: u8,
-    q: u8,
-    n: u8,
-    r: u8,
-    l: u8,
-    m: u32,
+    k: Settings,
     response: &[i16],
     symbols: &[i8],
     training: usize,
     out: &mut [u8],
 ) -> Simulated
-    ensures { λ a. ⌜ Simulation (cableOf p q n r l m (now (response .entry)) (now (symbols .entry)) training) (now (out .entry)) a (now (out .exit)) ⌝ }
+    ensures { λ a. ⌜ Simulation (cableOf k (now (response .entry)) (now (symbols .entry)) training) (now (out .entry)) a (now (out .exit)) ⌝ }
 {
-    let number = state::sizes::settings_number(p, q, n, r, l, m);
+    let number = state::sizes::settings_number(k);
     if number != 0 {
         return Simulated {
             number: number,
             cause: 0,
         };
     }
-    let cause = causes::list_cause(n, r, response, symbols, training, out.len());
+    let cause = causes::list_cause(k, response, symbols, training, out.len());
     if cause != 0 {
         return Simulated {
             number: 10,
             cause: cause,
         };
     }
-    if make(p, q, n, r, l, m, response, symbols, training, out) {
+    if make(k, response, symbols, training, out) {
         Simulated {
             number: 0,
             cause: 0,
@@ -89,18 +80,13 @@ pub fn simulate(
 
 // The same, without the cause.
 pub fn cable(
-    p: u8,
-    q: u8,
-    n: u8,
-    r: u8,
-    l: u8,
-    m: u32,
+    k: Settings,
     response: &[i16],
     symbols: &[i8],
     training: usize,
     out: &mut [u8],
 ) -> u8
-    ensures { λ number. ⌜ Output (cableOf p q n r l m (now (response .entry)) (now (symbols .entry)) training) (now (out .entry)) number (now (out .exit)) ⌝ }
+    ensures { λ number. ⌜ Output (cableOf k (now (response .entry)) (now (symbols .entry)) training) (now (out .entry)) number (now (out .exit)) ⌝ }
 {
-    simulate(p, q, n, r, l, m, response, symbols, training, out).number
+    simulate(k, response, symbols, training, out).number
 }

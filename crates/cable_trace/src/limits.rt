@@ -1,5 +1,5 @@
 // The limits of a cable, and the lengths that follow from those of a trace.
-use trace_text::limits;
+use trace_layout::limits;
 
 // Values of a response.
 pub const RESPONSE: usize = 32;

@@ -56,7 +56,7 @@ fn word(r: u32, s: i32) -> i32
 {
     let b = float_bits(s);
     let e = b / limits::DIGITS % limits::EXPONENTS;
-    let m = image::save::word(sample(r, s, b, e) as i16);
+    let m = words::write::word(sample(r, s, b, e) as i16);
     ((m as u32) + limits::GAIN_UNIT * gain(r, e)) as i32
 }
 

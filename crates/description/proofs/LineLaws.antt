@@ -8,9 +8,9 @@ use native.Mathlib.Decide.{decLt}
 use lib.Dec.{eqb}
 use lib.ListN.{length}
 use borrow.Author.Tests.{ne-eqb}
-use Rattle.image.specs.Load.{byteAt}
-use Rattle.trace_text.specs.Trace.{traceHeaderLength, traceLimit, samplesIn, wellFormed}
-use Rattle.trace_text.proofs.ReadLaws.{well-short, well-large, well-tested}
+use Rattle.words.specs.Words.{byteAt}
+use Rattle.trace_layout.specs.Trace.{traceHeaderLength, traceLimit, samplesIn, wellFormed}
+use Rattle.trace_layout.proofs.ReadLaws.{well-short, well-large, well-tested}
 use Rattle.description.specs.Texts.{text}
 use Rattle.description.specs.Description.{malformedLine, causeLine, refusalLine}
 

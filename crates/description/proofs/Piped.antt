@@ -6,7 +6,7 @@ use mathlib.Core.Logic.{inl, inr}
 use Prim.Native.Nat.{ℕ}
 use lib.Dec.{eqb}
 use borrow.Author.Tests.{eqb-true, eqb-false}
-use Rattle.image.specs.Load.{byteAt}
+use Rattle.words.specs.Words.{byteAt}
 use Rattle.trace_text.specs.Text.{stopLine, traceText}
 use Rattle.trace_text.proofs.TraceLaws.{not-well-formed}
 use Rattle.cable_trace.specs.Cable.{Cable, traceLength, cause, cableNumber}

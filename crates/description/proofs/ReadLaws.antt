@@ -8,7 +8,7 @@ use lib.Dec.{leb, eqb}
 use lib.ListN.{length}
 use borrow.Author.Tests.{le-leb, lt-leb, leb-true, eqb-true}
 use Rattle.laws.specs.Lists.{and-left, and-right}
-use Rattle.image.specs.Load.{byteAt}
+use Rattle.words.specs.Words.{byteAt}
 use Rattle.description.specs.Description.{descriptionHeaderLength, descriptionLimit, descriptionEnd, wellDescribed}
 
 module _ (t : List ℕ) where

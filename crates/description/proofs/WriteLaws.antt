@@ -12,14 +12,13 @@ use mir.Syntax.{w8, w16}
 use mir.Val.{toZ}
 use borrow.Author.Tests.{le-leb, leb-true, eq-eqb, ne-eqb, eqb-false}
 use borrow.Rule.Slice.PartMut.{mid-len}
+use Rattle.laws.specs.Values.{values-length, values}
+use Rattle.words.specs.Words.{byteAt, numberAt}
 use Rattle.steps.specs.Settings.{Settings}
-use Rattle.block.specs.Block.{values}
-use Rattle.block.proofs.ValuesLaws.{values-length}
+use Rattle.trace_layout.specs.Trace.{traceLimit}
 use Rattle.state.specs.Sizes.{sizesFit, admits, settingsNumber}
 use Rattle.state.proofs.SizesLaws.{settings-refused, settings-number}
-use Rattle.image.specs.Load.{byteAt}
-use Rattle.trace_text.specs.Trace.{traceLimit, unsigned16, unsigned32}
-use Rattle.trace_text.specs.Trace as Trace
+use Rattle.trace_layout.specs.Trace as Trace
 use Rattle.trace_text.specs.Calls.{TextAt}
 use Rattle.cable_trace.specs.Cable.{Cable, sampleCount, traceLength, cableTrace, cause, cableNumber}
 use Rattle.cable_trace.specs.Answers.{cableOf, Simulation}
@@ -38,9 +37,9 @@ from-zero l n = ap (λ (m : ℕ). take m l) same
 -- ---- the cable
 
 module _ (t : List ℕ) where
-  pub response-in : (k : ℕ) → k ≡ responseIn t → values (λ i. toZ w16 (unsigned16 t (descriptionHeaderLength + 2 * i))) k ≡ cableIn t .response
+  pub response-in : (k : ℕ) → k ≡ responseIn t → values (λ i. toZ w16 (numberAt 2 t (descriptionHeaderLength + 2 * i))) k ≡ cableIn t .response
   unfolding cableIn
-  response-in k e = ap (values (λ i. toZ w16 (unsigned16 t (descriptionHeaderLength + 2 * i)))) e
+  response-in k e = ap (values (λ i. toZ w16 (numberAt 2 t (descriptionHeaderLength + 2 * i)))) e
 
   pub symbols-in : (start n : ℕ) → start ≡ symbolsPlace t → n ≡ symbolsIn t → values (λ i. toZ w8 (byteAt t (start + i))) n ≡ cableIn t .symbols
   unfolding cableIn
@@ -50,12 +49,12 @@ module _ (t : List ℕ) where
   unfolding cableIn
   samples-in = values-length _ (symbolsIn t)
 
-  pub cable-in : (m : ℕ) (h v : List ℤ) (n : ℕ) → m ≡ unsigned32 t 8 → h ≡ cableIn t .response → v ≡ cableIn t .symbols → n ≡ trainingIn t →
+  pub cable-in : (m : ℕ) (h v : List ℤ) (n : ℕ) → m ≡ numberAt 4 t 8 → h ≡ cableIn t .response → v ≡ cableIn t .symbols → n ≡ trainingIn t →
       cableOf (byteAt t 0) (byteAt t 1) (byteAt t 2) (byteAt t 3) (byteAt t 4) m h v n ≡ cableIn t
   unfolding cableIn
   cable-in m h v n a b c d =
       ap₂ (λ (x : ℕ) (y : List ℤ). cableOf (byteAt t 0) (byteAt t 1) (byteAt t 2) (byteAt t 3) (byteAt t 4) x y v n) a b
-      ∙ ap₂ (λ (x : List ℤ) (y : ℕ). cableOf (byteAt t 0) (byteAt t 1) (byteAt t 2) (byteAt t 3) (byteAt t 4) (unsigned32 t 8) (cableIn t .response) x y) c d
+      ∙ ap₂ (λ (x : List ℤ) (y : ℕ). cableOf (byteAt t 0) (byteAt t 1) (byteAt t 2) (byteAt t 3) (byteAt t 4) (numberAt 4 t 8) (cableIn t .response) x y) c d
 
 pub simulation-same : {c k : Cable} {before after : List ℕ} {a : Simulated} → c ≡ k → Simulation c before a after → Simulation k before a after
 simulation-same {before = before} {after = after} {a = a} e s = subst (λ (x : Cable). Simulation x before a after) e s

@@ -5,8 +5,8 @@ use mathlib.Core.List.{List}
 use Prim.Native.Nat.{ℕ, _+_, _*_, _/_, _≤_}
 use lib.Dec.{leb}
 use lib.ListN.{length}
-use Rattle.trace_text.specs.Trace.{traceLimit}
-use Rattle.trace_text.specs.Trace as Trace
+use Rattle.trace_layout.specs.Trace.{traceLimit}
+use Rattle.trace_layout.specs.Trace as Trace
 use Rattle.description.specs.Description.{descriptionLimit, wellDescribed}
 
 -- no description has as many values of a response

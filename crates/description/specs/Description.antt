@@ -6,9 +6,9 @@ use lib.Dec.{leb, eqb}
 use lib.ListN.{length}
 use mir.Syntax.{w8, w16}
 use mir.Val.{toZ}
-use Rattle.block.specs.Block.{values}
-use Rattle.image.specs.Load.{byteAt}
-use Rattle.trace_text.specs.Trace.{unsigned16, unsigned32, settingsIn}
+use Rattle.laws.specs.Values.{values}
+use Rattle.words.specs.Words.{byteAt, numberAt}
+use Rattle.trace_layout.specs.Trace.{settingsIn}
 use Rattle.cable_trace.specs.Cable.{Cable, traceLength, cableTrace, cause, cableNumber}
 use Rattle.description.specs.Texts.{text}
 
@@ -21,13 +21,13 @@ descriptionLimit = 65536
 
 -- p, q, N, r, L, a 0 byte, the values of the response, M, the symbols, and how many of these are training entries
 abbrev pub responseIn : List ℕ → ℕ
-responseIn t = unsigned16 t 6
+responseIn t = numberAt 2 t 6
 
 abbrev pub symbolsIn : List ℕ → ℕ
-symbolsIn t = unsigned32 t 12
+symbolsIn t = numberAt 4 t 12
 
 abbrev pub trainingIn : List ℕ → ℕ
-trainingIn t = unsigned32 t 16
+trainingIn t = numberAt 4 t 16
 
 -- where the symbols begin, and where the description ends
 abbrev pub symbolsPlace : List ℕ → ℕ
@@ -43,7 +43,7 @@ wellDescribed t = leb descriptionHeaderLength (length t) && leb (length t) descr
 unfoldable pub cableIn : List ℕ → Cable
 cableIn t = record {
   settings = settingsIn t;
-  response = values (λ i. toZ w16 (unsigned16 t (descriptionHeaderLength + 2 * i))) (responseIn t);
+  response = values (λ i. toZ w16 (numberAt 2 t (descriptionHeaderLength + 2 * i))) (responseIn t);
   symbols = values (λ i. toZ w8 (byteAt t (symbolsPlace t + i))) (symbolsIn t);
   training = trainingIn t;
 }

@@ -1,7 +1,7 @@
 // What the program `cable` writes for a description.
 ghost use Rattle.trace_text.specs.TextFront.{TextFront};
 ghost use Rattle.description.specs.Description.{described};
-use trace_text::limits::TRACE;
+use trace_layout::limits::TRACE;
 
 pub mod limits;
 pub mod line;

@@ -1,8 +1,8 @@
 // The line of a refusal at the front of lent bytes. Each function answers where it ends.
 ghost use Prim.Native.Nat.{_≤_};
 ghost use lib.ListN.{length};
+ghost use Rattle.trace_layout.specs.Trace.{traceLimit};
 ghost use Rattle.trace_text.specs.Calls.{TextAt};
-ghost use Rattle.trace_text.specs.Trace.{traceLimit};
 ghost use Rattle.description.specs.Description.{malformedLine, causeLine, refusalLine};
 use trace_text::line::word;
 

@@ -4,9 +4,8 @@ ghost use Prim.Native.Nat.{_+_, _*_, _≤_};
 ghost use lib.ListN.{length};
 ghost use mir.Syntax.{w8, w16};
 ghost use mir.Val.{toZ};
-ghost use Rattle.block.specs.Block.{values};
-ghost use Rattle.image.specs.Load.{byteAt};
-ghost use Rattle.trace_text.specs.Trace.{unsigned16, unsigned32};
+ghost use Rattle.laws.specs.Values.{values};
+ghost use Rattle.words.specs.Words.{byteAt, numberAt};
 ghost use Rattle.description.specs.Description.{descriptionHeaderLength, responseIn, symbolsIn, trainingIn, wellDescribed};
 use super::limits::DESCRIPTION;
 use super::limits::DESCRIPTION_HEADER;
@@ -36,7 +35,7 @@ pub fn training_count(t: &[u8]) -> usize
 // M.
 pub fn step(t: &[u8]) -> u32
     requires { ⌜ descriptionHeaderLength ≤ length (now t) ⌝ }
-    ensures { λ r. ⌜ r ≡ unsigned32 (now (t .entry)) 8 ⌝ }
+    ensures { λ r. ⌜ r ≡ numberAt 4 (now (t .entry)) 8 ⌝ }
 {
     image::bytes::unsigned32(t[8], t[9], t[10], t[11])
 }
@@ -57,7 +56,7 @@ pub fn well_described(t: &[u8]) -> bool
 // The values of the response.
 pub fn response(t: &[u8], out: &mut [i16])
     requires { ⌜ descriptionHeaderLength + 2 * length (now out) ≤ length (now t) ⌝ }
-    ensures { λ _. ⌜ now (out .exit) ≡ values (λ i. toZ w16 (unsigned16 (now (t .entry)) (descriptionHeaderLength + 2 * i))) (length (now (out .entry))) ⌝ }
+    ensures { λ _. ⌜ now (out .exit) ≡ values (λ i. toZ w16 (numberAt 2 (now (t .entry)) (descriptionHeaderLength + 2 * i))) (length (now (out .entry))) ⌝ }
 {
     let mut i: usize = 0;
     while i < out.len() {

@@ -11,8 +11,8 @@ use super::limits::DESCRIPTION;
 use super::limits::RESPONSE;
 use super::read;
 use cable_trace::Simulated;
-use trace_text::limits::TRACE;
-use trace_text::limits::TRACE_HEADER;
+use trace_layout::limits::TRACE;
+use trace_layout::limits::TRACE_HEADER;
 
 fn response_room() -> [i16; RESPONSE]
     ensures { λ r. ⌜ length r ≡ responseRoom ⌝ }

@@ -36,6 +36,7 @@ use denote.Triple.Statement.{Contract, Triple}
 use denote.Triple.Call.{calls-at}
 use denote.Triple.Clauses.{Lasts}
 use Rattle.station.specs.Answers as answers
+use Rattle.block.specs.Block.{outputsOf}
 use Rattle.checks.specs.Checks.{buffersOf}
 use Rattle.state.specs.declared.equaliser.Equaliser.{Equaliser}
 use Rattle.state.specs.declared.equaliser.Answer.{Answer}
@@ -107,7 +108,7 @@ module _ {M : Type 1} (𝓤 : URA M) (H : Heap 𝓤) (A : Atoms 𝓤) (W : Given
   Ran r ws =
       answers.Run h
       (buffersOf (now (ss .0)) (now (ss .1 .0)) (now (ss .1 .1 .0)) (now (ss .1 .1 .1 .0)) (now (ss .1 .1 .1 .1 .0)) (now (ss .1 .1 .1 .1 .1 .0)) (now (ss .1 .1 .1 .1 .1 .1 .0)) (now (ss .1 .1 .1 .1 .1 .1 .1 .0)))
-      r (ws .1 .1 .1 .1 .0) (ws .1 .1 .1 .1 .1 .0) (ws .1 .1 .1 .1 .1 .1 .0) (ws .1 .1 .1 .1 .1 .1 .1 .0) (ws .1 .1 .1 .1 .1 .1 .1 .1 .0)
+      r (outputsOf (ws .1 .1 .1 .1 .0) (ws .1 .1 .1 .1 .1 .0) (ws .1 .1 .1 .1 .1 .1 .0) (ws .1 .1 .1 .1 .1 .1 .1 .0) (ws .1 .1 .1 .1 .1 .1 .1 .1 .0))
 
   abbrev pub last-lists : Lasts by-value.ended κs (h, ss) → Fml
   last-lists ws = lastsOf κs (rest (by-value.signature .params)) (all yes (rest (by-value.signature .params))) ss (ws .1)

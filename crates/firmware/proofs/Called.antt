@@ -4,8 +4,9 @@ use mathlib.Core.List.{List, [], _∷_}
 use Prim.Native.Nat.{ℕ, _≤_}
 use lib.ListN.{length, take}
 use Rattle.laws.specs.Sums.{Each}
+use Rattle.words.specs.Words.{Byte}
 use Rattle.steps.specs.Limits.{slots}
-use Rattle.image.specs.Image.{Byte, image, saveNumber, saveLength, saveBuffer}
+use Rattle.image.specs.Image.{image, saveNumber, saveLength, saveBuffer}
 use Rattle.image.specs.Load.{loadNumber, loadState, Load}
 use Rattle.image.specs.declared.save.Saved.{Saved}
 use Rattle.image.proofs.ImageLaws.{save-examined}
@@ -16,7 +17,6 @@ use Rattle.state.proofs.SoundLaws.{Accepted}
 use Rattle.checks.specs.Checks.{Buffers}
 use Rattle.station.specs.Answers.{runNumber, runState, runOutputs}
 use Rattle.station.specs.Claim.{Call, run, trial, save, load, Start, from-set-up, from-load, WithinLimits}
-use Rattle.station.proofs.AnswerLaws.{outputs-are, run-is}
 use Rattle.station.proofs.Claim.{start-within, left-within, run-holds, trial-holds, save-holds, load-holds}
 use Rattle.firmware.specs.Held.{InPlace, Saving}
 use Rattle.firmware.specs.Called as C
@@ -63,9 +63,9 @@ records-are (C.loaded s bytes t cs a r c) = ap (λ ss. s ∷ ss) (records-are c 
 
 answers-are : {s : Equaliser} {cs : List Call} (c : Called s cs) → answersOf c ≡ answers s cs
 answers-are (C.end s) = refl
-answers-are (C.ran s l t cs n s′ h r c) = ap₂ _∷_ (ap₂ by-run (r .number) (outputs-are r)) (answers-are c ∙ ap (λ x. answers x cs) (r .state))
+answers-are (C.ran s l t cs n s′ h r c) = ap₂ _∷_ (ap₂ by-run (r .number) (r .outputs)) (answers-are c ∙ ap (λ x. answers x cs) (r .state))
 answers-are (C.tried s l t cs a s′ h r c) =
-    ap₂ _∷_ (ap₂ by-trial (λ i. record { number = r .0 .number i; state = r .0 .state i }) (outputs-are (r .0))) (answers-are c ∙ ap (λ x. answers x cs) (r .1))
+    ap₂ _∷_ (ap₂ by-trial (λ i. record { number = r .0 .number i; state = r .0 .state i }) (r .0 .outputs)) (answers-are c ∙ ap (λ x. answers x cs) (r .1))
 answers-are (C.saved s buffer t cs a s′ after r c) =
     ap₂ _∷_ (ap₂ by-save (λ i. record { number = r .0 .number i; length = r .0 .saved-length i }) (r .0 .contents)) (answers-are c ∙ ap (λ x. answers x cs) (r .1))
 answers-are (C.loaded s bytes t cs a r c) = ap₂ _∷_ (ap by-load (λ i. record { number = r .number i; state = r .state i })) (answers-are c ∙ ap (λ x. answers x cs) (r .state))
@@ -79,9 +79,9 @@ began-start (by-loading bytes t a r e) = from-load bytes t (e ∙ r .state)
 all-hold : {s : Equaliser} {cs : List Call} (c : Called s cs) → WithinLimits s → CalledHolds c
 all-hold (C.end s) g = g
 all-hold (C.ran s l t cs n s′ h r c) g =
-    (g, (rw (r .number, r .state, outputs-are r) (run-holds s g l t), all-hold c (subst WithinLimits (sym (r .state)) (left-within s g (run l t)))))
+    (g, (rw (r .number, r .state, r .outputs) (run-holds s g l t), all-hold c (subst WithinLimits (sym (r .state)) (left-within s g (run l t)))))
 all-hold (C.tried s l t cs a s′ h r c) g =
-    (g, (rw (r .0 .number, r .0 .state, outputs-are (r .0)) (trial-holds s g l t), all-hold c (subst WithinLimits (sym (r .1)) g)))
+    (g, (rw (r .0 .number, r .0 .state, r .0 .outputs) (trial-holds s g l t), all-hold c (subst WithinLimits (sym (r .1)) g)))
 all-hold (C.saved s buffer t cs a s′ after r c) g =
     (g, (rw (r .0 .number, r .0 .saved-length, r .0 .contents) (save-holds s g buffer), all-hold c (subst WithinLimits (sym (r .1)) g)))
 all-hold (C.loaded s bytes t cs a r c) g =
@@ -93,7 +93,7 @@ called-holds {s} b c = record { records-same = records-are c; answers-same = ans
 -- ---- the contracts can be met by every list of calls
 
 as-run : (s : Equaliser) (l : Buffers) → InPlace s l (runNumber s l) (runState s l) (runOutputs s l)
-as-run s l = run-is s l refl refl refl
+as-run s l = record { number = refl; state = refl; outputs = refl }
 
 pub called-exists : (s : Equaliser) (cs : List Call) → Called s cs
 called-exists s [] = C.end s

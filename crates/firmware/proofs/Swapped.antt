@@ -5,14 +5,13 @@ use Rattle.block.specs.Block.{Outputs}
 use Rattle.state.specs.declared.equaliser.Equaliser.{Equaliser}
 use Rattle.state.specs.declared.equaliser.Answer.{Answer}
 use Rattle.station.specs.Answers.{Run}
-use Rattle.station.proofs.AnswerLaws.{outputs-are}
 use Rattle.station.specs.Swapped.{SwappedPair, BuffersOfBoth, SameAnswers}
 use Rattle.station.proofs.Swapped.{same-runs, next-pair}
 use Rattle.firmware.specs.Swapped.{CalledBoth, end, ran, tried, CalledSwapped}
 
-module _ {s s′ : Equaliser} (p : SwappedPair s s′) (b : BuffersOfBoth) {a a′ : Answer} {h h′ : Outputs} (r : Run s (b .l) a (h .y) (h .xi) (h .decision) (h .z) (h .theta)) (r′ : Run s′ (b .l′) a′ (h′ .y) (h′ .xi) (h′ .decision) (h′ .z) (h′ .theta)) where
+module _ {s s′ : Equaliser} (p : SwappedPair s s′) (b : BuffersOfBoth) {a a′ : Answer} {h h′ : Outputs} (r : Run s (b .l) a h) (r′ : Run s′ (b .l′) a′ h′) where
   answers : SameAnswers (b .l) (a .number) h (b .l′) (a′ .number) h′
-  answers = rw (r .number, r′ .number, outputs-are r, outputs-are r′) (same-runs s s′ p (b .l) (b .l′) (b .lists))
+  answers = rw (r .number, r′ .number, r .outputs, r′ .outputs) (same-runs s s′ p (b .l) (b .l′) (b .lists))
 
   pair : SwappedPair (a .state) (a′ .state)
   pair = rw (r .state, r′ .state) (next-pair s s′ p (b .l) (b .l′) (b .lists) (b .typed) (b .typed′))

@@ -17,11 +17,7 @@ pub trial-is-run : (s : Equaliser) (l : Buffers) (a : Answer) (s′ : Equaliser)
 trial-is-run s l a s′ h n c k (t, e) r = record {
   number = t .number ∙ sym (r .number);
   state = t .state ∙ sym (r .state);
-  y-same = t .y-is ∙ sym (r .y-is);
-  xi-same = t .xi-is ∙ sym (r .xi-is);
-  decision-same = t .decision-is ∙ sym (r .decision-is);
-  z-same = t .z-is ∙ sym (r .z-is);
-  theta-same = t .theta-is ∙ sym (r .theta-is);
+  outputs = t .outputs ∙ sym (r .outputs);
 }
 
 -- blocks, saves and loads get the states of the list without its trials, and the last state is the same

@@ -3,10 +3,11 @@ use mathlib.Core.Path.{_≡_}
 use mathlib.Core.List.{List, [], _∷_}
 use Prim.Native.Nat.{ℕ}
 use Rattle.laws.specs.Sums.{Each}
+use Rattle.words.specs.Words.{Byte}
 use Rattle.steps.specs.Settings.{Settings}
 use Rattle.block.specs.Block.{Outputs}
 use Rattle.state.specs.Answers.{SetUp}
-use Rattle.image.specs.Image.{Byte, saveNumber, saveLength, saveBuffer}
+use Rattle.image.specs.Image.{saveNumber, saveLength, saveBuffer}
 use Rattle.image.specs.Load.{loadNumber, loadState, Load}
 use Rattle.image.specs.declared.save.Saved.{Saved}
 use Rattle.state.specs.declared.equaliser.Equaliser.{Equaliser}

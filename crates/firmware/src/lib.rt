@@ -1,5 +1,5 @@
 // The equaliser for firmware in C.
-ghost use Rattle.state.specs.Sizes.{given};
+ghost use Rattle.steps.specs.Settings.{given};
 ghost use Rattle.checks.specs.Checks.{buffersOf};
 ghost use Rattle.state.specs.Answers.{SetUp};
 ghost use Rattle.block.specs.Block.{outputsOf};
@@ -8,13 +8,23 @@ ghost use Rattle.firmware.specs.Held.{InPlace, Trial, Saving};
 use image::save::Saved;
 use state::equaliser::Answer;
 use state::equaliser::Equaliser;
+use steps::settings::Settings;
 
 // A fresh state, or the number of the refusal beside the smallest one.
 #[no_mangle]
 pub extern "C" fn tigbulode_set_up(p: u8, q: u8, n: u8, r: u8, l: u8, m: u32) -> Answer
     ensures { λ a. ⌜ SetUp (given p q n r l m) a ⌝ }
 {
-    Equaliser::set_up(p, q, n, r, l, m)
+    Equaliser::set_up(
+        Settings {
+            p: p,
+            q: q,
+            N: n,
+            r: r,
+            L: l,
+            M: m,
+        },
+    )
 }
 
 // The image at the front of a lent buffer, or the number of the refusal and the buffer as it was. The record is only read.
@@ -33,7 +43,7 @@ pub extern "C" fn tigbulode_load(bytes: &[u8]) -> Answer
     image::load::load(bytes)
 }
 
-// One block in place: the next state and five lists, or the number of the refusal and everything as it was.
+// One block in place: the next state and its outputs, or the number of the refusal and everything as it was.
 #[no_mangle]
 pub extern "C" fn tigbulode_run(
     s: &mut Equaliser,
@@ -53,7 +63,7 @@ pub extern "C" fn tigbulode_run(
     r.number
 }
 
-// A trial of a block: the state that would follow and five lists, or the number of the refusal, the given state and the lists as they were. The record is only read.
+// A trial of a block: the state that would follow and its outputs, or the number of the refusal, the given state and the lists as they were. The record is only read.
 #[no_mangle]
 pub extern "C" fn tigbulode_trial(
     s: &Equaliser,

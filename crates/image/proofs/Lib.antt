@@ -1,4 +1,3 @@
-pub mod ByteLaws
 pub mod WordLaws
 pub mod ImageLaws
 pub mod StateBits

@@ -3,12 +3,10 @@ use mathlib.Core.Path.{_≡_, sym, ap, _∙_}
 use mathlib.Core.List.{List}
 use Prim.Native.Nat.{ℕ}
 use borrow.Author.Tests.{eq-eqb, ne-eqb}
-use Rattle.state.specs.Sizes.{given}
-use Rattle.state.specs.State.{fresh, refused}
+use Rattle.state.specs.State.{refused}
 use Rattle.state.specs.Answers.{examined}
 use Rattle.image.specs.Load.{stateIn, frameNumber, loadNumber, loadState, Load}
 use Rattle.state.specs.declared.equaliser.Equaliser.{Equaliser}
-use Rattle.state.proofs.SetUpLaws.{smallest}
 
 module _ (l : List ℕ) where
   number-frame : (frameNumber l ≡ 0 → ⊥) → loadNumber l ≡ frameNumber l
@@ -28,21 +26,21 @@ module _ (l : List ℕ) where
   state-loaded h = rw (eq-eqb (loadNumber l) 0 h)
 
   module _ (n : ℕ) (s : Equaliser) (e : n ≡ loadNumber l) where
-    answer-refused : (n ≡ 0 → ⊥) → s ≡ fresh (given 1 1 1 0 0 0) → Load l (record { number = n; state = s })
-    answer-refused z f = record { number = e; state = f ∙ smallest ∙ sym (state-refused (λ q. z (e ∙ q))) }
+    answer-refused : (n ≡ 0 → ⊥) → s ≡ refused → Load l (record { number = n; state = s })
+    answer-refused z f = record { number = e; state = f ∙ sym (state-refused (λ q. z (e ∙ q))) }
 
     answer-state : n ≡ 0 → s ≡ stateIn l → Load l (record { number = 0; state = s })
     answer-state z f = record { number = sym z ∙ e; state = f ∙ sym (state-loaded (sym e ∙ z)) }
 
   module _ (f : ℕ) (g : f ≡ frameNumber l) where
-    pub load-frame : (s : Equaliser) → (f ≡ 0 → ⊥) → s ≡ fresh (given 1 1 1 0 0 0) → Load l (record { number = f; state = s })
+    pub load-frame : (s : Equaliser) → (f ≡ 0 → ⊥) → s ≡ refused → Load l (record { number = f; state = s })
     load-frame s z t = answer-refused f s (g ∙ sym (number-frame (λ q. z (g ∙ q)))) z t
 
     module _ (z : f ≡ 0) (x : Equaliser) (m : x ≡ stateIn l) (n : ℕ) (e : n ≡ examined x) where
       number-examined : n ≡ loadNumber l
       number-examined = e ∙ ap examined m ∙ sym (number-state (sym g ∙ z))
 
-      pub load-refused : (s : Equaliser) → (n ≡ 0 → ⊥) → s ≡ fresh (given 1 1 1 0 0 0) → Load l (record { number = n; state = s })
+      pub load-refused : (s : Equaliser) → (n ≡ 0 → ⊥) → s ≡ refused → Load l (record { number = n; state = s })
       load-refused s h t = answer-refused n s number-examined h t
 
       pub load-done : n ≡ 0 → Load l (record { number = 0; state = x })

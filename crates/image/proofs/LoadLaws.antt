@@ -13,18 +13,19 @@ use mir.Val.{SFits}
 use borrow.Author.Tests.{le-leb, eq-eqb, eqb-true, eqb-false, leb-true}
 use Rattle.laws.specs.Lists.{all}
 use Rattle.laws.specs.Sums.{Each, each-append, each-take, each-drop}
+use Rattle.words.specs.Words.{Byte, bytes, numberAt, width, words, wordsOf}
+use Rattle.words.proofs.ByteLaws.{bytes-each, words-each, byte-below, number-front, bytes-number, take-each, words-long, words-count, words-back, words-forth}
 use Rattle.state.specs.Sizes.{sizesFit}
 use Rattle.steps.specs.Limits.{slots}
 use Rattle.block.specs.Sound.{Sound}
 use Rattle.state.specs.State.{settings, memory, taps, padded, isZero, refused}
 use Rattle.state.specs.Answers.{examined}
-use Rattle.image.specs.Image.{Byte, bytes, width, words, header, imageHeaderLength, weightWord, datumWord, image, dataPlace, endPlace, imageLength, saveNumber, saveLength, saveBuffer}
-use Rattle.image.specs.Load.{littleEndian, wordsOf, tapsIn, weightBytes, pastBytes, stateIn, frameNumber, loadNumber, loadState}
+use Rattle.image.specs.Image.{header, imageHeaderLength, weightWord, datumWord, image, dataPlace, endPlace, imageLength, saveNumber, saveLength, saveBuffer}
+use Rattle.image.specs.Load.{tapsIn, weightBytes, pastBytes, stateIn, frameNumber, loadNumber, loadState}
 use Rattle.state.specs.declared.equaliser.Equaliser.{Equaliser}
 use Rattle.state.proofs.SoundLaws.{Accepted, accepted-sound, refused-accepted, examined-tests}
 use Rattle.image.proofs.StateBits.{spare-zero, step-bits, weights-bits, past-bits}
-use Rattle.image.proofs.ImageLaws.{taps-most, image-length, save-fits}
-use Rattle.image.proofs.ByteLaws.{bytes-each, words-each, take-each, little-endian-bytes, bytes-little-endian, words-long, words-count, words-back, words-forth}
+use Rattle.image.proofs.ImageLaws.{taps-most, header-length, image-length, save-fits}
 use Rattle.state.proofs.PaddedLaws.{padded-back, padded-long}
 
 -- ---- the tests of loading
@@ -77,28 +78,32 @@ module _ (e : Equaliser) (a : Accepted e) where
       ∙ ap padded (words-back w (take (taps e) l) fit)
       ∙ padded-back (taps e) l long (taps-most e (a .number)) spare
 
-  weights-in : padded (wordsOf weightWord (taps e) (weightBytes (image e))) ≡ e .weights
-  unfolding image bytes
+  -- what follows the header
+  after-header : drop imageHeaderLength (image e) ≡ words weightWord (take (taps e) (e .weights)) ++ words datumWord (take (taps e) (e .past))
+  unfolding image
+  after-header = drop-at (header e) _ imageHeaderLength (header-length e)
+
+  weights-in : padded (wordsOf weightWord (taps e) (take (width weightWord * taps e) (drop imageHeaderLength (image e)))) ≡ e .weights
   weights-in =
       ap (λ (l : List ℕ). padded (wordsOf weightWord (taps e) l))
-      (take-at (words weightWord (take (taps e) (e .weights))) (words datumWord (take (taps e) (e .past))) (width weightWord * taps e) (words-long weightWord (taps e) (e .weights) weights-within))
+      (ap (take (width weightWord * taps e)) after-header
+      ∙ take-at (words weightWord (take (taps e) (e .weights))) (words datumWord (take (taps e) (e .past))) (width weightWord * taps e) (words-long weightWord (taps e) (e .weights) weights-within))
       ∙ array-in weightWord (e .weights) (a .weights-long) (weights-bits e a) (spare-zero e (a .number) .0)
 
-  past-in : padded (wordsOf datumWord (taps e) (pastBytes (image e))) ≡ e .past
-  unfolding image bytes
+  past-in : padded (wordsOf datumWord (taps e) (take (width datumWord * taps e) (drop (dataPlace (taps e)) (image e)))) ≡ e .past
   past-in =
       let w = words weightWord (take (taps e) (e .weights)) in
       let d = words datumWord (take (taps e) (e .past)) in
       ap (λ (l : List ℕ). padded (wordsOf datumWord (taps e) (take (width datumWord * taps e) l)))
-      (sym (drop-drop (width weightWord * taps e) imageHeaderLength (image e)) ∙ drop-at w d (width weightWord * taps e) (words-long weightWord (taps e) (e .weights) weights-within))
+      (sym (drop-drop (width weightWord * taps e) imageHeaderLength (image e)) ∙ ap (drop (width weightWord * taps e)) after-header ∙ drop-at w d (width weightWord * taps e) (words-long weightWord (taps e) (e .weights) weights-within))
       ∙ ap (λ (l : List ℕ). padded (wordsOf datumWord (taps e) l)) (take-all (width datumWord * taps e) d (omega (arith, words-long datumWord (taps e) (e .past) past-within)))
       ∙ array-in datumWord (e .past) (a .past-long) (past-bits e a) (spare-zero e (a .number) .1)
 
-  step-in : littleEndian (bytes 4 (e .m)) ≡ e .m
-  step-in = little-endian-bytes 4 (e .m) (step-bits e a)
+  step-in : (l : List ℕ) → numberAt 4 (bytes 4 (e .m) ++ l) 0 ≡ e .m
+  step-in l = number-front 4 (e .m) l (step-bits e a)
 
   state-in : stateIn (image e) ≡ e
-  unfolding stateIn image bytes
+  unfolding stateIn image
   state-in = λ i. record {
     p = e .p;
     q = e .q;
@@ -108,7 +113,7 @@ module _ (e : Equaliser) (a : Accepted e) where
     psi = e .psi;
     b = e .b;
     bmax = e .bmax;
-    m = step-in i;
+    m = step-in (words weightWord (take (taps e) (e .weights)) ++ words datumWord (take (taps e) (e .past))) i;
     weights = weights-in i;
     past = past-in i;
   }
@@ -173,9 +178,7 @@ module _ (e : Equaliser) (a : Accepted e) where
 header-in : (l : List ℕ) → imageHeaderLength ≤ length l → Each Byte l → header (stateIn l) ≡ take imageHeaderLength l
 unfolding stateIn
 header-in l h b =
-    let m = take 4 (drop 8 l) in
-    ap₂ (λ (x y : List ℕ). x ++ y) (sym (take-each 8 0 l (omega arith)))
-    (ap (λ (k : ℕ). bytes k (littleEndian m)) (sym (length-take-le 4 (drop 8 l) (omega (arith, length-drop 8 l)))) ∙ bytes-little-endian m (each-take Byte 4 (drop 8 l) (each-drop Byte 8 l b)))
+    ap₂ (λ (x y : List ℕ). x ++ y) (sym (take-each 8 0 l (omega arith))) (bytes-number l (byte-below l b) 4 8 (omega arith))
     ∙ sym (take-add 8 4 l)
 
 -- the bytes of n numbers, at the front of the slots

@@ -1,37 +1,16 @@
 -- The saved image, and what saving answers.
 use mathlib.Core.Bool.{cond}
-use mathlib.Core.List.{List, [], _∷_, _++_}
+use mathlib.Core.List.{List, _∷_, _++_}
 use mathlib.Core.Path.{_≡_}
-use Prim.Native.Nat.{ℕ, zero, suc, _+_, _*_, _/_, _%_, _<_}
+use Prim.Native.Nat.{ℕ, _+_, _*_}
 use lib.Dec.{leb, eqb}
 use lib.ListN.{length, take, drop}
-use lib.IntN.{ℤ}
 use mir.Syntax.{Width, w16}
-use mir.Val.{ofZ}
-use mir.Val as Val
+use Rattle.words.specs.Words.{bytes, width, words}
 use Rattle.state.specs.State.{taps}
 use Rattle.state.specs.Answers.{examined}
 use Rattle.state.specs.declared.equaliser.Equaliser.{Equaliser}
 use Rattle.image.specs.declared.save.Saved.{Saved}
-
--- ---- bytes
-
-abbrev pub Byte : ℕ → Type 0
-Byte b = b < 256
-
--- the lowest k bytes of n, lowest first
-unfoldable pub bytes : ℕ → ℕ → List ℕ
-bytes zero n = []
-bytes (suc k) n = n % 256 ∷ bytes k (n / 256)
-
--- the bytes of a signed number of 8, 16, 32 or more bits
-abbrev pub width : Width → ℕ
-width w = Val.bytes w
-
--- signed numbers of one width, one after another
-unfoldable pub words : Width → List ℤ → List ℕ
-words w [] = []
-words w (z ∷ l) = bytes (width w) (ofZ w z) ++ words w l
 
 -- ---- the layout
 

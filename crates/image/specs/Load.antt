@@ -1,36 +1,19 @@
 -- The state that bytes hold, and what loading answers.
 use mathlib.Core.Bool.{cond}
-use mathlib.Core.List.{List, [], _∷_}
+use mathlib.Core.List.{List}
 use mathlib.Core.Path.{_≡_}
-use Prim.Native.Nat.{ℕ, zero, suc, _+_, _*_}
+use Prim.Native.Nat.{ℕ, _+_, _*_}
 use lib.Dec.{leb, eqb}
-use lib.ListN.{length, getD, take, drop}
-use lib.IntN.{ℤ}
-use mir.Syntax.{Width}
-use mir.Val.{toZ}
+use lib.ListN.{length, take, drop}
+use Rattle.words.specs.Words.{byteAt, numberAt, width, wordsOf}
 use Rattle.state.specs.Sizes.{sizesFit}
 use Rattle.state.specs.State.{settings, padded, refused}
 use Rattle.state.specs.Answers.{examined}
-use Rattle.image.specs.Image.{width, imageHeaderLength, weightWord, datumWord, dataPlace, imageLength}
+use Rattle.image.specs.Image.{imageHeaderLength, weightWord, datumWord, dataPlace, imageLength}
 use Rattle.state.specs.declared.equaliser.Equaliser.{Equaliser}
 use Rattle.state.specs.declared.equaliser.Answer.{Answer}
 
--- ---- numbers of bytes, lowest first
-
--- the lowest byte first
-unfoldable pub littleEndian : List ℕ → ℕ
-littleEndian [] = 0
-littleEndian (b ∷ l) = b + 256 * littleEndian l
-
--- the first n signed numbers of one width
-unfoldable pub wordsOf : Width → ℕ → List ℕ → List ℤ
-wordsOf w zero l = []
-wordsOf w (suc n) l = toZ w (littleEndian (take (width w) l)) ∷ wordsOf w n (drop (width w) l)
-
 -- ---- the parts of an image
-
-abbrev pub byteAt : List ℕ → ℕ → ℕ
-byteAt l i = getD l i 0
 
 abbrev pub tapsIn : List ℕ → ℕ
 tapsIn l = byteAt l 0 + byteAt l 1
@@ -52,7 +35,7 @@ stateIn l = record {
   psi = byteAt l 5;
   b = byteAt l 6;
   bmax = byteAt l 7;
-  m = littleEndian (take 4 (drop 8 l));
+  m = numberAt 4 l 8;
   weights = padded (wordsOf weightWord (tapsIn l) (weightBytes l));
   past = padded (wordsOf datumWord (tapsIn l) (pastBytes l));
 }

@@ -1,4 +1,3 @@
 // The saved image: saving and loading the state of a station.
-pub mod bytes;
 pub mod load;
 pub mod save;

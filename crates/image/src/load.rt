@@ -3,14 +3,16 @@ ghost use mathlib.Core.Path.{_≡_};
 ghost use Prim.Native.Nat.{_+_, _*_, _≤_};
 ghost use lib.ListN.{length};
 ghost use mir.Syntax.{w16};
+ghost use Rattle.words.specs.Words.{wordsOf, width};
 ghost use Rattle.steps.specs.Limits.{slots};
-ghost use Rattle.state.specs.State.{padded};
-ghost use Rattle.image.specs.Image.{width, endPlace};
-ghost use Rattle.image.specs.Load.{wordsOf, tapsIn, stateIn, frameNumber, Load};
-use super::bytes::signed16;
-use super::bytes::unsigned32;
+ghost use Rattle.state.specs.State.{settings, padded};
+ghost use Rattle.image.specs.Image.{imageHeaderLength, endPlace};
+ghost use Rattle.image.specs.Load.{tapsIn, stateIn, frameNumber, Load};
 use state::equaliser::Answer;
 use state::equaliser::Equaliser;
+use steps::settings::Settings;
+use words::read::signed16;
+use words::read::unsigned32;
 
 // Signed numbers of two bytes each, at the front of the slots.
 pub fn words_in(bytes: &[u8], n: usize) -> [i16; Equaliser::SLOTS]
@@ -26,6 +28,21 @@ pub fn words_in(bytes: &[u8], n: usize) -> [i16; Equaliser::SLOTS]
     out
 }
 
+// The settings in a header.
+fn settings_in(bytes: &[u8]) -> Settings
+    requires { ⌜ imageHeaderLength ≤ length (now bytes) ⌝ }
+    ensures { λ k. ⌜ k ≡ settings (stateIn (now (bytes .entry))) ⌝ }
+{
+    Settings {
+        p: bytes[0],
+        q: bytes[1],
+        N: bytes[2],
+        r: bytes[3],
+        L: bytes[4],
+        M: unsigned32(bytes[8], bytes[9], bytes[10], bytes[11]),
+    }
+}
+
 // 8 below the header's length, 1 on the sizes, 8 if the length isn't exact, or 0.
 pub fn frame_number(bytes: &[u8]) -> u8
     ensures { λ r. ⌜ r ≡ frameNumber (now (bytes .entry)) ⌝ }
@@ -33,10 +50,11 @@ pub fn frame_number(bytes: &[u8]) -> u8
     if bytes.len() < Equaliser::HEADER {
         return 8;
     }
-    if !state::sizes::sizes_fit(bytes[0], bytes[1], bytes[2], bytes[3], bytes[4]) {
+    let k = settings_in(bytes);
+    if !state::sizes::sizes_fit(k) {
         return 1;
     }
-    let taps = (bytes[0] as usize) + (bytes[1] as usize);
+    let taps = (k.p as usize) + (k.q as usize);
     if bytes.len() == Equaliser::HEADER + Equaliser::WEIGHT * taps + Equaliser::DATUM * taps {
         0
     } else {
@@ -78,7 +96,7 @@ pub fn load(bytes: &[u8]) -> Answer
     if frame != 0 {
         return Answer {
             number: frame,
-            state: state::equaliser::fresh(1, 1, 1, 0, 0, 0),
+            state: state::equaliser::refused(),
         };
     }
     let e = state_in(bytes);
@@ -86,7 +104,7 @@ pub fn load(bytes: &[u8]) -> Answer
     if number != 0 {
         return Answer {
             number: number,
-            state: state::equaliser::fresh(1, 1, 1, 0, 0, 0),
+            state: state::equaliser::refused(),
         };
     }
     Answer {

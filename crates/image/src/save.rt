@@ -1,11 +1,10 @@
 // Saving: the bytes of a state.
 ghost use mathlib.Core.Path.{_≡_};
-ghost use Prim.Native.Nat.{_*_};
 ghost use lib.ListN.{length};
-ghost use mir.Syntax.{w16};
-ghost use mir.Val.{ofZ};
-ghost use Rattle.image.specs.Image.{width, words, header, imageHeaderLength, Save};
+ghost use Rattle.image.specs.Image.{header, imageHeaderLength, Save};
 use state::equaliser::Equaliser;
+use words::write::put_words;
+use words::write::put32;
 
 // A number beside the length of an image.
 #[repr(C)]
@@ -14,40 +13,11 @@ pub struct Saved {
     pub length: usize,
 }
 
-// The sixteen bits of a signed number.
-pub fn word(z: i16) -> u16
-    ensures { λ r. ⌜ r ≡ ofZ w16 z ⌝ }
-{
-    if z < 0 {
-        ((z as i32) + 65536) as u16
-    } else {
-        z as u16
-    }
-}
-
-// Signed numbers, two bytes each, lowest first.
-pub fn put_words(src: &[i16], out: &mut [u8])
-    requires { ⌜ length (now out) ≡ width w16 * length (now src) ⌝ }
-    ensures { λ _. ⌜ now (out .exit) ≡ words w16 (now (src .entry)) ⌝ }
-{
-    let mut i: usize = 0;
-    while i < src.len() {
-        let w = word(src[i]);
-        out[2 * i] = (w % 256) as u8;
-        out[2 * i + 1] = (w / 256) as u8;
-        i += 1;
-    }
-}
-
 // What stands before the weights.
 pub fn put_header(e: Equaliser, out: &mut [u8])
     requires { ⌜ length (now out) ≡ imageHeaderLength ⌝ }
     ensures { λ _. ⌜ now (out .exit) ≡ header e ⌝ }
 {
-    let m = e.m;
-    let m1 = m / 256;
-    let m2 = m1 / 256;
-    let m3 = m2 / 256;
     out[0] = e.p;
     out[1] = e.q;
     out[2] = e.n;
@@ -56,10 +26,7 @@ pub fn put_header(e: Equaliser, out: &mut [u8])
     out[5] = e.psi;
     out[6] = e.b;
     out[7] = e.bmax;
-    out[8] = (m % 256) as u8;
-    out[9] = (m1 % 256) as u8;
-    out[10] = (m2 % 256) as u8;
-    out[11] = (m3 % 256) as u8;
+    put32(e.m, 8, out);
 }
 
 // The image at the front of a lent buffer, or the number of the refusal and the buffer as it was.

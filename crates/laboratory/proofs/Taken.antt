@@ -11,7 +11,7 @@ use Rattle.laws.specs.Sums.{each-of}
 use Rattle.steps.specs.Limits.{outputExponentLimit}
 use Rattle.steps.specs.Fir.{allBelow}
 use Rattle.steps.proofs.LargestLaws.{below-all}
-use Rattle.block.specs.Block.{Outputs, blockOutputs, AtSample}
+use Rattle.block.specs.Block.{blockOutputs, AtSample}
 use Rattle.block.proofs.BlockHolds.{OutputAt, output-at}
 use Rattle.block.proofs.BlockMemory.{block-long}
 use Rattle.state.specs.State.{settings, memory}
@@ -23,16 +23,16 @@ use Rattle.station.specs.Claim.{Call, run, trial, save, load, left, Start, With
 use Rattle.station.proofs.AnswerLaws.{outputs-new}
 use Rattle.station.proofs.Claim.{claim}
 use Rattle.readings.specs.Limits.{outputLimit, errorLimit}
-use Rattle.readings.specs.Readings.{Lists, exponentFits, readable, listsOf}
+use Rattle.readings.specs.Readings.{Lists, exponentFits, readable}
 use Rattle.readings.specs.Calls.{Exponent}
 use Rattle.readings.proofs.ListLaws.{exponents-fit}
 use Rattle.readings.proofs.ReadableLaws.{Readable, readable-of, number-given, given}
 use Rattle.readings.proofs.ReadingsHold.{readings-hold}
-use Rattle.laboratory.specs.Taken.{Taken, BlockTaken, CallTaken, AllTaken}
+use Rattle.laboratory.specs.Taken.{readLists, Taken, BlockTaken, CallTaken, AllTaken}
 
 -- what an accepted block hands out
 abbrev out : Equaliser → Buffers → Lists
-out s l = listsOf (blockOutputs (settings s) (memory s) (l .block) .y) (blockOutputs (settings s) (memory s) (l .block) .xi) (blockOutputs (settings s) (memory s) (l .block) .z) (blockOutputs (settings s) (memory s) (l .block) .theta)
+out s l = readLists (blockOutputs (settings s) (memory s) (l .block))
 
 module _ (s : Equaliser) (g : WithinLimits s) (l : Buffers) (h : AcceptedBlock s l (runState s l) (runOutputs s l)) where
   at : (n : ℕ) → n < s .n → AtSample (settings s) (memory s) (l .block) n
@@ -61,7 +61,7 @@ module _ (s : Equaliser) (g : WithinLimits s) (l : Buffers) (h : AcceptedBlock s
         y-small = all-small outputLimit (out s l .y) (long .y-long) (λ n k. let b = at n k in subst (λ (x : ℤ). natAbs x < 2 ^ 29) (sym (out-at n k .Y-is)) (b .bounded .Y-small));
       }
 
-  taken : Taken (out s l .y) (out s l .xi) (out s l .z) (out s l .theta) (s .n)
+  taken : Taken (out s l) (s .n)
   taken =
       let ok = readable-of can-be-read in
       record {
@@ -72,15 +72,10 @@ module _ (s : Equaliser) (g : WithinLimits s) (l : Buffers) (h : AcceptedBlock s
 
 -- what the contract of an accepted block says of its lists
 block-taken : (s : Equaliser) → WithinLimits s → (l : Buffers) → RunHolds s l (runNumber s l) (runState s l) (runOutputs s l) → BlockTaken s l
-block-taken s g l h a y xi decision z theta r e =
-    rw (r .y-is ∙ ap (λ (t : Outputs). t .y) o, r .xi-is ∙ ap (λ (t : Outputs). t .xi) o, r .z-is ∙ ap (λ (t : Outputs). t .z) o, r .theta-is ∙ ap (λ (t : Outputs). t .theta) o)
-    (taken s g l (h .accepted ok))
+block-taken s g l h a o r e = rw (r .outputs, outputs-new s l ok) (taken s g l (h .accepted ok))
   where
     ok : runNumber s l ≡ 0
     ok = sym (r .number) ∙ e
-
-    o : runOutputs s l ≡ blockOutputs (settings s) (memory s) (l .block)
-    o = outputs-new s l ok
 
 call-taken : (s : Equaliser) → WithinLimits s → (c : Call) → CallHolds s c → CallTaken s c
 call-taken s g (run l t) h = block-taken s g l h

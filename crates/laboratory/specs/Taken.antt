@@ -2,28 +2,32 @@
 use mathlib.Core.Path.{_≡_}
 use mathlib.Core.List.{List, [], _∷_}
 use Prim.Native.Nat.{ℕ}
-use lib.IntN.{ℤ}
 use lib.ListN.{length}
 use lib.Ieee.{Float}
+use Rattle.block.specs.Block.{Outputs}
 use Rattle.state.specs.declared.equaliser.Equaliser.{Equaliser}
 use Rattle.state.specs.declared.equaliser.Answer.{Answer}
 use Rattle.checks.specs.Checks.{Buffers}
 use Rattle.station.specs.Answers.{Run}
 use Rattle.station.specs.Claim.{Call, run, trial, save, load, left}
-use Rattle.readings.specs.Readings.{readingsOf, listsOf}
+use Rattle.readings.specs.Readings.{Lists, readingsOf, listsOf}
 use Rattle.readings.specs.Answers.{answerOf, outputOf, numberOf}
 use Rattle.readings.specs.Holds.{ReadingsHold}
 
+-- the lists of outputs that readings are made of
+abbrev pub readLists : Outputs → Lists
+readLists h = listsOf (h .y) (h .xi) (h .z) (h .theta)
+
 -- lists of n places are accepted with any n readings lent, and all that is said of readings holds of them
-pub record Taken (y : List ℤ) (xi : List ℕ) (z : List ℤ) (theta : List ℕ) (n : ℕ) : Type 0 where
-  pub accepted : numberOf (answerOf (listsOf y xi z theta) n) ≡ 0
-  pub written : (before : List (List Float)) → length before ≡ n → outputOf (listsOf y xi z theta) before ≡ readingsOf (listsOf y xi z theta)
-  pub holds : ReadingsHold (listsOf y xi z theta) n
+pub record Taken (l : Lists) (n : ℕ) : Type 0 where
+  pub accepted : numberOf (answerOf l n) ≡ 0
+  pub written : (before : List (List Float)) → length before ≡ n → outputOf l before ≡ readingsOf l
+  pub holds : ReadingsHold l n
 
 -- what a block on s hands out, by its contract
 abbrev pub BlockTaken : Equaliser → Buffers → Type 0
 BlockTaken s l =
-    (a : Answer) (y : List ℤ) (xi : List ℕ) (decision z : List ℤ) (theta : List ℕ) → Run s l a y xi decision z theta → a .number ≡ 0 → Taken y xi z theta (s .n)
+    (a : Answer) (h : Outputs) → Run s l a h → a .number ≡ 0 → Taken (readLists h) (s .n)
 
 abbrev pub CallTaken : Equaliser → Call → Type 0
 CallTaken s (run l t) = BlockTaken s l

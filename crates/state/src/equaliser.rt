@@ -64,16 +64,14 @@ pub fn fresh(k: Settings) -> Equaliser
 pub fn refused() -> Equaliser
     ensures { λ e. ⌜ e ≡ refused ⌝ }
 {
-    fresh(
-        Settings {
-            p: 1,
-            q: 1,
-            N: 1,
-            r: 0,
-            L: 0,
-            M: 0,
-        },
-    )
+    fresh(Settings {
+        p: 1,
+        q: 1,
+        N: 1,
+        r: 0,
+        L: 0,
+        M: 0,
+    })
 }
 
 impl Equaliser {

@@ -10,6 +10,7 @@ use mir.Val.{SFits}
 use borrow.Author.Tests.{ne-eqb, eqb-true, eqb-false}
 use Rattle.laws.specs.Machine.{abs-fits}
 use Rattle.laws.specs.Sums.{Each, each-weaken}
+use Rattle.words.specs.Words.{Byte}
 use Rattle.block.specs.Block.{Memory, nextMemory, ψFits, Raises, SameWeights}
 use Rattle.block.specs.Sound.{Sound}
 use Rattle.block.proofs.BlockSound.{next-memory-sound}
@@ -18,7 +19,7 @@ use Rattle.block.proofs.BlockOutcomes.{stopped-raises, raises-stopped, frozen-m
 use Rattle.block.proofs.BlockNear.{stored-near, met-later}
 use Rattle.state.specs.State.{settings, memory, stateOf}
 use Rattle.state.specs.Answers.{examined}
-use Rattle.image.specs.Image.{Byte, image, saveNumber, saveLength, saveBuffer}
+use Rattle.image.specs.Image.{image, saveNumber, saveLength, saveBuffer}
 use Rattle.image.specs.Load.{loadNumber, loadState}
 use Rattle.state.specs.declared.equaliser.Equaliser.{Equaliser}
 use Rattle.state.proofs.SoundLaws.{Accepted, accepted-sound, examined-tests, tests-examined, set-up-accepted}

@@ -8,14 +8,14 @@ use Rattle.laws.specs.Sums.{dot}
 use Rattle.numbers.specs.ScaleCount.{scaleCount}
 use Rattle.numbers.specs.BitLength.{bitLength}
 use Rattle.numbers.specs.Cut.{cut}
-use Rattle.steps.specs.Settings.{Settings, stepBound}
+use Rattle.steps.specs.Settings.{Settings, given, stepBound}
 use Rattle.steps.specs.Fir.{largest, adapt, largestBits}
 use Rattle.steps.specs.Output.{output, outputExponent}
 use Rattle.steps.specs.Decision.{decide}
 use Rattle.steps.specs.Error.{error, errorExponent}
 use Rattle.filter.specs.Sample.{outcomeOf, normalised, normalisedExponent, ν, F, H, Y, ξ, decision, v, κ, Z, θ, J, newForward, newBack, outcome, next}
 use Rattle.block.specs.Block.{Block, Memory, receivedAll, newb, newB, Γ, stored, old, start, after, at, nextMemory}
-use Rattle.state.specs.Sizes.{settingsNumber, given}
+use Rattle.state.specs.Sizes.{settingsNumber}
 use Rattle.state.specs.State.{memory, fresh}
 
 pub record Case : Type 0 where

@@ -9,13 +9,14 @@ use lib.IntN.{pos}
 use mir.Syntax.{w8, w16, w32}
 use mir.Val.{SFits}
 use Rattle.laws.specs.Sums.{Each}
+use Rattle.words.specs.Words.{Byte}
 use Rattle.steps.specs.Limits.{slots}
 use Rattle.steps.specs.Settings.{Settings, scaleForward}
 use Rattle.block.specs.Block.{Outputs, X, newB, at, nextMemory, blockOutputs, QuantisedWithin, AtSample, StoredNear, Raises, SameWeights}
 use Rattle.state.specs.Sizes.{sizesFit, admits}
 use Rattle.state.specs.State.{settings, memory, isSound, stateOf, refused}
 use Rattle.state.specs.Answers.{setUpState}
-use Rattle.image.specs.Image.{Byte, image, saveNumber, saveLength, saveBuffer}
+use Rattle.image.specs.Image.{image, saveNumber, saveLength, saveBuffer}
 use Rattle.image.specs.Load.{loadNumber, loadState}
 use Rattle.state.specs.declared.equaliser.Equaliser.{Equaliser}
 use Rattle.station.specs.Answers.{runNumber, runState, runOutputs}

@@ -13,10 +13,14 @@ use mir.Facts.{sfits-toZ}
 use borrow.Author.Tests.{eq-eqb, ne-eqb}
 use Rattle.laws.specs.Sums.{each-of}
 use Rattle.laws.specs.Machine.{abs-fits}
+use Rattle.laws.specs.Values.{values-length, values-at}
+use Rattle.words.specs.Words.{byteAt, numberAt}
 use Rattle.steps.specs.Limits.{blockLimit, slots}
+use Rattle.trace_layout.specs.Trace.{traceLimit, settingsIn, countIn, samplesIn, sampleStart, samplesFrom, traceSample}
+use Rattle.trace_layout.proofs.ReadLaws.{well-long, well-most}
+use Rattle.trace_layout.specs.Calls.{Read-is}
 use Rattle.filter.proofs.DecisionSize.{decision-most}
 use Rattle.block.specs.Block.{Outputs, Γ, at, entryAt, blockY, blockξ, blockDecision}
-use Rattle.block.proofs.ValuesLaws.{values-length, values-at}
 use Rattle.block.proofs.BlockMemory as Left
 use Rattle.block.proofs.BlockHolds.{at-sample, output-at}
 use Rattle.state.specs.State.{settings, memory}
@@ -27,12 +31,10 @@ use Rattle.checks.specs.Calls.{Sampled, Checked}
 use Rattle.checks.proofs.CheckLaws.{checked-is}
 use Rattle.station.specs.Answers.{runNumber, Run}
 use Rattle.station.proofs.AnswerLaws.{outputs-new, run-tests}
-use Rattle.image.specs.Load.{byteAt}
-use Rattle.trace_text.specs.Trace.{traceLimit, unsigned16, settingsIn, countIn, samplesIn, sampleStart, samplesFrom, traceSample, buffersWith, buffersAt}
+use Rattle.trace_text.specs.Trace.{buffersWith, buffersAt}
 use Rattle.trace_text.specs.Text.{lines, blockLines, stopLine, blockText}
-use Rattle.trace_text.specs.Calls.{lineLimit, Printable, AllPrintable, Read-is, Ran-is, OfTrace}
+use Rattle.trace_text.specs.Calls.{lineLimit, Printable, AllPrintable, Ran-is, OfTrace}
 use Rattle.trace_text.proofs.LineLaws.{lines-short}
-use Rattle.trace_text.proofs.ReadLaws.{well-long, well-most}
 
 -- ---- work areas
 
@@ -87,8 +89,8 @@ sampled t first y xi decision h =
     let below : i < settingsIn t .N = omega (arith, values-length (λ j. traceSample t (first + j)) (settingsIn t .N)) in
     rw (values-at (λ j. traceSample t (first + j)) (pos 0) (settingsIn t .N) i below) (small (sampleStart (first + i))))
   where
-    small : (i : ℕ) → natAbs (toZ w16 (unsigned16 t i)) ≤ 2 ^ 15
-    small i = abs-fits {w = w16} (sfits-toZ {w = w16} {n = unsigned16 t i} (omega (arith, h i, h (i + 1))))
+    small : (i : ℕ) → natAbs (toZ w16 (numberAt 2 t i)) ≤ 2 ^ 15
+    small i = abs-fits {w = w16} (sfits-toZ {w = w16} {n = numberAt 2 t i} (omega (arith, h i, h (i + 1))))
 
 -- ---- what an accepted block hands out can be printed
 

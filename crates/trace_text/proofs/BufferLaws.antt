@@ -8,19 +8,11 @@ use lib.ListN.{length-replicate}
 use lib.IntN.{ℤ, pos}
 use borrow.Author.Tests.{eq-eqb}
 use Rattle.laws.specs.Lists.{all}
-use Rattle.laws.specs.Sums.{Each, each-of}
-use Rattle.laws.specs.Tests.{tested-each}
-use Rattle.block.specs.Block.{values}
-use Rattle.block.proofs.ValuesLaws.{values-length, values-at}
+use Rattle.laws.specs.Sums.{Each}
+use Rattle.laws.specs.Values.{values-length, values-each, values-tested}
+use Rattle.trace_layout.specs.Trace.{settingsIn, traceSample, traceGain, traceEntry}
 use Rattle.checks.specs.Checks.{lengthsFit}
-use Rattle.trace_text.specs.Trace.{settingsIn, traceSample, traceGain, traceEntry, buffersWith, buffersAt}
-
--- a fact of every value of f, and a test that every value passes
-values-each : {A : Type 0} (d : A) (P : A → Type 0) (f : ℕ → A) (n : ℕ) → ((i : ℕ) → i < n → P (f i)) → Each P (values f n)
-values-each d P f n h = each-of P d (values f n) (λ i k. let l : i < n = omega (arith, values-length f n) in rw (values-at f d n i l) (h i l))
-
-values-tested : {A : Type 0} (d : A) (p : A → Bool) (f : ℕ → A) (n : ℕ) → ((i : ℕ) → i < n → p (f i) ≡ true) → all p (values f n) ≡ true
-values-tested d p f n h = tested-each p (λ x. p x ≡ true) (λ x e. e) (values f n) (values-each d (λ x. p x ≡ true) f n h)
+use Rattle.trace_text.specs.Trace.{buffersWith, buffersAt}
 
 module _ (t : List ℕ) (first : ℕ) where
   pub buffers-long : lengthsFit (settingsIn t .N) (buffersAt t first) ≡ true

@@ -1,7 +1,6 @@
 pub mod TextAtLaws
 pub mod DecimalLaws
 pub mod LineLaws
-pub mod ReadLaws
 pub mod BufferLaws
 pub mod BlockLaws
 pub mod TextLaws

@@ -8,17 +8,18 @@ use native.Mathlib.Nat.{mul-le-mul-right}
 use native.Mathlib.Numerals.{add-one}
 use lib.ListN.{length, length-append}
 use borrow.Author.Tests.{eq-eqb, ne-eqb}
+use Rattle.words.specs.Words.{byteAt}
 use Rattle.steps.specs.Limits.{slots}
 use Rattle.steps.specs.Settings.{Settings}
+use Rattle.trace_layout.specs.Trace.{settingsIn, countIn, wellFormed}
+use Rattle.trace_layout.proofs.ReadLaws.{well-long, well-most}
 use Rattle.state.specs.declared.equaliser.Equaliser.{Equaliser}
 use Rattle.station.specs.Answers.{runNumber, runState}
 use Rattle.station.proofs.NumberLaws.{run-settings, run-long}
-use Rattle.image.specs.Load.{byteAt}
-use Rattle.trace_text.specs.Trace.{settingsIn, countIn, wellFormed, buffersAt}
+use Rattle.trace_text.specs.Trace.{buffersAt}
 use Rattle.trace_text.specs.Text.{blockText, textFrom}
 use Rattle.trace_text.specs.Calls.{lineLimit, textLimit, TextAt, OfTrace, Added-is}
 use Rattle.trace_text.specs.declared.blocks.Added.{Added}
-use Rattle.trace_text.proofs.ReadLaws.{well-long, well-most}
 use Rattle.trace_text.proofs.TextAtLaws.{text-none, text-same, text-long, text-then}
 use Rattle.trace_text.proofs.BlockLaws.{sampled, block-few, accepted-text, block-short}
 

@@ -7,6 +7,7 @@ use native.Mathlib.Omega.{arith}
 use lib.ListN.{length}
 use borrow.Author.Tests.{eq-eqb, ne-eqb}
 use Rattle.steps.specs.Settings.{Settings}
+use Rattle.trace_layout.specs.Trace.{settingsIn, countIn, wellFormed}
 use Rattle.state.specs.Sizes.{settingsNumber}
 use Rattle.state.specs.State.{fresh, refused}
 use Rattle.state.specs.Answers.{SetUp}
@@ -14,7 +15,6 @@ use Rattle.state.specs.declared.equaliser.Equaliser.{Equaliser}
 use Rattle.state.specs.declared.equaliser.Answer.{Answer}
 use Rattle.state.proofs.SizesLaws.{settings-tests, fit-within}
 use Rattle.state.proofs.NumberLaws.{fresh-settings}
-use Rattle.trace_text.specs.Trace.{settingsIn, countIn, wellFormed}
 use Rattle.trace_text.specs.Text.{stopLine, textFrom, traceText}
 use Rattle.trace_text.specs.Calls.{textLimit, Traceable}
 

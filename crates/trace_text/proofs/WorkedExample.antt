@@ -4,6 +4,7 @@ use mathlib.Core.List.{List, [], _∷_}
 use Prim.Native.Nat.{ℕ}
 use lib.Dec.{lit<}
 use Rattle.laws.specs.Sums.{dot}
+use Rattle.laws.specs.Values.{values}
 use Rattle.numbers.specs.ScaleCount.{scaleCount}
 use Rattle.numbers.specs.BitLength.{bitLength}
 use Rattle.numbers.specs.Cut.{cut}
@@ -11,15 +12,16 @@ use Rattle.steps.specs.Fir.{largest, adapt, largestBits}
 use Rattle.steps.specs.Output.{output, outputExponent}
 use Rattle.steps.specs.Decision.{decide}
 use Rattle.steps.specs.Error.{error, errorExponent}
+use Rattle.trace_layout.specs.Trace.{wellFormed}
 use Rattle.filter.specs.Sample.{ν, F, H, Y, ξ, decision, v, κ, Z, θ, J, outcomeOf, newForward, newBack, outcome, next}
-use Rattle.block.specs.Block.{receivedAll, values, newb, newB, Γ, stored, old, start, after, at, ψFits, blockY, blockξ, blockDecision, nextMemory}
+use Rattle.block.specs.Block.{receivedAll, newb, newB, Γ, stored, old, start, after, at, ψFits, blockY, blockξ, blockDecision, nextMemory}
 use Rattle.state.specs.Sizes.{settingsNumber}
 use Rattle.state.specs.State.{isSound, stateOf, fresh}
 use Rattle.station.specs.Answers.{runNumber, runState}
 use Rattle.checks.specs.Checks.{checkNumber}
 use Rattle.state.specs.Answers.{examined}
 use Rattle.trace_text.specs.Decimal.{decimalDigits, decimal, signedDecimal}
-use Rattle.trace_text.specs.Trace.{wellFormed, buffersWith}
+use Rattle.trace_text.specs.Trace.{buffersWith}
 use Rattle.trace_text.specs.Text.{field, line, stopLine, lines, blockLines, blockText, textFrom, traceText}
 use Rattle.trace_text.proofs.DecimalLaws.{decimal-one, decimal-steps}
 

@@ -6,11 +6,12 @@ use Prim.Native.Nat.{ℕ, _+_, _*_, _/_, _^_, _≤_, _<_}
 use lib.ListN.{length, getD, take, drop}
 use lib.IntN.{ℤ, pos, natAbs}
 use Rattle.steps.specs.Limits.{blockLimit, symbolLimit, outputExponentLimit}
+use Rattle.trace_layout.specs.Trace.{traceLimit, settingsIn, countIn, samplesIn, wellFormed, samplesFrom, gainsFrom, entriesFrom}
 use Rattle.state.specs.declared.equaliser.Equaliser.{Equaliser}
 use Rattle.state.specs.declared.equaliser.Answer.{Answer}
 use Rattle.checks.specs.Checks.{Buffers, block}
 use Rattle.station.specs.Answers.{runNumber, runState, runOutputs}
-use Rattle.trace_text.specs.Trace.{traceLimit, settingsIn, countIn, samplesIn, wellFormed, samplesFrom, gainsFrom, entriesFrom, buffersAt}
+use Rattle.trace_text.specs.Trace.{buffersAt}
 use Rattle.trace_text.specs.Text.{blockText}
 use Rattle.trace_text.specs.declared.blocks.Added.{Added}
 
@@ -44,19 +45,6 @@ pub record AllPrintable (place : ℕ) (Y : List ℤ) (ξ : List ℕ) (d : List �
   pub ξ-long : length ξ ≡ length Y
   pub decisions-long : length d ≡ length Y
   pub each : (i : ℕ) → i < length Y → Printable (place + i) (getD Y i (pos 0)) (getD ξ i 0) (getD d i (pos 0))
-
--- ---- the lists of a block
-
-pub record Readable (t : List ℕ) (first : ℕ) (m : List ℤ) (gains : List ℕ) (entries : List ℤ) : Type 0 where
-  pub well-formed : wellFormed t ≡ true
-  pub gains-long : length gains ≡ length m
-  pub entries-long : length entries ≡ length m
-  pub within : first + length m ≤ samplesIn t
-
-pub record Read-is (t : List ℕ) (first n : ℕ) (m : List ℤ) (gains : List ℕ) (entries : List ℤ) : Type 0 where
-  pub m-is : m ≡ samplesFrom t first n
-  pub gains-is : gains ≡ gainsFrom t first n
-  pub entries-is : entries ≡ entriesFrom t first n
 
 -- ---- a block
 

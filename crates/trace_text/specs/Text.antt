@@ -5,6 +5,7 @@ use Prim.Native.Nat.{ℕ, zero, suc, _+_, _*_}
 use lib.Dec.{eqb}
 use lib.ListN.{getD}
 use lib.IntN.{ℤ, pos}
+use Rattle.trace_layout.specs.Trace.{settingsIn, countIn, wellFormed}
 use Rattle.block.specs.Block.{blockY, blockξ, blockDecision}
 use Rattle.state.specs.Sizes.{settingsNumber}
 use Rattle.state.specs.State.{settings, memory, fresh}
@@ -12,7 +13,7 @@ use Rattle.station.specs.Answers.{runNumber, runState}
 use Rattle.checks.specs.Checks.{Buffers, block}
 use Rattle.state.specs.declared.equaliser.Equaliser.{Equaliser}
 use Rattle.trace_text.specs.Decimal.{signedDecimal}
-use Rattle.trace_text.specs.Trace.{settingsIn, countIn, wellFormed, buffersAt}
+use Rattle.trace_text.specs.Trace.{buffersAt}
 
 abbrev pub space : ℕ
 space = 32

@@ -1,6 +1,7 @@
 // The text of the blocks of a trace.
+ghost use Rattle.trace_layout.specs.Trace.{countIn};
 ghost use Rattle.trace_text.specs.Text.{textFrom};
-ghost use Rattle.trace_text.specs.Trace.{countIn, buffersWith};
+ghost use Rattle.trace_text.specs.Trace.{buffersWith};
 ghost use Rattle.trace_text.specs.Calls.{TextAt, BlockRunnable, Ran-is, Blockable, Added-is, Traceable};
 use state::equaliser::Answer;
 use state::equaliser::Equaliser;
@@ -28,7 +29,7 @@ pub fn run_block(
     let mut m = [0i16; Equaliser::BLOCK as usize];
     let mut gains = [0u8; Equaliser::BLOCK as usize];
     let mut entries = [0i8; Equaliser::BLOCK as usize];
-    super::read::block(t, first, &mut m[..n], &mut gains[..n], &mut entries[..n]);
+    trace_layout::read::block(t, first, &mut m[..n], &mut gains[..n], &mut entries[..n]);
     let mut z = [0i32; Equaliser::BLOCK as usize];
     let mut theta = [0u8; Equaliser::BLOCK as usize];
     station::run::run(
@@ -78,7 +79,7 @@ pub fn all_blocks(t: &[u8], e: Equaliser, out: &mut [u8]) -> usize
     requires { ⌜ Traceable (now t) e (now out) ⌝ }
     ensures { λ r. ⌜ TextAt 0 (textFrom (now (t .entry)) (countIn (now (t .entry))) 0 e) (now (out .entry)) r (now (out .exit)) ⌝ }
 {
-    let count = image::bytes::unsigned16(t[6], t[7]) as usize;
+    let count = trace_layout::read::count_in(t);
     let mut state = e;
     let mut at: usize = 0;
     let mut i: usize = 0;

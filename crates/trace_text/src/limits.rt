@@ -1,10 +1,5 @@
-// The lengths of a trace and of its text, in bytes.
-
-// What stands before the samples.
-pub const TRACE_HEADER: usize = 12;
-
-// The longest trace.
-pub const TRACE: usize = 65536;
+// The length of the text of a trace, in bytes.
+use trace_layout::limits::TRACE;
 
 // The longest line.
 const LINE: usize = 24;

@@ -13,11 +13,10 @@ use borrow.Author.Tests.{le-leb, lt-leb}
 use borrow.Rule.Slice.PartMut.{midOf, postOf, mid-len}
 use Rattle.laws.specs.Lists.{all}
 use Rattle.laws.specs.Sums.{Each}
+use Rattle.laws.specs.Values.{values-length, values}
 use Rattle.numbers.specs.BitLength.{bitLength}
 use Rattle.steps.specs.Sound.{Within, orAll}
 use Rattle.steps.specs.Fir.{magnitudes}
-use Rattle.block.specs.Block.{values}
-use Rattle.block.proofs.ValuesLaws.{values-length}
 use Rattle.state.proofs.SizesLaws.{settings-tests, fit-within}
 use Rattle.cable_trace.specs.Cable.{Cable, s, sampleCount, gainAvailable}
 use Rattle.cable_trace.specs.Answers.{cableOf}

@@ -4,14 +4,14 @@ use mathlib.Core.Bool.{true}
 use mathlib.Core.List.{List}
 use Prim.Native.Nat.{ℕ, _≤_}
 use native.Mathlib.Omega.{arith}
-use lib.ListN.{length, getD}
+use lib.ListN.{length}
 use borrow.Author.Needs.{needs}
 use borrow.Author.Tests.{not-true, not-false}
-use Rattle.state.specs.Sizes.{given}
+use Rattle.trace_layout.specs.Trace.{traceHeaderLength, settingsIn, wellFormed}
+use Rattle.trace_layout.proofs.ReadLaws.{well-long}
+use Rattle.steps.specs.Settings.{Settings}
 use Rattle.state.specs.Answers.{SetUp}
 use Rattle.state.proofs.NumberLaws.{settings-most}
-use Rattle.trace_text.specs.Trace.{traceHeaderLength, settingsIn, wellFormed}
-use Rattle.trace_text.proofs.ReadLaws.{well-long}
 use Rattle.trace_text.proofs.TextAtLaws.{text-same, text-at-front}
 use Rattle.trace_text.proofs.TraceLaws.{not-well-formed, refused-text, accepted-text, traceable}
 use Rattle.trace_text.proofs.text.Statement.{statement}
@@ -38,43 +38,16 @@ well c = sym (c .before .well-formed .ensures) ∙ not-false _ (c .if1 .left)
 long : (c : tie.Else1) → traceHeaderLength ≤ length (bytes c)
 long c = omega (arith, well-long _ (well c))
 
-shared-slice-read-set-up : tie.Need-shared-slice-read-set-up
-shared-slice-read-set-up c = omega (arith, long (c .before))
-
-shared-slice-read-set-up-2 : tie.Need-shared-slice-read-set-up-2
-shared-slice-read-set-up-2 c = omega (arith, long (c .before .before))
-
-shared-slice-read-set-up-3 : tie.Need-shared-slice-read-set-up-3
-shared-slice-read-set-up-3 c = omega (arith, long (c .before .before .before))
-
-shared-slice-read-set-up-4 : tie.Need-shared-slice-read-set-up-4
-shared-slice-read-set-up-4 c = omega (arith, long (c .before .before .before .before))
-
-shared-slice-read-set-up-5 : tie.Need-shared-slice-read-set-up-5
-shared-slice-read-set-up-5 c = omega (arith, long (c .before .before .before .before .before))
-
-shared-slice-read-unsigned32 : tie.Need-shared-slice-read-unsigned32
-shared-slice-read-unsigned32 c = omega (arith, long (c .before .before .before .before .before .before))
-
-shared-slice-read-unsigned32-2 : tie.Need-shared-slice-read-unsigned32-2
-shared-slice-read-unsigned32-2 c = omega (arith, long (c .before .before .before .before .before .before .before))
-
-shared-slice-read-unsigned32-3 : tie.Need-shared-slice-read-unsigned32-3
-shared-slice-read-unsigned32-3 c = omega (arith, long (c .before .before .before .before .before .before .before .before))
-
-shared-slice-read-unsigned32-4 : tie.Need-shared-slice-read-unsigned32-4
-shared-slice-read-unsigned32-4 c = omega (arith, long (c .before .before .before .before .before .before .before .before .before))
+settings-in-requires : tie.Need-settings-in-requires
+settings-in-requires c κs = long c
 
 -- ---- set-up
 
 abbrev head : tie.After-set-up → tie.Else1
-head c = c .before .before .before .before .before .before .before .before .before .before .before
+head c = c .before .before
 
 set-up : (c : tie.After-set-up) → SetUp (settingsIn (bytes (head c))) (c .set-up .result)
-set-up c =
-    let t = bytes (head c) in
-    subst (λ (m : ℕ). SetUp (given (getD t 0 0) (getD t 1 0) (getD t 2 0) (getD t 3 0) (getD t 4 0) m) (c .set-up .result)) (c .before .unsigned32 .ensures)
-    (c .set-up .ensures)
+set-up c = subst (λ (k : Settings). SetUp k (c .set-up .result)) (c .before .settings-in .ensures) (c .set-up .ensures)
 
 stop-line-requires-2 : tie.Need-stop-line-requires-2
 stop-line-requires-2 c κs =
@@ -104,7 +77,5 @@ pub text-spec : {M : Type 1} → statement M
 text-spec =
     tie.close
     (tie.spec
-    (λ c κs. search needs) (λ c κs. search needs) returns shared-slice-read-set-up shared-slice-read-set-up-2
-    shared-slice-read-set-up-3 shared-slice-read-set-up-4 shared-slice-read-set-up-5 shared-slice-read-unsigned32
-    shared-slice-read-unsigned32-2 shared-slice-read-unsigned32-3 shared-slice-read-unsigned32-4 (λ c κs. search needs)
-    (λ c κs. search needs) stop-line-requires-2 returns-2 all-blocks-requires returns-3)
+    (λ c κs. search needs) (λ c κs. search needs) returns settings-in-requires (λ c κs. search needs)
+    stop-line-requires-2 returns-2 all-blocks-requires returns-3)

@@ -4,8 +4,8 @@ use mathlib.Core.List.{List, _∷_, _++_}
 use Prim.Native.Nat.{ℕ}
 use native.Mathlib.Omega.{arith}
 use borrow.Author.Needs.{needs}
-use Rattle.image.specs.Image.{bytes}
-use Rattle.image.proofs.ImageLaws.{word-bytes}
+use Rattle.words.specs.Words.{bytes}
+use Rattle.words.proofs.ByteLaws.{word-bytes}
 use Rattle.cable_trace.proofs.put.header.Statement.{statement}
 use Rattle.cable_trace.proofs.put.header.Tie as tie
 

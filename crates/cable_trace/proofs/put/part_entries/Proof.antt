@@ -10,8 +10,7 @@ use mir.Val.{ofZ}
 use borrow.Author.Needs.{needs}
 use Rattle.laws.specs.Loops.{Written, written-none, written-next, written-all}
 use Rattle.laws.specs.Machine.{kept}
-use Rattle.block.specs.Block.{values}
-use Rattle.block.proofs.ValuesLaws.{values-length, values-at}
+use Rattle.laws.specs.Values.{values-length, values-at, values}
 use Rattle.cable_trace.proofs.PutLaws.{partBytes}
 use Rattle.cable_trace.proofs.put.part_entries.Statement.{statement}
 use Rattle.cable_trace.proofs.put.part_entries.Tie as tie

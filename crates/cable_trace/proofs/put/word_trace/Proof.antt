@@ -8,11 +8,12 @@ use lib.ListN.{length, take, drop}
 use lib.Seq.{length-front, length-take-le}
 use borrow.Author.Needs.{needs}
 use borrow.Rule.Slice.PartMut.{midOf, mid-len}
-use Rattle.block.proofs.ValuesLaws.{values-length}
-use Rattle.trace_text.specs.Trace.{traceHeaderLength}
+use Rattle.laws.specs.Values.{values-length}
+use Rattle.laws.specs.Lent.{parts-put}
+use Rattle.trace_layout.specs.Trace.{traceHeaderLength}
 use Rattle.state.specs.Sizes.{given}
 use Rattle.cable_trace.specs.Cable.{traceHeader}
-use Rattle.cable_trace.proofs.PutLaws.{stored-front, parts-put}
+use Rattle.cable_trace.proofs.PutLaws.{stored-front}
 use Rattle.cable_trace.proofs.put.word_trace.Statement.{statement}
 use Rattle.cable_trace.proofs.put.word_trace.Tie as tie
 

@@ -11,7 +11,7 @@ use Rattle.laws.specs.Loops.{Written, written-none, written-next, written-all}
 use Rattle.laws.specs.Machine.{kept}
 use Rattle.laws.specs.Sums.{dot}
 use Rattle.laws.specs.Tests.{part-is}
-use Rattle.block.proofs.ValuesLaws.{values-length, values-at}
+use Rattle.laws.specs.Values.{values-length, values-at}
 use Rattle.cable_trace.specs.Limits.{responseLimit}
 use Rattle.cable_trace.specs.Calls.{sentPlace, window, row, rowSums}
 use Rattle.cable_trace.proofs.RowLaws.{row-summable}

@@ -10,15 +10,14 @@ use mir.Val.{toZ}
 use borrow.Author.Needs.{needs}
 use Rattle.laws.specs.Machine.{kept}
 use Rattle.laws.specs.Loops.{Written, written-none}
-use Rattle.block.specs.Block.{values}
-use Rattle.trace_text.specs.Trace.{unsigned16}
-use Rattle.trace_text.proofs.ReadLaws.{values-written, values-all}
+use Rattle.laws.specs.Values.{values, values-written, values-all}
+use Rattle.words.specs.Words.{numberAt}
 use Rattle.description.specs.Description.{descriptionHeaderLength}
 use Rattle.description.proofs.read.response.Statement.{statement}
 use Rattle.description.proofs.read.response.Tie as tie
 
 abbrev value : List ℕ → ℕ → ℤ
-value t i = toZ w16 (unsigned16 t (descriptionHeaderLength + 2 * i))
+value t i = toZ w16 (numberAt 2 t (descriptionHeaderLength + 2 * i))
 
 abbrev Inv-loop : tie.InvT-loop
 Inv-loop t out₀ i₀ out i = Written (values (value t) (length out₀)) out₀ i out

@@ -10,9 +10,8 @@ use mir.Val.{toZ}
 use borrow.Author.Needs.{needs}
 use Rattle.laws.specs.Machine.{kept}
 use Rattle.laws.specs.Loops.{Written, written-none}
-use Rattle.block.specs.Block.{values}
-use Rattle.image.specs.Load.{byteAt}
-use Rattle.trace_text.proofs.ReadLaws.{values-written, values-all}
+use Rattle.laws.specs.Values.{values, values-written, values-all}
+use Rattle.words.specs.Words.{byteAt}
 use Rattle.description.proofs.read.symbols.Statement.{statement}
 use Rattle.description.proofs.read.symbols.Tie as tie
 

@@ -6,8 +6,7 @@ use lib.ListN.{length, take}
 use lib.Seq.{take-at}
 use borrow.Author.Needs.{needs}
 use borrow.Rule.Slice.PartMut.{mid-len}
-use Rattle.block.specs.Block.{values}
-use Rattle.block.proofs.ValuesLaws.{values-length}
+use Rattle.laws.specs.Values.{values-length, values}
 use Rattle.description.proofs.ReadLaws.{well-long, well-most}
 use Rattle.description.proofs.WriteLaws.{symbols-in}
 use Rattle.description.proofs.write.symbols.Statement.{statement}

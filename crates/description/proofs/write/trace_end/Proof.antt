@@ -4,7 +4,7 @@ use mathlib.Core.Bool.{Bool, cond}
 use Prim.Native.Nat.{_+_, _*_}
 use borrow.Author.Needs.{needs}
 use borrow.Author.Tests.{le-leb, lt-leb}
-use Rattle.trace_text.specs.Trace.{traceHeaderLength}
+use Rattle.trace_layout.specs.Trace.{traceHeaderLength}
 use Rattle.description.proofs.write.trace_end.Statement.{statement}
 use Rattle.description.proofs.write.trace_end.Tie as tie
 

@@ -18,7 +18,7 @@ framed c = sym (c .before .frame-number .ensures) ∙ c .if1 .left
 returns : tie.Need-returns
 returns c =
     let f = c .before .before in
-    load-frame (bytes f) (f .frame-number .result) (f .frame-number .ensures) (c .fresh .result) (c .before .if1 .taken) (c .fresh .ensures)
+    load-frame (bytes f) (f .frame-number .result) (f .frame-number .ensures) (c .refused .result) (c .before .if1 .taken) (c .refused .ensures)
 
 state-in-requires : tie.Need-state-in-requires
 state-in-requires c κs = let l = bytes (c .before) in (framed-long l (framed c), framed-few l (framed c))
@@ -29,7 +29,7 @@ returns-2 c =
     let m = x .before in
     let f = m .before .before in
     load-refused (bytes f) (f .frame-number .result) (f .frame-number .ensures) (m .before .if1 .left) (m .state-in .result) (m .state-in .ensures) (x .examined .result) (x .examined .ensures)
-    (c .fresh2 .result) (c .before .if2 .taken) (c .fresh2 .ensures)
+    (c .refused2 .result) (c .before .if2 .taken) (c .refused2 .ensures)
 
 returns-3 : tie.Need-returns-3
 returns-3 c =

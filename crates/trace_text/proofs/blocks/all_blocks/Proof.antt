@@ -4,11 +4,11 @@ use Prim.Native.Nat.{ℕ, _-_, _≤_, _<_}
 use native.Mathlib.Omega.{arith}
 use lib.ListN.{length}
 use borrow.Author.Needs.{needs}
+use Rattle.words.specs.Words.{byteAt}
 use Rattle.steps.specs.Limits.{slots}
-use Rattle.image.specs.Load.{byteAt}
-use Rattle.trace_text.specs.Trace.{countIn}
+use Rattle.trace_layout.specs.Trace.{countIn}
+use Rattle.trace_layout.proofs.ReadLaws.{well-long}
 use Rattle.trace_text.specs.Calls.{OfTrace}
-use Rattle.trace_text.proofs.ReadLaws.{well-long}
 use Rattle.trace_text.proofs.TextLaws.{Going, going-none, going-next, going-stops, going-all, going-long, going-room}
 use Rattle.trace_text.proofs.blocks.all_blocks.Statement.{statement}
 use Rattle.trace_text.proofs.blocks.all_blocks.Tie as tie
@@ -21,21 +21,18 @@ abbrev μ-loop : tie.MeasureT-loop
 
 -- ---- the count of blocks
 
-shared-slice-read-unsigned16 : tie.Need-shared-slice-read-unsigned16 Inv-loop μ-loop
-shared-slice-read-unsigned16 c = let s = c .before .before .before in omega (arith, well-long _ (s .pre .trace .well-formed))
-
-shared-slice-read-unsigned16-2 : tie.Need-shared-slice-read-unsigned16-2 Inv-loop μ-loop
-shared-slice-read-unsigned16-2 c = let s = c .before .before .before .before in omega (arith, well-long _ (s .pre .trace .well-formed))
+count-in-requires : tie.Need-count-in-requires Inv-loop μ-loop
+count-in-requires c κs = omega (arith, well-long _ (c .before .pre .trace .well-formed))
 
 -- ---- the turn that calls
 
-abbrev first : tie.After-unsigned16 Inv-loop μ-loop → tie.Start Inv-loop μ-loop
-first c = c .before .before .before .before .before
+abbrev first : tie.After-count-in Inv-loop μ-loop → tie.Start Inv-loop μ-loop
+first c = c .before .before
 
-weights-long : (c : tie.After-unsigned16 Inv-loop μ-loop) → length (first c .args .e .weights) ≡ slots
+weights-long : (c : tie.After-count-in Inv-loop μ-loop) → length (first c .args .e .weights) ≡ slots
 weights-long c = search needs
 
-past-long : (c : tie.After-unsigned16 Inv-loop μ-loop) → length (first c .args .e .past) ≡ slots
+past-long : (c : tie.After-count-in Inv-loop μ-loop) → length (first c .args .e .past) ≡ slots
 past-long c = search needs
 
 loop-holds : tie.Need-loop-holds Inv-loop μ-loop
@@ -45,10 +42,10 @@ abbrev start : tie.At-loop Inv-loop μ-loop → tie.Start Inv-loop μ-loop
 start c = first (c .before)
 
 below : (c : tie.In-loop Inv-loop μ-loop) → c .before .loop .i < countIn (start (c .before) .args .t .now)
-below c = subst (λ (n : ℕ). c .before .loop .i < n) (c .before .before .unsigned16 .ensures) (c .loop-test .taken)
+below c = subst (λ (n : ℕ). c .before .loop .i < n) (c .before .before .count-in .ensures) (c .loop-test .taken)
 
 bytes-below : (c : tie.At-loop Inv-loop μ-loop) (i : ℕ) → byteAt (start c .args .t .now) i < 256
-bytes-below c i = omega (arith, c .before .before .shared-slice-known3 .given i)
+bytes-below c i = omega (arith, c .before .before .before .shared-slice-known .given i)
 
 trace : (c : tie.At-loop Inv-loop μ-loop) → OfTrace (start c .args .t .now) (c .loop .state)
 trace c =
@@ -81,7 +78,7 @@ returns c =
     going-stops _ _ _ _ _ _ _ (l .loop .inv) _ _ (below (r .before .before)) (r .block-text .ensures) (c .if1 .taken)
 
 add-i : tie.Need-add-i Inv-loop μ-loop
-add-i c = let h = c .before .before .before .before .before .before .before .loop-test .taken in omega (arith, h, c .before .before .before .before .before .before .before .before .before .unsigned16 .ok)
+add-i c = let h = c .before .before .before .before .before .before .before .loop-test .taken in omega (arith, h, c .before .before .before .before .before .before .before .before .before .count-in .ok)
 
 loop-less : tie.Need-loop-less Inv-loop μ-loop
 loop-less c =
@@ -100,12 +97,11 @@ same-length-2 c = still (c .before)
 returns-2 : tie.Need-returns-2 Inv-loop μ-loop
 returns-2 c =
     going-all _ _ _ _ _ _ _ (c .before .loop .inv)
-    (subst (λ (n : ℕ). n ≤ c .before .loop .i) (c .before .before .unsigned16 .ensures) (c .loop-test .left))
+    (subst (λ (n : ℕ). n ≤ c .before .loop .i) (c .before .before .count-in .ensures) (c .loop-test .left))
 
 pub all-blocks-spec : {M : Type 1} → statement M
 all-blocks-spec =
     tie.close
     (tie.spec
-    Inv-loop μ-loop shared-slice-read-unsigned16 shared-slice-read-unsigned16-2 (λ c κs. search needs)
-    (λ c. search needs) loop-holds block-text-requires same-length returns add-i loop-less loop-again
+    Inv-loop μ-loop count-in-requires loop-holds block-text-requires same-length returns add-i loop-less loop-again
     same-length-2 returns-2)

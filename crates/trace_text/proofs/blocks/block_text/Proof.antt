@@ -6,11 +6,12 @@ use native.Mathlib.Omega.{arith}
 use lib.ListN.{length, take, drop, replicate}
 use lib.IntN.{ℤ, pos}
 use borrow.Author.Needs.{needs}
+use Rattle.words.specs.Words.{byteAt}
 use Rattle.steps.specs.Limits.{blockLimit, slots}
+use Rattle.trace_layout.specs.Trace.{traceLimit}
 use Rattle.checks.specs.Checks.{Buffers}
 use Rattle.station.proofs.NumberLaws.{run-most}
-use Rattle.image.specs.Load.{byteAt}
-use Rattle.trace_text.specs.Trace.{traceLimit, buffersAt}
+use Rattle.trace_text.specs.Trace.{buffersAt}
 use Rattle.trace_text.specs.Text.{stopLine}
 use Rattle.trace_text.specs.Calls.{OfTrace, Ran-is}
 use Rattle.trace_text.proofs.TextAtLaws.{text-same}

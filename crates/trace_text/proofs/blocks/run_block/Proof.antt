@@ -7,7 +7,8 @@ use lib.ListN.{length, take, replicate}
 use lib.IntN.{ℤ, pos}
 use borrow.Author.Needs.{needs}
 use Rattle.steps.specs.Limits.{blockLimit}
-use Rattle.trace_text.specs.Calls.{OfTrace, Read-is}
+use Rattle.trace_layout.specs.Calls.{Read-is}
+use Rattle.trace_text.specs.Calls.{OfTrace}
 use Rattle.trace_text.proofs.BlockLaws.{zeros, zeros-long, front-is, front-long, front-within, read-long, buffers-is, ran-is}
 use Rattle.trace_text.proofs.blocks.run_block.Statement.{statement}
 use Rattle.trace_text.proofs.blocks.run_block.Tie as tie

@@ -1,0 +1,3 @@
+// Numbers as bytes, the lowest byte first.
+pub mod read;
+pub mod write;
