@@ -6,7 +6,7 @@ use lib.IntN.{ℤ, natAbs}
 use Rattle.laws.specs.Powers.{rises-strictly}
 use Rattle.laws.specs.Sums.{Each, each-weaken}
 use Rattle.numbers.proofs.BitLengthLaws.{bit-length-above, bit-length-le}
-use Rattle.steps.specs.Limits.{gainLimit, lengthLimit}
+use Rattle.steps.specs.Limits.{receivedUnit, gainLimit, lengthLimit}
 use Rattle.steps.specs.Settings.{Settings, scaleForward}
 use Rattle.steps.specs.Fir.{largest, magnitudes}
 use Rattle.block.specs.Block.{Block, Memory, receivedAll, newb, newB, Γ}
@@ -36,9 +36,9 @@ module _ (k : Settings) (o : Memory) (i : Block) where
     arith,
     bit-length-le (largest (magnitudes (receivedAll (i .samples) (i .gains)))) (lengthLimit - k .L) (omega (
       arith,
-      largest-magnitude (λ (n : ℕ). n ≤ 2 ^ (30 - k .L)) (omega arith) (receivedAll (i .samples) (i .gains))
+      largest-magnitude (λ (n : ℕ). n ≤ 2 ^ (receivedUnit - k .L)) (omega arith) (receivedAll (i .samples) (i .gains))
           (received-each (k .L) (i .samples) (i .gains) l (a .samples-are) (a .gains-least)),
-      rises-strictly {a = 30 - k .L} {b = lengthLimit - k .L} (omega arith),
+      rises-strictly {a = receivedUnit - k .L} {b = lengthLimit - k .L} (omega arith),
     )),
   )
 

@@ -13,6 +13,7 @@ use Rattle.laws.specs.Powers.{split}
 use Rattle.laws.specs.Ring.{ring, terms}
 use Rattle.numbers.specs.Cut.{cut, raise, rescale}
 use Rattle.numbers.proofs.CutLaws.{cut-error, rescale-up, rescale-down}
+use Rattle.steps.specs.Limits.{dataUnit}
 use Rattle.steps.specs.Settings.{Settings, scaleForward}
 use Rattle.block.specs.Block.{Block, Memory, receivedAll, newB, stored, at, nextMemory, QuantisedWithin, StoredNear}
 use Rattle.block.specs.Sound.{Sound, Acceptable}
@@ -22,8 +23,8 @@ use Rattle.block.proofs.BlockWindow.{at-new, at-old, next-memory-at, ne
 -- ---- one sample
 
 -- stored
-stored-off : (x : ℤ) (e : ℕ) → QuantisedWithin e e (rescale x 15 e) x
-stored-off x e = turn (raise x 15) (raise (rescale x 15 e) e) (cut-error (raise x 15) e)
+stored-off : (x : ℤ) (e : ℕ) → QuantisedWithin e e (rescale x dataUnit e) x
+stored-off x e = turn (raise x dataUnit) (raise (rescale x dataUnit e) e) (cut-error (raise x dataUnit) e)
   where
     turn : (a b : ℤ) → natAbs (a -ℤ b) < 2 ^ e → natAbs (b -ℤ a) < 2 ^ e
     turn a b h = by-abs-lt (b -ℤ a) (diff (atom b) (atom a)) (omega (arith, of-abs-lt (a -ℤ b) (diff (atom a) (atom b)) h))
@@ -55,10 +56,10 @@ later-off A X B B′ S h = go (decLe B B′)
     go : Dec (B ≤ B′) → QuantisedWithin (B′ + S) (max B B′ + S) (rescale A B B′) X
     go (yes l) =
         rw (max-eq-right l, rescale-down A B B′ (B′ - B) (omega arith))
-        (coarser A (cut A (B′ - B)) (raise X 15) (2 ^ (B′ - B)) (2 ^ (B + S)) (2 ^ (B′ + S)) (split (B′ + S) (B′ - B) (B + S) (omega arith)) (cut-error A (B′ - B)) h)
+        (coarser A (cut A (B′ - B)) (raise X dataUnit) (2 ^ (B′ - B)) (2 ^ (B + S)) (2 ^ (B′ + S)) (split (B′ + S) (B′ - B) (B + S) (omega arith)) (cut-error A (B′ - B)) h)
     go (no l) =
         rw (max-eq-left {n = B} {m = B′} (omega arith), rescale-up A B B′ (B - B′) (omega arith))
-        (finer A (raise X 15) (2 ^ (B - B′)) (2 ^ (B′ + S)) (2 ^ (B + S)) (split (B + S) (B - B′) (B′ + S) (omega arith)) h)
+        (finer A (raise X dataUnit) (2 ^ (B - B′)) (2 ^ (B′ + S)) (2 ^ (B + S)) (split (B + S) (B - B′) (B′ + S) (omega arith)) h)
 
 -- ---- all of them
 

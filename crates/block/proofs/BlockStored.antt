@@ -11,7 +11,7 @@ use Rattle.laws.specs.Powers as Power
 use Rattle.laws.specs.Sums.{Each, each-map, each-weaken}
 use Rattle.numbers.specs.Cut.{rescale}
 use Rattle.numbers.proofs.CutLaws.{rescale-most}
-use Rattle.steps.specs.Limits.{lengthLimit}
+use Rattle.steps.specs.Limits.{dataUnit, lengthLimit}
 use Rattle.steps.specs.Settings.{Settings, scaleForward}
 use Rattle.steps.specs.Sound.{Storable}
 use Rattle.filter.proofs.SampleFirs.{scale-most}
@@ -22,23 +22,23 @@ use Rattle.block.proofs.ReceivedLaws.{received-length}
 
 -- the bound of a stored sample in a sound state with b and B, and at a sample
 abbrev pub StateBound : Settings → ℕ → ℕ → ℤ → Type 0
-StateBound k b B a = natAbs a * 2 ^ (B + scaleForward k) < 2 ^ (15 + b)
+StateBound k b B a = natAbs a * 2 ^ (B + scaleForward k) < 2 ^ (dataUnit + b)
 
 abbrev pub SampleBound : Settings → ℤ → Type 0
-SampleBound k a = natAbs a * 2 ^ scaleForward k < 2 ^ 15
+SampleBound k a = natAbs a * 2 ^ scaleForward k < 2 ^ dataUnit
 
 -- ---- one sample
 
 -- X below 2^b, stored at B + S
-stored-below : (x : ℤ) (b e : ℕ) → natAbs x < 2 ^ b → natAbs (rescale x 15 e) * 2 ^ e < 2 ^ (15 + b)
-stored-below x b e h = omega (arith, rescale-most x 15 e, Power.raise (natAbs x) (15 + b) b 15 (omega arith) h)
+stored-below : (x : ℤ) (b e : ℕ) → natAbs x < 2 ^ b → natAbs (rescale x dataUnit e) * 2 ^ e < 2 ^ (dataUnit + b)
+stored-below x b e h = omega (arith, rescale-most x dataUnit e, Power.raise (natAbs x) (dataUnit + b) b dataUnit (omega arith) h)
 
 -- what obeys the bound of a sound state obeys the bound of a sample, at any exponent from b on
-sample-below : (z : ℤ) (b B S : ℕ) → b ≤ B → natAbs z * 2 ^ (B + S) < 2 ^ (15 + b) → natAbs z * 2 ^ S < 2 ^ 15
+sample-below : (z : ℤ) (b B S : ℕ) → b ≤ B → natAbs z * 2 ^ (B + S) < 2 ^ (dataUnit + b) → natAbs z * 2 ^ S < 2 ^ dataUnit
 sample-below z b B S l h =
-    cancel-lt B (omega (arith, ap (λ (n : ℕ). natAbs z * n) (split (B + S) B S refl), split (15 + B) 15 B refl, rises {a = 15 + b} {b = 15 + B} (omega arith)))
+    cancel-lt B (omega (arith, ap (λ (n : ℕ). natAbs z * n) (split (B + S) B S refl), split (dataUnit + B) dataUnit B refl, rises {a = dataUnit + b} {b = dataUnit + B} (omega arith)))
 
-rescaled-below : (a : ℤ) (i j b S : ℕ) → b ≤ j → natAbs a * 2 ^ (i + S) < 2 ^ (15 + b) → natAbs (rescale a i j) * 2 ^ S < 2 ^ 15
+rescaled-below : (a : ℤ) (i j b S : ℕ) → b ≤ j → natAbs a * 2 ^ (i + S) < 2 ^ (dataUnit + b) → natAbs (rescale a i j) * 2 ^ S < 2 ^ dataUnit
 rescaled-below a i j b S l h = sample-below (rescale a i j) b j S l (omega (
   arith,
   scale-le S (rescale-most a i j),
@@ -46,8 +46,8 @@ rescaled-below a i j b S l h = sample-below (rescale a i j) b j S l (omega (
   ap (λ (n : ℕ). natAbs a * n) (split (i + S) i S refl),
 ))
 
--- what fits 16 bits
-fits : (a S : ℕ) → a * 2 ^ S < 2 ^ 15 → a < 2 ^ 15
+-- without the scale
+fits : (a S : ℕ) → a * 2 ^ S < 2 ^ dataUnit → a < 2 ^ dataUnit
 fits a S h = omega (arith, mul-le-mul-left a (positive S))
 
 -- ---- all of them
@@ -84,7 +84,7 @@ module _ (k : Settings) (o : Memory) (i : Block) where
   old-length e = length-map (o .samples) _ ∙ e
 
   pub stored-at : Acceptable k i → (n : ℕ) → n < k .N →
-      getD (stored k o i) n (pos 0) ≡ rescale (getD (receivedAll (i .samples) (i .gains)) n (pos 0)) 15 (newB k o i + scaleForward k)
+      getD (stored k o i) n (pos 0) ≡ rescale (getD (receivedAll (i .samples) (i .gains)) n (pos 0)) dataUnit (newB k o i + scaleForward k)
   unfolding stored
   stored-at a n h = map-at _ (receivedAll (i .samples) (i .gains)) n (pos 0) (pos 0) (omega (arith, received-long a))
 
@@ -104,9 +104,9 @@ module _ (k : Settings) (o : Memory) (i : Block) where
     fitting = each-weaken (λ (x : ℤ). natAbs x < 2 ^ newb k o i) _ fitting (receivedAll (i .samples) (i .gains)) (received-below k o i);
   }
     where
-      fitting : (x : ℤ) → natAbs x < 2 ^ newb k o i → (natAbs x < 2 ^ 31) × (natAbs (rescale x 15 (newB k o i + scaleForward k)) < 2 ^ 15)
+      fitting : (x : ℤ) → natAbs x < 2 ^ newb k o i → (natAbs x < 2 ^ 31) × (natAbs (rescale x dataUnit (newB k o i + scaleForward k)) < 2 ^ dataUnit)
       fitting x h =
-          let A = rescale x 15 (newB k o i + scaleForward k) in (
+          let A = rescale x dataUnit (newB k o i + scaleForward k) in (
             omega (arith, rises {a = newb k o i} {b = lengthLimit} (omega (arith, newb-most k o i (s .within .L-most) a))),
             fits (natAbs A) (scaleForward k)
                 (sample-below A (newb k o i) (newB k o i) (scaleForward k) (newb-newB k o i) (stored-below x (newb k o i) (newB k o i + scaleForward k) h)),
@@ -122,7 +122,7 @@ module _ (k : Settings) (o : Memory) (i : Block) where
         room = omega (
           arith,
           mul-le-mul-left (natAbs a) (rises {a = o .B} {b = o .B + scaleForward k} (omega arith)),
-          rises {a = 15 + o .b} {b = 46} (omega (arith, s .b-most, s .B-most)),
+          rises {a = dataUnit + o .b} {b = dataUnit + lengthLimit} (omega (arith, s .b-most, s .B-most)),
         );
         bound = fits (natAbs (rescale a (o .B) (newB k o i))) (scaleForward k)
             (rescaled-below a (o .B) (newB k o i) (o .b) (scaleForward k) (oldb-newB k o i) h);

@@ -15,18 +15,18 @@ use Rattle.numbers.proofs.CutLaws.{raise-abs, rescale-up, rescale-shifts}
 use Rattle.steps.specs.Fir.{magnitudes}
 use Rattle.steps.specs.Sound.{orAll}
 use Rattle.steps.proofs.LargestLaws.{or-all-largest-bits, largest-bits-is}
-use Rattle.steps.specs.Limits.{gainLimit, scaleLimit, lengthLimit}
+use Rattle.steps.specs.Limits.{dataUnit, receivedUnit, gainLimit, scaleLimit, lengthLimit}
 use Rattle.block.specs.Block.{received, receivedAll}
 use Rattle.block.specs.Sound.{ShiftBounds}
 use Rattle.block.specs.Calls.{blockLength}
 
--- a sample of 16 bits with a gain of L or more is at most 2^(30−L)
-pub received-most : (L g m : ℕ) → L ≤ gainLimit → L ≤ g → m ≤ 2 ^ 15 → m * 2 ^ (15 - g) ≤ 2 ^ (30 - L)
+-- a sample with a gain of L or more is at most 2^(receivedUnit − L)
+pub received-most : (L g m : ℕ) → L ≤ gainLimit → L ≤ g → m ≤ 2 ^ dataUnit → m * 2 ^ (gainLimit - g) ≤ 2 ^ (receivedUnit - L)
 received-most L g m l h b =
-    omega (arith, mul-le-mul-right (2 ^ (15 - g)) b, split (15 + (15 - g)) 15 (15 - g) refl, rises {a = 15 + (15 - g)} {b = 30 - L} (omega arith))
+    omega (arith, mul-le-mul-right (2 ^ (gainLimit - g)) b, split (dataUnit + (gainLimit - g)) dataUnit (gainLimit - g) refl, rises {a = dataUnit + (gainLimit - g)} {b = receivedUnit - L} (omega arith))
 
-pub received-each : (L : ℕ) (m : List ℤ) (gains : List ℕ) → L ≤ gainLimit → Each (λ (x : ℤ). natAbs x ≤ 2 ^ 15) m → Each (λ (n : ℕ). L ≤ n) gains →
-    Each (λ (x : ℤ). natAbs x ≤ 2 ^ (30 - L)) (receivedAll m gains)
+pub received-each : (L : ℕ) (m : List ℤ) (gains : List ℕ) → L ≤ gainLimit → Each (λ (x : ℤ). natAbs x ≤ 2 ^ dataUnit) m → Each (λ (n : ℕ). L ≤ n) gains →
+    Each (λ (x : ℤ). natAbs x ≤ 2 ^ (receivedUnit - L)) (receivedAll m gains)
 unfolding receivedAll
 received-each L [] gs l h f = tt
 received-each L (m ∷ ms) [] l h f = tt
@@ -52,18 +52,18 @@ received-largest-bits m gains = or-all-largest-bits (receivedAll m gains) ∙ la
 
 -- ---- one shift up and one down
 
-pub shifted-is : (shift : ℕ) {x y : ℤ} {up down : ℕ} → x ≡ y → up ≡ 15 - shift → down ≡ shift - 15 → rescale x up down ≡ rescale y 15 shift
-shifted-is shift {y = y} e u d = rw (e, u, d) (sym (rescale-shifts y 15 shift))
+pub shifted-is : (shift : ℕ) {x y : ℤ} {up down : ℕ} → x ≡ y → up ≡ dataUnit - shift → down ≡ shift - dataUnit → rescale x up down ≡ rescale y dataUnit shift
+shifted-is shift {y = y} e u d = rw (e, u, d) (sym (rescale-shifts y dataUnit shift))
 
 -- either none up, or the product is the result
-pub shift-bounds : (x : ℤ) (shift : ℕ) → shift ≤ lengthLimit + scaleLimit → natAbs x < 2 ^ 31 → natAbs (rescale x 15 shift) < 2 ^ 15 → ShiftBounds (15 - shift) (shift - 15) x
+pub shift-bounds : (x : ℤ) (shift : ℕ) → shift ≤ lengthLimit + scaleLimit → natAbs x < 2 ^ 31 → natAbs (rescale x dataUnit shift) < 2 ^ dataUnit → ShiftBounds (dataUnit - shift) (shift - dataUnit) x
 shift-bounds x shift m r b = record {
   up-most = omega arith;
   down-most = omega arith;
-  room = go (decLe 15 shift);
-  bound = subst (λ (z : ℤ). natAbs z < 2 ^ 15) (rescale-shifts x 15 shift) b;
+  room = go (decLe dataUnit shift);
+  bound = subst (λ (z : ℤ). natAbs z < 2 ^ dataUnit) (rescale-shifts x dataUnit shift) b;
 }
   where
-    go : Dec (15 ≤ shift) → natAbs x * 2 ^ (15 - shift) < 2 ^ 31
+    go : Dec (dataUnit ≤ shift) → natAbs x * 2 ^ (dataUnit - shift) < 2 ^ 31
     go (yes l) = subst (λ (n : ℕ). natAbs x * 2 ^ n < 2 ^ 31) {x = 0} (omega arith) (omega arith)
-    go (no l) = omega (arith, raise-abs x (15 - shift), ap natAbs (rescale-up x 15 shift (15 - shift) (omega arith)))
+    go (no l) = omega (arith, raise-abs x (dataUnit - shift), ap natAbs (rescale-up x dataUnit shift (dataUnit - shift) (omega arith)))

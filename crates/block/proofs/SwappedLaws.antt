@@ -10,7 +10,7 @@ use Rattle.laws.specs.Negated.{negated, negated-negated, map-odd, each-negated,
 use Rattle.laws.specs.Values.{values}
 use Rattle.numbers.specs.Cut.{rescale}
 use Rattle.numbers.proofs.CutLaws.{raise-neg, rescale-neg}
-use Rattle.steps.specs.Limits.{exponentLimit, halvingLimit}
+use Rattle.steps.specs.Limits.{dataUnit, gainLimit, exponentLimit, halvingLimit}
 use Rattle.steps.specs.Settings.{Settings, scaleForward}
 use Rattle.steps.proofs.NegatedLaws.{push-neg, magnitudes-neg}
 use Rattle.filter.specs.Sample.{FilterState, Y, ξ, decision, Z, θ, next}
@@ -27,7 +27,7 @@ received-neg : (m : List ℤ) (gains : List ℕ) → receivedAll (negated m) gai
 unfolding receivedAll
 received-neg [] gs = refl
 received-neg (m ∷ ms) [] = refl
-received-neg (m ∷ ms) (x ∷ gs) = ap₂ _∷_ (raise-neg m (15 - x)) (received-neg ms gs)
+received-neg (m ∷ ms) (x ∷ gs) = ap₂ _∷_ (raise-neg m (gainLimit - x)) (received-neg ms gs)
 
 module _ (k : Settings) (o : Memory) (i : Block) where
   abbrev o′ : Memory
@@ -56,7 +56,7 @@ module _ (k : Settings) (o : Memory) (i : Block) where
   unfolding stored
   stored-neg =
       rw (newB-same, received-neg)
-      (map-odd (λ (x : ℤ). rescale x 15 (newB k o i + scaleForward k)) (λ x. rescale-neg x 15 (newB k o i + scaleForward k)) (receivedAll (i .samples) (i .gains)))
+      (map-odd (λ (x : ℤ). rescale x dataUnit (newB k o i + scaleForward k)) (λ x. rescale-neg x dataUnit (newB k o i + scaleForward k)) (receivedAll (i .samples) (i .gains)))
 
   old-neg : old k o′ i′ ≡ negated (old k o i)
   unfolding old
@@ -114,7 +114,7 @@ swapped-sound k o s = record {
   symbols-long = s .symbols-long;
   forward-small = each-negated (λ n. n < halvingLimit) (o .forward) (s .forward-small);
   back-small = s .back-small;
-  samples-small = each-negated (λ n. n * 2 ^ (o .B + scaleForward k) < 2 ^ (15 + o .b)) (o .samples) (s .samples-small);
+  samples-small = each-negated (λ n. n * 2 ^ (o .B + scaleForward k) < 2 ^ (dataUnit + o .b)) (o .samples) (s .samples-small);
   symbols-are = s .symbols-are;
   ψ-most = s .ψ-most;
   b-most = s .b-most;

@@ -10,7 +10,7 @@ use Rattle.laws.specs.Sums.{Each}
 use Rattle.laws.specs.Values.{values}
 use Rattle.numbers.specs.BitLength.{bitLength}
 use Rattle.numbers.specs.Cut.{raise, rescale}
-use Rattle.steps.specs.Limits.{exponentLimit}
+use Rattle.steps.specs.Limits.{dataUnit, gainLimit, exponentLimit}
 use Rattle.steps.specs.Settings.{Settings, scaleForward}
 use Rattle.steps.specs.Fir.{Small, largest, magnitudes, push}
 use Rattle.filter.specs.Sample.{FilterState, halve, Y, ξ, decision, Z, θ, outcome, next, Bounded, Normalised, Faithful, SameValues, Frozen}
@@ -34,9 +34,9 @@ pub record Memory : Type 0 where
   pub b : ℕ
   pub B : ℕ
 
--- X = m·2^(15−g)
+-- X = m·2^(gainLimit − g)
 abbrev pub received : ℤ → ℕ → ℤ
-received m g = raise m (15 - g)
+received m g = raise m (gainLimit - g)
 
 unfoldable pub receivedAll : List ℤ → List ℕ → List ℤ
 receivedAll [] gs = []
@@ -45,7 +45,7 @@ receivedAll (m ∷ ms) (g ∷ gs) = received m g ∷ receivedAll ms gs
 
 -- the samples as they are stored at B + S = shift
 abbrev pub storedAll : ℕ → List ℤ → List ℕ → List ℤ
-storedAll shift m gains = map (λ (x : ℤ). rescale x 15 shift) (receivedAll m gains)
+storedAll shift m gains = map (λ (x : ℤ). rescale x dataUnit shift) (receivedAll m gains)
 
 -- five lists, of an element for each sample
 pub record Outputs : Type 0 where
@@ -61,10 +61,11 @@ outputsOf y xi decision z theta = record { y = y; xi = xi; decision = decision; 
 abbrev pub outputLengths : Outputs → List ℕ
 outputLengths l = length (l .y) ∷ length (l .xi) ∷ length (l .decision) ∷ length (l .z) ∷ length (l .theta) ∷ []
 
--- A stored sample A means A·2^(γ−15), with γ = r − 30 + B + S, and the received value is x = X·2^(r−30). Both are compared times 2^(45−r):
--- A at B + S = e is off X by less than 2^limit, where 2^(γ−15) becomes 2^(B+S)
+-- A stored sample A means A·2^(γ − dataUnit), with γ = r − receivedUnit + B + S, and the received value is
+-- x = X·2^(r − receivedUnit). Both are compared times 2^(mantissaUnit − r): A at B + S = e is off X by less than
+-- 2^limit, where 2^(γ − dataUnit) becomes 2^(B+S)
 abbrev pub QuantisedWithin : ℕ → ℕ → ℤ → ℤ → Type 0
-QuantisedWithin e limit A X = natAbs (raise A e -ℤ raise X 15) < 2 ^ limit
+QuantisedWithin e limit A X = natAbs (raise A e -ℤ raise X dataUnit) < 2 ^ limit
 
 -- the weights that a block left mean the same numbers as those that it found
 abbrev pub SameWeights : Memory → Memory → Type 0
@@ -75,7 +76,7 @@ module _ (k : Settings) (o : Memory) (i : Block) where
   abbrev pub X : List ℤ
   X = receivedAll (i .samples) (i .gains)
 
-  -- 1: b, B and γ + 30
+  -- 1: b, B and γ + receivedUnit
   unfoldable pub newb : ℕ
   newb = bitLength (largest (magnitudes X))
 
@@ -145,10 +146,10 @@ module _ (k : Settings) (o : Memory) (i : Block) where
     pub symbols-long : length (at n .symbols) ≡ k .q
     pub next-forward-long : length (after (suc n) .forward) ≡ k .p
     pub next-back-long : length (after (suc n) .back) ≡ k .q
-    -- |W| ≤ 16383 before it
+    -- |W| below the halving limit before it
     pub forward-before : Each Small (at n .forward)
     pub back-before : Each Small (at n .back)
-    -- F, H, Y, Z and new weights keep their bounds, and |W| ≤ 16383 after it
+    -- F, H, Y, Z and new weights keep their bounds, and |W| is below the halving limit after it
     pub bounded : Bounded k Γ (at n) (entryAt n)
     -- one halving is enough, and a doubling changes no weight's value
     pub normalised-once : Normalised k Γ (at n) (entryAt n)
@@ -157,11 +158,11 @@ module _ (k : Settings) (o : Memory) (i : Block) where
     -- with M = 0 no weight changes its value, though mantissas and ψ may change
     pub frozen : Frozen k Γ (at n) (entryAt n)
 
-  -- each stored sample is off its received value by less than 2^(γ−15)
+  -- each stored sample is off its received value by less than 2^(γ − dataUnit)
   abbrev pub StoredNear : Type 0
   StoredNear = (n : ℕ) → n < k .N → QuantisedWithin (newB + scaleForward k) (newB + scaleForward k) (getD stored n (pos 0)) (getD X n (pos 0))
 
-  -- step 7 would raise ψ to 16 at some sample, and at none before
+  -- step 7 would raise ψ above its limit at some sample, and at none before
   pub record Raises : Type 0 where
     pub place : ℕ
     pub in-block : place < k .N

@@ -166,7 +166,7 @@ pub fn run(
     ensures { λ r. ⌜ BlockResult-is k (memoryOf (now (forward .entry)) (now (back .entry)) (now (samples .entry)) (now (symbols .entry)) psi b bmax) (blockOf (now (m .entry)) (now (gains .entry)) (now (entries .entry))) (outputsOf (now (y .entry)) (now (xi .entry)) (now (decision .entry)) (now (z .entry)) (now (theta .entry))) r (now (forward .exit)) (now (back .exit)) (now (samples .exit)) (now (symbols .exit)) (outputsOf (now (y .exit)) (now (xi .exit)) (now (decision .exit)) (now (z .exit)) (now (theta .exit))) ⌝ }
 {
     let e = begin(k, b, m, gains);
-    steps::fir::rescale_all(samples, bmax, e.bmax);
+    steps::past::rescale_all(samples, bmax, e.bmax);
     let n = m.len();
     let mut stored = [0i16; limits::BLOCK];
     let mut sample_line = [0i16; limits::LINE];

@@ -10,12 +10,12 @@ ghost use Rattle.steps.specs.Sound.{orAll};
 ghost use Rattle.block.specs.Block.{received, receivedAll, storedAll};
 ghost use Rattle.block.specs.Sound.{Receivable, ShiftBounds, StoreBounds};
 
-// X = m·2^(15−g).
+// X = m·2^(GAIN − g).
 pub fn received(m: i16, g: u8) -> i32
     requires { ⌜ g ≤ gainLimit ⌝ }
     ensures { λ r. ⌜ r ≡ received m g ⌝ }
 {
-    numbers::cut::raise32(m as i32, 15 - (g as u32))
+    numbers::cut::raise32(m as i32, steps::limits::GAIN - (g as u32))
 }
 
 // X of the sample at a place.
@@ -60,8 +60,8 @@ pub fn store(m: &[i16], gains: &[u8], shift: u32, out: &mut [i16])
     requires { ⌜ (StoreBounds (now m) (now gains) shift) × (length (now out) ≡ length (now m)) ⌝ }
     ensures { λ _. ⌜ now (out .exit) ≡ storedAll shift (now (m .entry)) (now (gains .entry)) ⌝ }
 {
-    let up = difference(15, shift);
-    let down = difference(shift, 15);
+    let up = difference(steps::limits::DATA_UNIT, shift);
+    let down = difference(shift, steps::limits::DATA_UNIT);
     let mut i: usize = 0;
     while i < out.len() {
         out[i] = shifted(received_at(m, gains, i), up, down);

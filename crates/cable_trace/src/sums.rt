@@ -60,7 +60,7 @@ fn sum(h: &[i16], v: &[i16]) -> i32
     let mut sum: i32 = 0;
     let mut i: usize = 0;
     while i < limits::RESPONSE {
-        sum = steps::fir::mac(sum, h[i], v[i]);
+        sum = numbers::product::mac(sum, h[i], v[i]);
         i += 1;
     }
     sum

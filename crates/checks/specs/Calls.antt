@@ -5,6 +5,7 @@ use mathlib.Core.List.{List}
 use Prim.Native.Nat.{_^_, _≤_}
 use lib.IntN.{ℤ, natAbs}
 use Rattle.laws.specs.Sums.{Each}
+use Rattle.steps.specs.Limits.{dataUnit}
 use Rattle.block.specs.Block.{Block}
 use Rattle.block.specs.Sound.{Sound, Acceptable}
 use Rattle.state.specs.Sizes.{sizesFit}
@@ -13,7 +14,7 @@ use Rattle.state.specs.declared.equaliser.Equaliser.{Equaliser}
 
 -- samples of 16 bits
 abbrev pub Sampled : List ℤ → Type 0
-Sampled m = Each (λ (z : ℤ). natAbs z ≤ 2 ^ 15) m
+Sampled m = Each (λ (z : ℤ). natAbs z ≤ 2 ^ dataUnit) m
 
 -- a state and a block that passed the checks
 pub record Checked (e : Equaliser) (i : Block) : Type 0 where

@@ -11,6 +11,7 @@ use Rattle.laws.specs.Sums.{dot}
 use Rattle.numbers.specs.Cut.{raise}
 use Rattle.numbers.proofs.CutLaws.{raise-raise}
 use Rattle.numbers.proofs.BitLengthLaws.{bit-length-le}
+use Rattle.steps.specs.Limits.{dataUnit, receivedUnit, mantissaUnit, exactUnit, outputRaise, weightRaise}
 use Rattle.steps.specs.Settings.{Settings, isEntry, scaleBack}
 use Rattle.steps.specs.Fir.{Fir, newWeights}
 use Rattle.filter.specs.Sample.{FilterState, ν, held, F, H, Y, ξ, v, κ, Z, θ, J, forwardFir, backFir, newForward, newBack, outcome, next, normalised, normalisedExponent, exactOutput, exactWeight, unitExponent, Near, Bounded, Faithful}
@@ -25,28 +26,28 @@ use Rattle.filter.proofs.DistanceFir.{fir-distance, step-small}
 
 module _ (k : Settings) (Γ : ℕ) (t : FilterState) (entry : ℤ) (h : Fit k Γ t) (e : isEntry (k .r) entry ≡ true) (b : Bounded k Γ t entry) where
   -- what is held of a symbol, or of a sum over symbols, means the same
-  held-means : (z : ℤ) → raise (raise z (15 - ν k Γ t entry)) (ν k Γ t entry + 30) ≡ raise z 45
-  held-means z = raise-raise z (15 - ν k Γ t entry) (ν k Γ t entry + 30) 45 (omega (arith, ν-most k Γ t entry h))
+  held-means : (z : ℤ) → raise (raise z (dataUnit - ν k Γ t entry)) (ν k Γ t entry + receivedUnit) ≡ raise z mantissaUnit
+  held-means z = raise-raise z (dataUnit - ν k Γ t entry) (ν k Γ t entry + receivedUnit) mantissaUnit (omega (arith, ν-most k Γ t entry h))
 
   held-at : (i : ℕ) → i < length (t .symbols) →
-      raise (getD (map (held k Γ t entry) (t .symbols)) i (pos 0)) (ν k Γ t entry + 30) ≡ raise (getD (t .symbols) i (pos 0)) 45
+      raise (getD (map (held k Γ t entry) (t .symbols)) i (pos 0)) (ν k Γ t entry + receivedUnit) ≡ raise (getD (t .symbols) i (pos 0)) mantissaUnit
   held-at i l =
-      ap (λ (z : ℤ). raise z (ν k Γ t entry + 30)) (map-at (held k Γ t entry) (t .symbols) i (pos 0) (pos 0) l)
+      ap (λ (z : ℤ). raise z (ν k Γ t entry + receivedUnit)) (map-at (held k Γ t entry) (t .symbols) i (pos 0) (pos 0) l)
       ∙ held-means (getD (t .symbols) i (pos 0))
 
-  exact-form : raise (raise (F k Γ t entry) Γ +ℤ raise (H k Γ t entry) (ν k Γ t entry + 30)) (t .ψ) ≡ exactOutput Γ t
+  exact-form : raise (raise (F k Γ t entry) Γ +ℤ raise (H k Γ t entry) (ν k Γ t entry + receivedUnit)) (t .ψ) ≡ exactOutput Γ t
   unfolding F
   exact-form =
       ap (λ (z : ℤ). raise (raise (dot (t .forward) (t .samples)) Γ +ℤ z) (t .ψ))
-      (ap (λ (z : ℤ). raise z (ν k Γ t entry + 30)) (H-raised k Γ t entry h) ∙ held-means (dot (t .back) (t .symbols)))
+      (ap (λ (z : ℤ). raise z (ν k Γ t entry + receivedUnit)) (H-raised k Γ t entry h) ∙ held-means (dot (t .back) (t .symbols)))
 
-  output-near : natAbs (raise (Y k Γ t entry) (ξ k Γ t entry + 30) -ℤ exactOutput Γ t) < 2 ^ (ξ k Γ t entry + 30)
+  output-near : natAbs (raise (Y k Γ t entry) (ξ k Γ t entry + outputRaise) -ℤ exactOutput Γ t) < 2 ^ (ξ k Γ t entry + outputRaise)
   unfolding Y ξ
   output-near =
-      subst (λ (z : ℤ). natAbs (raise (Y k Γ t entry) (ξ k Γ t entry + 30) -ℤ z) < 2 ^ (ξ k Γ t entry + 30)) exact-form
+      subst (λ (z : ℤ). natAbs (raise (Y k Γ t entry) (ξ k Γ t entry + outputRaise) -ℤ z) < 2 ^ (ξ k Γ t entry + outputRaise)) exact-form
       (output-distance (F k Γ t entry) (H k Γ t entry) (t .ψ) Γ (ν k Γ t entry))
 
-  error-near : natAbs (raise (Z k Γ t entry) (θ k Γ t entry + 30) -ℤ (raise (v k Γ t entry) 60 -ℤ exactOutput Γ t)) < 2 ^ (θ k Γ t entry + 30)
+  error-near : natAbs (raise (Z k Γ t entry) (θ k Γ t entry + outputRaise) -ℤ (raise (v k Γ t entry) exactUnit -ℤ exactOutput Γ t)) < 2 ^ (θ k Γ t entry + outputRaise)
   unfolding Z θ
   error-near = error-distance (v k Γ t entry) (Y k Γ t entry) (exactOutput Γ t) (ξ k Γ t entry) (κ k Γ t entry) (omega (arith, b .θ-most)) output-near
 
@@ -75,6 +76,6 @@ module _ (k : Settings) (Γ : ℕ) (t : FilterState) (entry : ℤ) (h : Fit k Γ
     forward-near = λ i l. fir-near (forwardFir k Γ t entry) (forward-fit k Γ t entry h) i (omega (arith, h .forward-long));
     back-near = λ i l.
         subst (λ (d : ℤ). Near (unitExponent (outcome k Γ t entry) (t .ψ)) (normalisedExponent (outcome k Γ t entry) (t .ψ)) (getD (normalised (outcome k Γ t entry) (newBack k Γ t entry)) i (pos 0))
-        (raise (getD (t .back) i (pos 0)) (120 + t .ψ) +ℤ pos (k .M) *ℤ d *ℤ (raise (v k Γ t entry) 60 -ℤ exactOutput Γ t)))
+        (raise (getD (t .back) i (pos 0)) (weightRaise + t .ψ) +ℤ pos (k .M) *ℤ d *ℤ (raise (v k Γ t entry) exactUnit -ℤ exactOutput Γ t)))
         (held-at i (omega (arith, h .back-long, h .symbols-long))) (fir-near (backFir k Γ t entry) (back-fit k Γ t entry h) i (omega (arith, h .back-long)));
   }

@@ -11,6 +11,7 @@ use Rattle.laws.specs.Powers.{split, same, positive}
 use Rattle.laws.specs.Ring.{ring, terms}
 use Rattle.numbers.specs.Cut.{cut, raise}
 use Rattle.numbers.proofs.CutLaws.{cut-error, raise-raise}
+use Rattle.steps.specs.Limits.{outputUnit, receivedUnit, exactUnit, outputRaise}
 use Rattle.steps.specs.Output.{output, outputExponent}
 use Rattle.steps.specs.Error.{error, errorExponent}
 use Rattle.steps.proofs.OutputLaws.{output-form, output-exponent-form, error-form, error-exponent-form}
@@ -72,27 +73,27 @@ max-below a b = go (decLe a b)
     go (yes l) = omega (arith, same (max a b) b (max-eq-right l), positive a)
     go (no l) = omega (arith, same (max a b) a (max-eq-left (le-of-lt (lt-of-not-le l))), positive b)
 
--- |y − y*| < 2^(ξ−30)
+-- |y − y*| < 2^(ξ − outputUnit), where F and H are in the output's unit
 pub output-distance : (F H : ℤ) (ψ Γ ν : ℕ) →
-    natAbs (raise (output F H Γ ν) (outputExponent ψ Γ ν + 30) -ℤ raise (raise F Γ +ℤ raise H (ν + 30)) ψ) < 2 ^ (outputExponent ψ Γ ν + 30)
+    natAbs (raise (output F H Γ ν) (outputExponent ψ Γ ν + receivedUnit) -ℤ raise (raise F Γ +ℤ raise H (ν + receivedUnit)) ψ) < 2 ^ (outputExponent ψ Γ ν + receivedUnit)
 output-distance F H ψ Γ ν =
     rw (output-form F H Γ ν)
-    (subst (λ (u : ℕ). natAbs ((cut F (ν + 30 - Γ) +ℤ cut H (Γ - (ν + 30))) *ℤ pos u -ℤ raise (raise F Γ +ℤ raise H (ν + 30)) ψ) < u)
-    (sym (split (outputExponent ψ Γ ν + 30) ψ (max Γ (ν + 30)) (output-exponent-form ψ Γ ν)))
-    (output-core F H (cut F (ν + 30 - Γ)) (cut H (Γ - (ν + 30))) (2 ^ Γ) (2 ^ (ν + 30)) (2 ^ (ν + 30 - Γ)) (2 ^ (Γ - (ν + 30))) (2 ^ ψ) (2 ^ max Γ (ν + 30))
-    (cut-error F (ν + 30 - Γ)) (cut-error H (Γ - (ν + 30)))
-    (split (max Γ (ν + 30)) (ν + 30 - Γ) Γ (omega arith))
-    (split (max Γ (ν + 30)) (Γ - (ν + 30)) (ν + 30) (omega arith))
-    (max-below Γ (ν + 30)) (positive ψ)))
+    (subst (λ (u : ℕ). natAbs ((cut F (ν + receivedUnit - Γ) +ℤ cut H (Γ - (ν + receivedUnit))) *ℤ pos u -ℤ raise (raise F Γ +ℤ raise H (ν + receivedUnit)) ψ) < u)
+    (sym (split (outputExponent ψ Γ ν + receivedUnit) ψ (max Γ (ν + receivedUnit)) (output-exponent-form ψ Γ ν)))
+    (output-core F H (cut F (ν + receivedUnit - Γ)) (cut H (Γ - (ν + receivedUnit))) (2 ^ Γ) (2 ^ (ν + receivedUnit)) (2 ^ (ν + receivedUnit - Γ)) (2 ^ (Γ - (ν + receivedUnit))) (2 ^ ψ) (2 ^ max Γ (ν + receivedUnit))
+    (cut-error F (ν + receivedUnit - Γ)) (cut-error H (Γ - (ν + receivedUnit)))
+    (split (max Γ (ν + receivedUnit)) (ν + receivedUnit - Γ) Γ (omega arith))
+    (split (max Γ (ν + receivedUnit)) (Γ - (ν + receivedUnit)) (ν + receivedUnit) (omega arith))
+    (max-below Γ (ν + receivedUnit)) (positive ψ)))
 
 -- Z and v − y*, where Y is less than one of its units off y
-pub error-distance : (v Y y : ℤ) (ξ κ : ℕ) → errorExponent ξ κ ≤ 30 → natAbs (raise Y (ξ + 30) -ℤ y) < 2 ^ (ξ + 30) →
-    natAbs (raise (error v Y ξ κ) (errorExponent ξ κ + 30) -ℤ (raise v 60 -ℤ y)) < 2 ^ (errorExponent ξ κ + 30)
+pub error-distance : (v Y y : ℤ) (ξ κ : ℕ) → errorExponent ξ κ ≤ outputUnit → natAbs (raise Y (ξ + outputRaise) -ℤ y) < 2 ^ (ξ + outputRaise) →
+    natAbs (raise (error v Y ξ κ) (errorExponent ξ κ + outputRaise) -ℤ (raise v exactUnit -ℤ y)) < 2 ^ (errorExponent ξ κ + outputRaise)
 error-distance v Y y ξ κ l h = rw (error-form v Y ξ κ) (go (errorExponent ξ κ) l (omega (arith, error-exponent-form ξ κ)))
   where
-    go : (θ : ℕ) → θ ≤ 30 → ξ ≤ θ → natAbs (raise (raise v (30 - θ) -ℤ cut Y (θ - ξ)) (θ + 30) -ℤ (raise v 60 -ℤ y)) < 2 ^ (θ + 30)
+    go : (θ : ℕ) → θ ≤ outputUnit → ξ ≤ θ → natAbs (raise (raise v (outputUnit - θ) -ℤ cut Y (θ - ξ)) (θ + outputRaise) -ℤ (raise v exactUnit -ℤ y)) < 2 ^ (θ + outputRaise)
     go θ top low =
-        subst (λ (z : ℤ). natAbs (raise (raise v (30 - θ) -ℤ cut Y (θ - ξ)) (θ + 30) -ℤ (z -ℤ y)) < 2 ^ (θ + 30)) (raise-raise v (30 - θ) (θ + 30) 60 (omega arith))
-        (subst (λ (u : ℕ). natAbs ((raise v (30 - θ) -ℤ cut Y (θ - ξ)) *ℤ pos u -ℤ (raise v (30 - θ) *ℤ pos u -ℤ y)) < u)
-        (sym (split (θ + 30) (θ - ξ) (ξ + 30) (omega arith)))
-        (error-core (raise v (30 - θ)) (cut Y (θ - ξ)) Y y (2 ^ (θ - ξ)) (2 ^ (ξ + 30)) (cut-error Y (θ - ξ)) h))
+        subst (λ (z : ℤ). natAbs (raise (raise v (outputUnit - θ) -ℤ cut Y (θ - ξ)) (θ + outputRaise) -ℤ (z -ℤ y)) < 2 ^ (θ + outputRaise)) (raise-raise v (outputUnit - θ) (θ + outputRaise) exactUnit (omega arith))
+        (subst (λ (u : ℕ). natAbs ((raise v (outputUnit - θ) -ℤ cut Y (θ - ξ)) *ℤ pos u -ℤ (raise v (outputUnit - θ) *ℤ pos u -ℤ y)) < u)
+        (sym (split (θ + outputRaise) (θ - ξ) (ξ + outputRaise) (omega arith)))
+        (error-core (raise v (outputUnit - θ)) (cut Y (θ - ξ)) Y y (2 ^ (θ - ξ)) (2 ^ (ξ + outputRaise)) (cut-error Y (θ - ξ)) h))

@@ -11,6 +11,7 @@ use Rattle.laws.specs.Powers.{split, split3, rises}
 use Rattle.laws.specs.Ring.{ring, terms}
 use Rattle.numbers.specs.Cut.{cut, raise}
 use Rattle.numbers.proofs.CutLaws.{cut-error, raise-raise}
+use Rattle.steps.specs.Limits.{dataUnit, stepUnit, receivedUnit, updateShift, outputRaise, weightRaise}
 use Rattle.steps.specs.Fir.{adapted}
 use Rattle.filter.specs.Sample.{Outcome, keep, halve, double, normalised, normalisedExponent, Near, distance, unitExponent}
 use Rattle.steps.proofs.FirLaws.{halved-at, doubled-at}
@@ -82,45 +83,47 @@ weight-core w c J a Z y M u b s t x h cut-c cut-J off-Z e = bound
       by-factor-small,
     )
 
--- a datum a with |a|·s < 2^15, and M·x·h ≤ 4·s·b: the distance is at most 1 + 5/32768 units of u·b, where u is 2^30
-weight-units : (w c J a Z y : ℤ) (M b s t x h : ℕ) → natAbs (J *ℤ pos s *ℤ a -ℤ c *ℤ pos (2 ^ 30)) < 2 ^ 30 → natAbs (pos M *ℤ Z -ℤ J *ℤ pos t) < t →
-    natAbs (Z *ℤ pos h -ℤ y) < h → s * b ≡ t * (x * h) → natAbs a * s < 2 ^ 15 → M * (x * h) ≤ 4 * (s * b) →
-    natAbs ((w +ℤ c) *ℤ pos (2 ^ 30 * b) -ℤ (w *ℤ pos (2 ^ 30 * b) +ℤ pos M *ℤ (a *ℤ pos x) *ℤ y)) ≤ (2 ^ 30 + 5 * 2 ^ 15) * b
+-- a datum a with |a|·s < 2^dataUnit, and M·x·h ≤ 4·s·b: the distance is at most u + 5·2^dataUnit times b, where u is
+-- 2^updateShift
+weight-units : (w c J a Z y : ℤ) (M b s t x h : ℕ) → natAbs (J *ℤ pos s *ℤ a -ℤ c *ℤ pos (2 ^ updateShift)) < 2 ^ updateShift → natAbs (pos M *ℤ Z -ℤ J *ℤ pos t) < t →
+    natAbs (Z *ℤ pos h -ℤ y) < h → s * b ≡ t * (x * h) → natAbs a * s < 2 ^ dataUnit → M * (x * h) ≤ 4 * (s * b) →
+    natAbs ((w +ℤ c) *ℤ pos (2 ^ updateShift * b) -ℤ (w *ℤ pos (2 ^ updateShift * b) +ℤ pos M *ℤ (a *ℤ pos x) *ℤ y)) ≤ (2 ^ updateShift + 5 * 2 ^ dataUnit) * b
 weight-units w c J a Z y M b s t x h cut-c cut-J off-Z e l m = omega (
   arith,
-  weight-core w c J a Z y M (2 ^ 30) b s t x h cut-c cut-J off-Z e,
+  weight-core w c J a Z y M (2 ^ updateShift) b s t x h cut-c cut-J off-Z e,
   mul-le-mul-right b (le-of-lt l),
   mul-le-mul-right (natAbs a) m,
 )
 
 -- ---- at the exponents
 
--- a new weight w, before step 7, and the exact one are at most 1 + 5/32768 units of 2^(ψ−15) apart
+-- a new weight w, before step 7, and the exact one are at most 1 + 5·2^dataUnit / 2^updateShift units of
+-- 2^(ψ − weightUnit) apart
 abbrev pub Close : ℕ → ℤ → ℤ → Type 0
-Close ψ w e = natAbs (raise w (120 + ψ) -ℤ e) ≤ (2 ^ 30 + 5 * 2 ^ 15) * 2 ^ (90 + ψ)
+Close ψ w e = natAbs (raise w (weightRaise + ψ) -ℤ e) ≤ (2 ^ updateShift + 5 * 2 ^ dataUnit) * 2 ^ (weightRaise - updateShift + ψ)
 
 -- one weight of a filter, where Z is less than one of its units off the exact error y
-pub weight-distance : (w a Z y : ℤ) (M ψ θ s x t : ℕ) → t + (x + θ) ≡ 60 + ψ + s → natAbs a * 2 ^ s < 2 ^ 15 →
-    natAbs (raise Z (θ + 30) -ℤ y) < 2 ^ (θ + 30) → M * (2 ^ x * 2 ^ θ) ≤ 2 ^ 62 * (2 ^ ψ * 2 ^ s) →
-    Close ψ (adapted (raise (cut (pos M *ℤ Z) t) s) w a) (raise w (120 + ψ) +ℤ pos M *ℤ raise a x *ℤ y)
+pub weight-distance : (w a Z y : ℤ) (M ψ θ s x t : ℕ) → t + (x + θ) ≡ stepUnit + receivedUnit + ψ + s → natAbs a * 2 ^ s < 2 ^ dataUnit →
+    natAbs (raise Z (θ + outputRaise) -ℤ y) < 2 ^ (θ + outputRaise) → M * (2 ^ x * 2 ^ θ) ≤ 2 ^ (stepUnit + receivedUnit + 2) * (2 ^ ψ * 2 ^ s) →
+    Close ψ (adapted (raise (cut (pos M *ℤ Z) t) s) w a) (raise w (weightRaise + ψ) +ℤ pos M *ℤ raise a x *ℤ y)
 weight-distance w a Z y M ψ θ s x t e l off m =
-    subst (λ (u : ℕ). natAbs (adapted (raise (cut (pos M *ℤ Z) t) s) w a *ℤ pos u -ℤ (w *ℤ pos u +ℤ pos M *ℤ raise a x *ℤ y)) ≤ (2 ^ 30 + 5 * 2 ^ 15) * 2 ^ (90 + ψ))
-    (sym (split (120 + ψ) 30 (90 + ψ) (omega arith)))
-    (weight-units w (cut (raise J s *ℤ a) 30) J a Z y M (2 ^ (90 + ψ)) (2 ^ s) (2 ^ t) (2 ^ x) (2 ^ (θ + 30))
-    (cut-error (raise J s *ℤ a) 30) (cut-error (pos M *ℤ Z) t) off level l room)
+    subst (λ (u : ℕ). natAbs (adapted (raise (cut (pos M *ℤ Z) t) s) w a *ℤ pos u -ℤ (w *ℤ pos u +ℤ pos M *ℤ raise a x *ℤ y)) ≤ (2 ^ updateShift + 5 * 2 ^ dataUnit) * 2 ^ (weightRaise - updateShift + ψ))
+    (sym (split (weightRaise + ψ) updateShift (weightRaise - updateShift + ψ) (omega arith)))
+    (weight-units w (cut (raise J s *ℤ a) updateShift) J a Z y M (2 ^ (weightRaise - updateShift + ψ)) (2 ^ s) (2 ^ t) (2 ^ x) (2 ^ (θ + outputRaise))
+    (cut-error (raise J s *ℤ a) updateShift) (cut-error (pos M *ℤ Z) t) off level l room)
   where
     J : ℤ
     J = cut (pos M *ℤ Z) t
 
-    level : 2 ^ s * 2 ^ (90 + ψ) ≡ 2 ^ t * (2 ^ x * 2 ^ (θ + 30))
-    level = sym (split (s + (90 + ψ)) s (90 + ψ) refl) ∙ split3 (s + (90 + ψ)) t x (θ + 30) (omega arith)
+    level : 2 ^ s * 2 ^ (weightRaise - updateShift + ψ) ≡ 2 ^ t * (2 ^ x * 2 ^ (θ + outputRaise))
+    level = sym (split (s + (weightRaise - updateShift + ψ)) s (weightRaise - updateShift + ψ) refl) ∙ split3 (s + (weightRaise - updateShift + ψ)) t x (θ + outputRaise) (omega arith)
 
-    room : M * (2 ^ x * 2 ^ (θ + 30)) ≤ 4 * (2 ^ s * 2 ^ (90 + ψ))
+    room : M * (2 ^ x * 2 ^ (θ + outputRaise)) ≤ 4 * (2 ^ s * 2 ^ (weightRaise - updateShift + ψ))
     room = omega (
       arith,
-      mul-le-mul-right (2 ^ 30) m,
-      ap (λ (n : ℕ). M * 2 ^ x * n) (split (θ + 30) θ 30 refl),
-      ap (λ (n : ℕ). 2 ^ s * n) (split (90 + ψ) 90 ψ refl),
+      mul-le-mul-right (2 ^ outputRaise) m,
+      ap (λ (n : ℕ). M * 2 ^ x * n) (split (θ + outputRaise) θ outputRaise refl),
+      ap (λ (n : ℕ). 2 ^ s * n) (split (weightRaise - updateShift + ψ) (weightRaise - updateShift) ψ refl),
     )
 
 -- w is 2·c, less than 2 off
@@ -139,17 +142,17 @@ halving-core w c e u h = omega (
 -- a halving counts in units twice as large
 halving : (w e : ℤ) (ψ : ℕ) → Close ψ w e → Near (suc ψ) (suc ψ) (cut w 1) e
 halving w e ψ h =
-    subst (λ (u : ℕ). natAbs (cut w 1 *ℤ pos u -ℤ e) * 1024 ≤ distance * u) (sym (split (120 + suc ψ) 1 (120 + ψ) (omega arith)))
-    (omega (arith, halving-core w (cut w 1) e (2 ^ (120 + ψ)) (cut-error w 1), split (120 + ψ) 30 (90 + ψ) (omega arith)))
+    subst (λ (u : ℕ). natAbs (cut w 1 *ℤ pos u -ℤ e) * 1024 ≤ distance * u) (sym (split (weightRaise + suc ψ) 1 (weightRaise + ψ) (omega arith)))
+    (omega (arith, halving-core w (cut w 1) e (2 ^ (weightRaise + ψ)) (cut-error w 1), split (weightRaise + ψ) updateShift (weightRaise - updateShift + ψ) (omega arith)))
 
 -- a doubled weight means the same number, and no unit is smaller than the one before
 doubling : (w e : ℤ) (ψ : ℕ) → 1 ≤ ψ → Close ψ w e → Near (unitExponent double ψ) (ψ - 1) (raise w 1) e
 doubling w e ψ l h =
-    rw (raise-raise w 1 (120 + (ψ - 1)) (120 + ψ) (omega arith))
-    (omega (arith, split (120 + ψ) 30 (90 + ψ) (omega arith), rises {a = 120 + ψ} {b = 120 + unitExponent double ψ} (omega arith)))
+    rw (raise-raise w 1 (weightRaise + (ψ - 1)) (weightRaise + ψ) (omega arith))
+    (omega (arith, split (weightRaise + ψ) updateShift (weightRaise - updateShift + ψ) (omega arith), rises {a = weightRaise + ψ} {b = weightRaise + unitExponent double ψ} (omega arith)))
 
 pub normalised-near : (s : Outcome) (f b : List ℤ) (l : List ℤ) (n ψ : ℕ) (e : ℤ) → Says s ψ f b → Close ψ (getD l n (pos 0)) e →
     Near (unitExponent s ψ) (normalisedExponent s ψ) (getD (normalised s l) n (pos 0)) e
-normalised-near keep f b l n ψ e c h = omega (arith, split (120 + ψ) 30 (90 + ψ) (omega arith))
+normalised-near keep f b l n ψ e c h = omega (arith, split (weightRaise + ψ) updateShift (weightRaise - updateShift + ψ) (omega arith))
 normalised-near halve f b l n ψ e c h = subst (λ (w : ℤ). Near (suc ψ) (suc ψ) w e) (sym (halved-at l n)) (halving (getD l n (pos 0)) e ψ h)
 normalised-near double f b l n ψ e c h = subst (λ (w : ℤ). Near (unitExponent double ψ) (ψ - 1) w e) (sym (doubled-at l n)) (doubling (getD l n (pos 0)) e ψ (c .0) h)

@@ -10,6 +10,7 @@ use Rattle.numbers.specs.BitLength.{bitLength}
 use Rattle.numbers.specs.Cut.{cut, raise}
 use Rattle.numbers.proofs.BitLengthLaws.{bit-length-above}
 use Rattle.numbers.proofs.CutLaws.{cut-le, cut-scaled, raise-abs}
+use Rattle.steps.specs.Limits.{outputUnit, receivedUnit}
 use Rattle.steps.specs.Output.{output, outputExponent}
 use Rattle.steps.specs.Error.{error, errorExponent}
 use Rattle.steps.proofs.OutputLaws.{output-form, output-exponent-form, error-form, error-exponent-form}
@@ -20,50 +21,50 @@ cut-up z d a c e = omega (arith, mul-le-mul-right (2 ^ a) (cut-scaled z d), ap (
 
 -- ---- the output
 
-output-parts : (F H : ℤ) (Γ ν : ℕ) → natAbs (output F H Γ ν) ≤ natAbs (cut F (ν + 30 - Γ)) + natAbs (cut H (Γ - (ν + 30)))
-output-parts F H Γ ν = rw (output-form F H Γ ν) (abs-add (cut F (ν + 30 - Γ)) (cut H (Γ - (ν + 30))))
+output-parts : (F H : ℤ) (Γ ν : ℕ) → natAbs (output F H Γ ν) ≤ natAbs (cut F (ν + receivedUnit - Γ)) + natAbs (cut H (Γ - (ν + receivedUnit)))
+output-parts F H Γ ν = rw (output-form F H Γ ν) (abs-add (cut F (ν + receivedUnit - Γ)) (cut H (Γ - (ν + receivedUnit))))
 
 -- a cut never grows a magnitude
 pub output-small : (F H : ℤ) (Γ ν : ℕ) → natAbs (output F H Γ ν) ≤ natAbs F + natAbs H
-output-small F H Γ ν = omega (arith, output-parts F H Γ ν, cut-le F (ν + 30 - Γ), cut-le H (Γ - (ν + 30)))
+output-small F H Γ ν = omega (arith, output-parts F H Γ ν, cut-le F (ν + receivedUnit - Γ), cut-le H (Γ - (ν + receivedUnit)))
 
--- |Y|·2^(ξ+30) ≤ 2^ψ·(|F|·2^g + |H|·2^(ν+30))
+-- |Y|·2^(ξ + receivedUnit) ≤ 2^ψ·(|F|·2^Γ + |H|·2^(ν + receivedUnit))
 pub output-scaled : (F H : ℤ) (ψ Γ ν : ℕ) →
-    natAbs (output F H Γ ν) * 2 ^ (outputExponent ψ Γ ν + 30) ≤ 2 ^ ψ * (natAbs F * 2 ^ Γ + natAbs H * 2 ^ (ν + 30))
-output-scaled F H ψ Γ ν = joined (natAbs (cut F (ν + 30 - Γ))) (natAbs (cut H (Γ - (ν + 30)))) (2 ^ ψ) (2 ^ max Γ (ν + 30))
+    natAbs (output F H Γ ν) * 2 ^ (outputExponent ψ Γ ν + receivedUnit) ≤ 2 ^ ψ * (natAbs F * 2 ^ Γ + natAbs H * 2 ^ (ν + receivedUnit))
+output-scaled F H ψ Γ ν = joined (natAbs (cut F (ν + receivedUnit - Γ))) (natAbs (cut H (Γ - (ν + receivedUnit)))) (2 ^ ψ) (2 ^ max Γ (ν + receivedUnit))
     (output-parts F H Γ ν)
-    (cut-up F (ν + 30 - Γ) Γ (max Γ (ν + 30)) (sym (sub-add-eq-max (ν + 30) Γ ∙ max-comm (ν + 30) Γ)))
-    (cut-up H (Γ - (ν + 30)) (ν + 30) (max Γ (ν + 30)) (sym (sub-add-eq-max Γ (ν + 30))))
-    (split (outputExponent ψ Γ ν + 30) ψ (max Γ (ν + 30)) (output-exponent-form ψ Γ ν))
+    (cut-up F (ν + receivedUnit - Γ) Γ (max Γ (ν + receivedUnit)) (sym (sub-add-eq-max (ν + receivedUnit) Γ ∙ max-comm (ν + receivedUnit) Γ)))
+    (cut-up H (Γ - (ν + receivedUnit)) (ν + receivedUnit) (max Γ (ν + receivedUnit)) (sym (sub-add-eq-max Γ (ν + receivedUnit))))
+    (split (outputExponent ψ Γ ν + receivedUnit) ψ (max Γ (ν + receivedUnit)) (output-exponent-form ψ Γ ν))
   where
     joined : {y f h e : ℕ} (a b p c : ℕ) → y ≤ a + b → a * c ≤ f → b * c ≤ h → e ≡ p * c → y * e ≤ p * (f + h)
     joined {y = y} a b p c l m n e = omega (arith, mul-le-mul-right (p * c) l, mul-le-mul-left p m, mul-le-mul-left p n, ap (λ (x : ℕ). y * x) e)
 
 -- ---- the error
 
-error-parts : (v Y : ℤ) (ξ κ : ℕ) → natAbs (error v Y ξ κ) ≤ natAbs v * 2 ^ (30 - errorExponent ξ κ) + natAbs (cut Y (errorExponent ξ κ - ξ))
+error-parts : (v Y : ℤ) (ξ κ : ℕ) → natAbs (error v Y ξ κ) ≤ natAbs v * 2 ^ (outputUnit - errorExponent ξ κ) + natAbs (cut Y (errorExponent ξ κ - ξ))
 error-parts v Y ξ κ =
     rw (error-form v Y ξ κ)
-    (omega (arith, abs-sub (raise v (30 - errorExponent ξ κ)) (cut Y (errorExponent ξ κ - ξ)), raise-abs v (30 - errorExponent ξ κ)))
+    (omega (arith, abs-sub (raise v (outputUnit - errorExponent ξ κ)) (cut Y (errorExponent ξ κ - ξ)), raise-abs v (outputUnit - errorExponent ξ κ)))
 
--- |v|·2^(30−θ) < 2^(30−S′), and the rest is at most |Y|
-pub error-small : (v Y : ℤ) (ξ s : ℕ) → 1 ≤ s → errorExponent ξ (s + bitLength (natAbs v)) ≤ 30 → natAbs Y < 2 ^ 29 →
-    natAbs (error v Y ξ (s + bitLength (natAbs v))) < 2 ^ 30
+-- |v|·2^(outputUnit − θ) < 2^(outputUnit − S′), and the rest is at most |Y|
+pub error-small : (v Y : ℤ) (ξ s : ℕ) → 1 ≤ s → errorExponent ξ (s + bitLength (natAbs v)) ≤ outputUnit → natAbs Y < 2 ^ (outputUnit - 1) →
+    natAbs (error v Y ξ (s + bitLength (natAbs v))) < 2 ^ outputUnit
 error-small v Y ξ s h m l = go (errorExponent ξ (s + bitLength (natAbs v))) (error-parts v Y ξ (s + bitLength (natAbs v))) m
     (omega (arith, error-exponent-form ξ (s + bitLength (natAbs v)), le-max-left (s + bitLength (natAbs v)) ξ))
   where
-    part : (θ : ℕ) → θ ≤ 30 → s + bitLength (natAbs v) ≤ θ → natAbs v * 2 ^ (30 - θ) < 2 ^ 29
-    part θ m k = omega (arith, scale-lt (30 - θ) (bit-length-above (natAbs v)), split (bitLength (natAbs v) + (30 - θ)) (bitLength (natAbs v)) (30 - θ) refl, rises {a = bitLength (natAbs v) + (30 - θ)} {b = 29} (omega arith))
+    part : (θ : ℕ) → θ ≤ outputUnit → s + bitLength (natAbs v) ≤ θ → natAbs v * 2 ^ (outputUnit - θ) < 2 ^ (outputUnit - 1)
+    part θ m k = omega (arith, scale-lt (outputUnit - θ) (bit-length-above (natAbs v)), split (bitLength (natAbs v) + (outputUnit - θ)) (bitLength (natAbs v)) (outputUnit - θ) refl, rises {a = bitLength (natAbs v) + (outputUnit - θ)} {b = outputUnit - 1} (omega arith))
 
-    go : (θ : ℕ) → natAbs (error v Y ξ (s + bitLength (natAbs v))) ≤ natAbs v * 2 ^ (30 - θ) + natAbs (cut Y (θ - ξ)) → θ ≤ 30 →
-        s + bitLength (natAbs v) ≤ θ → natAbs (error v Y ξ (s + bitLength (natAbs v))) < 2 ^ 30
+    go : (θ : ℕ) → natAbs (error v Y ξ (s + bitLength (natAbs v))) ≤ natAbs v * 2 ^ (outputUnit - θ) + natAbs (cut Y (θ - ξ)) → θ ≤ outputUnit →
+        s + bitLength (natAbs v) ≤ θ → natAbs (error v Y ξ (s + bitLength (natAbs v))) < 2 ^ outputUnit
     go θ b m k = omega (arith, part θ m k, cut-le Y (θ - ξ))
 
--- |Z|·2^θ ≤ |v|·2^30 + |Y|·2^ξ
-pub error-scaled : (v Y : ℤ) (ξ κ : ℕ) → errorExponent ξ κ ≤ 30 →
-    natAbs (error v Y ξ κ) * 2 ^ errorExponent ξ κ ≤ natAbs v * 2 ^ 30 + natAbs Y * 2 ^ ξ
+-- |Z|·2^θ ≤ |v|·2^outputUnit + |Y|·2^ξ
+pub error-scaled : (v Y : ℤ) (ξ κ : ℕ) → errorExponent ξ κ ≤ outputUnit →
+    natAbs (error v Y ξ κ) * 2 ^ errorExponent ξ κ ≤ natAbs v * 2 ^ outputUnit + natAbs Y * 2 ^ ξ
 error-scaled v Y ξ κ m = go (errorExponent ξ κ) (error-parts v Y ξ κ) m (omega (arith, error-exponent-form ξ κ, le-max-right κ ξ))
   where
-    go : (θ : ℕ) → natAbs (error v Y ξ κ) ≤ natAbs v * 2 ^ (30 - θ) + natAbs (cut Y (θ - ξ)) → θ ≤ 30 → ξ ≤ θ →
-        natAbs (error v Y ξ κ) * 2 ^ θ ≤ natAbs v * 2 ^ 30 + natAbs Y * 2 ^ ξ
+    go : (θ : ℕ) → natAbs (error v Y ξ κ) ≤ natAbs v * 2 ^ (outputUnit - θ) + natAbs (cut Y (θ - ξ)) → θ ≤ outputUnit → ξ ≤ θ →
+        natAbs (error v Y ξ κ) * 2 ^ θ ≤ natAbs v * 2 ^ outputUnit + natAbs Y * 2 ^ ξ
     go θ b m k = omega (arith, mul-le-mul-right (2 ^ θ) b, cut-up Y (θ - ξ) ξ θ (omega arith), ap (λ (n : ℕ). natAbs v * n) (below m))

@@ -12,7 +12,7 @@ use Rattle.laws.specs.Lists.{and-left, and-right}
 use Rattle.laws.specs.Sums.{Each, each-map}
 use Rattle.numbers.specs.Cut.{cut, raise}
 use Rattle.numbers.proofs.CutLaws.{cut-lt, raise-abs, raise-raise}
-use Rattle.steps.specs.Limits.{exponentLimit, halvingLimit, doublingLimit}
+use Rattle.steps.specs.Limits.{weightUnit, exponentLimit, halvingLimit, doublingLimit}
 use Rattle.steps.specs.Settings.{Settings}
 use Rattle.steps.specs.Fir.{Small, allBelow, allSmall, halved, doubled}
 use Rattle.steps.proofs.LargestLaws.{all-below, below-all}
@@ -53,13 +53,13 @@ sample-says k Γ t entry = outcome-says (t .ψ) (newForward k Γ t entry) (newBa
 -- ---- the weights that are left are small
 
 -- one halving is enough
-halved-small : (w : List ℤ) → Each (λ (x : ℤ). natAbs x < 2 ^ 15) w → Each Small (halved w)
-halved-small w h = each-map (λ (x : ℤ). natAbs x < 2 ^ 15) Small (λ (x : ℤ). cut x 1) (λ x l. cut-lt x 15 14 1 refl l) w h
+halved-small : (w : List ℤ) → Each (λ (x : ℤ). natAbs x < 2 ^ weightUnit) w → Each Small (halved w)
+halved-small w h = each-map (λ (x : ℤ). natAbs x < 2 ^ weightUnit) Small (λ (x : ℤ). cut x 1) (λ x l. cut-lt x weightUnit (weightUnit - 1) 1 refl l) w h
 
 doubled-small : (w : List ℤ) → Each (λ (x : ℤ). natAbs x < doublingLimit) w → Each Small (doubled w)
 doubled-small w h = each-map (λ (x : ℤ). natAbs x < doublingLimit) Small (λ (x : ℤ). raise x 1) (λ x l. omega (arith, raise-abs x 1)) w h
 
-pub normalised-small : (s : Outcome) (ψ : ℕ) (f b : List ℤ) → Says s ψ f b → Each (λ (x : ℤ). natAbs x < 2 ^ 15) f → Each (λ (x : ℤ). natAbs x < 2 ^ 15) b →
+pub normalised-small : (s : Outcome) (ψ : ℕ) (f b : List ℤ) → Says s ψ f b → Each (λ (x : ℤ). natAbs x < 2 ^ weightUnit) f → Each (λ (x : ℤ). natAbs x < 2 ^ weightUnit) b →
     Each Small (normalised s f) × Each Small (normalised s b)
 normalised-small keep ψ f b h j i = h
 normalised-small halve ψ f b h j i = (halved-small f j, halved-small b i)

@@ -6,12 +6,13 @@ use native.Mathlib.Omega.{arith}
 use lib.IntN.{ℤ, natAbs}
 use Rattle.laws.specs.Powers.{split, positive}
 use Rattle.laws.specs.Sums.{Each}
-use Rattle.steps.specs.Limits.{outputExponentLimit}
+use Rattle.steps.specs.Limits.{weightUnit, dataUnit, outputUnit, stepUnit, receivedUnit, outputExponentLimit}
 use Rattle.steps.specs.Sound.{factorShiftLeast, Summable, Adaptable}
 use Rattle.steps.specs.Settings.{Settings, scaleForward, scaleBack, isEntry}
 use Rattle.steps.specs.Fir.{Small, Fir}
 use Rattle.filter.specs.Sample.{FilterState, ν, F, H, Y, ξ, v, κ, Z, θ, J, forwardFir, backFir, newForward, newBack, outcome, next, Bounded}
 use Rattle.filter.specs.Sound.{Fit}
+use Rattle.steps.proofs.Admission.{AtMostError}
 use Rattle.filter.proofs.FirBounds.{FirFit, sum-small, sum-raised, summable, adaptable, newWeights-small, shift-least, shift-most}
 use Rattle.filter.proofs.OutcomeLaws.{sample-says, normalised-small}
 use Rattle.filter.proofs.ErrorSize.{output-small, output-scaled, error-small, error-scaled}
@@ -21,23 +22,23 @@ use Rattle.filter.proofs.SampleFirs as Firs
 module _ (k : Settings) (Γ : ℕ) (t : FilterState) (entry : ℤ) (h : Fit k Γ t) where
   -- ---- steps 2 and 3
 
-  pub F-small : natAbs (F k Γ t entry) < 2 ^ 28
+  pub F-small : natAbs (F k Γ t entry) < 2 ^ (outputUnit - 2)
   unfolding F
   F-small = sum-small (forwardFir k Γ t entry) (Firs.forward-fit k Γ t entry h)
 
-  pub H-small : natAbs (H k Γ t entry) < 2 ^ 28
+  pub H-small : natAbs (H k Γ t entry) < 2 ^ (outputUnit - 2)
   unfolding H
   H-small = sum-small (backFir k Γ t entry) (Firs.back-fit k Γ t entry h)
 
-  pub Y-small : natAbs (Y k Γ t entry) < 2 ^ 29
+  pub Y-small : natAbs (Y k Γ t entry) < 2 ^ (outputUnit - 1)
   unfolding Y
   Y-small = omega (arith, output-small (F k Γ t entry) (H k Γ t entry) Γ (ν k Γ t entry), F-small, H-small)
 
-  Y-scaled : natAbs (Y k Γ t entry) * 2 ^ (ξ k Γ t entry + 30) ≤ 2 ^ t .ψ * (natAbs (F k Γ t entry) * 2 ^ Γ + natAbs (H k Γ t entry) * 2 ^ (ν k Γ t entry + 30))
+  Y-scaled : natAbs (Y k Γ t entry) * 2 ^ (ξ k Γ t entry + receivedUnit) ≤ 2 ^ t .ψ * (natAbs (F k Γ t entry) * 2 ^ Γ + natAbs (H k Γ t entry) * 2 ^ (ν k Γ t entry + receivedUnit))
   unfolding Y ξ
   Y-scaled = output-scaled (F k Γ t entry) (H k Γ t entry) (t .ψ) Γ (ν k Γ t entry)
 
-  F-weighed : natAbs (F k Γ t entry) * 2 ^ Γ * 2 ^ k .L ≤ k .p * (2 ^ k .r * 2 ^ 60)
+  F-weighed : natAbs (F k Γ t entry) * 2 ^ Γ * 2 ^ k .L ≤ k .p * (2 ^ k .r * 2 ^ (outputUnit + receivedUnit))
   unfolding F
   F-weighed = omega (
     arith,
@@ -45,9 +46,9 @@ module _ (k : Settings) (Γ : ℕ) (t : FilterState) (entry : ℤ) (h : Fit k Γ
     ap (λ (n : ℕ). natAbs (F k Γ t entry) * n) (split (Γ + k .L) Γ (k .L) refl),
   )
 
-  H-weighed : natAbs (H k Γ t entry) * 2 ^ (ν k Γ t entry + 30) ≤ k .q * (2 ^ k .r * 2 ^ 60)
+  H-weighed : natAbs (H k Γ t entry) * 2 ^ (ν k Γ t entry + receivedUnit) ≤ k .q * (2 ^ k .r * 2 ^ (outputUnit + receivedUnit))
   unfolding H
-  H-weighed = sum-raised (backFir k Γ t entry) (Firs.back-fit k Γ t entry h) (ν k Γ t entry + 30) (Firs.back-fit k Γ t entry h .exponent-most)
+  H-weighed = sum-raised (backFir k Γ t entry) (Firs.back-fit k Γ t entry h) (ν k Γ t entry + receivedUnit) (Firs.back-fit k Γ t entry h .exponent-most)
 
   pub forward-summable : Summable (t .forward) (t .samples)
   forward-summable = summable (forwardFir k Γ t entry) (Firs.forward-fit k Γ t entry h)
@@ -61,21 +62,21 @@ module _ (k : Settings) (Γ : ℕ) (t : FilterState) (entry : ℤ) (h : Fit k Γ
     θ-within : θ k Γ t entry ≤ outputExponentLimit
     θ-within = omega (arith, Firs.θ-most k Γ t entry h e, h .ψ-most)
 
-    pub Z-small : natAbs (Z k Γ t entry) < 2 ^ 30
+    pub Z-small : natAbs (Z k Γ t entry) < 2 ^ outputUnit
     unfolding Z θ κ
     Z-small = error-small (v k Γ t entry) (Y k Γ t entry) (ξ k Γ t entry) (scaleBack k) (Firs.scaleBack-least k Γ t entry h) (omega (arith, θ-within)) Y-small
 
-    Z-scaled : natAbs (Z k Γ t entry) * 2 ^ θ k Γ t entry ≤ natAbs (v k Γ t entry) * 2 ^ 30 + natAbs (Y k Γ t entry) * 2 ^ ξ k Γ t entry
+    Z-scaled : natAbs (Z k Γ t entry) * 2 ^ θ k Γ t entry ≤ natAbs (v k Γ t entry) * 2 ^ outputUnit + natAbs (Y k Γ t entry) * 2 ^ ξ k Γ t entry
     unfolding Z θ
     Z-scaled = error-scaled (v k Γ t entry) (Y k Γ t entry) (ξ k Γ t entry) (κ k Γ t entry) (omega (arith, θ-within))
 
     -- |Z| as the step admission weighs it
-    Z-weighed : natAbs (Z k Γ t entry) * 2 ^ θ k Γ t entry * (2 ^ 30 * 2 ^ k .L) ≤ 2 ^ t .ψ * (2 ^ k .r * 2 ^ 58) * (8 * 2 ^ k .L + 4 * k .p + 4 * k .q * 2 ^ k .L)
+    Z-weighed : AtMostError k (t .ψ) (θ k Γ t entry) (natAbs (Z k Γ t entry))
     Z-weighed =
         error-weighed (natAbs (Z k Γ t entry)) (2 ^ θ k Γ t entry) (natAbs (v k Γ t entry)) (natAbs (Y k Γ t entry)) (2 ^ ξ k Γ t entry) (2 ^ t .ψ)
-        (natAbs (F k Γ t entry) * 2 ^ Γ) (natAbs (H k Γ t entry) * 2 ^ (ν k Γ t entry + 30)) (2 ^ k .L) (k .p) (k .q) (2 ^ k .r)
+        (natAbs (F k Γ t entry) * 2 ^ Γ) (natAbs (H k Γ t entry) * 2 ^ (ν k Γ t entry + receivedUnit)) (2 ^ k .L) (k .p) (k .q) (2 ^ k .r)
         Z-scaled
-        (omega (arith, Y-scaled, ap (λ (n : ℕ). natAbs (Y k Γ t entry) * n) (split (ξ k Γ t entry + 30) (ξ k Γ t entry) 30 refl)))
+        (omega (arith, Y-scaled, ap (λ (n : ℕ). natAbs (Y k Γ t entry) * n) (split (ξ k Γ t entry + receivedUnit) (ξ k Γ t entry) receivedUnit refl)))
         F-weighed H-weighed
         (omega (arith, Firs.v-below k Γ t entry h e, split (k .r + 1) (k .r) 1 refl))
         (positive (t .ψ))
@@ -83,42 +84,42 @@ module _ (k : Settings) (Γ : ℕ) (t : FilterState) (entry : ℤ) (h : Fit k Γ
     -- ---- step 6
 
     -- M·Z is cut by so many bits or more
-    pub shift : {n : ℕ} (f : Fir) → FirFit (k .r) n f → f .exponent + θ k Γ t entry + factorShiftLeast ≤ 60 + t .ψ + f .scale
+    pub shift : {n : ℕ} (f : Fir) → FirFit (k .r) n f → f .exponent + θ k Γ t entry + factorShiftLeast ≤ stepUnit + receivedUnit + t .ψ + f .scale
     shift f s = shift-least f s (t .ψ) (θ k Γ t entry) (h .within .r-most) (Firs.θ-most k Γ t entry h e)
 
-    -- and by 60 or fewer
-    pub shift-below : {n : ℕ} (f : Fir) → FirFit (k .r) n f → 60 + t .ψ + f .scale ≤ f .exponent + θ k Γ t entry + 60
+    -- and by stepUnit + receivedUnit or fewer
+    pub shift-below : {n : ℕ} (f : Fir) → FirFit (k .r) n f → stepUnit + receivedUnit + t .ψ + f .scale ≤ f .exponent + θ k Γ t entry + (stepUnit + receivedUnit)
     shift-below f s = shift-most f s (t .ψ) (θ k Γ t entry) (Firs.θ-above k Γ t entry h)
 
-    pub J-small : {n : ℕ} (f : Fir) → FirFit (k .r) n f → natAbs (J k Γ t entry f) ≤ 2 ^ 29
+    pub J-small : {n : ℕ} (f : Fir) → FirFit (k .r) n f → natAbs (J k Γ t entry f) ≤ 2 ^ (outputUnit - 1)
     unfolding J
     J-small f s =
         factor-small k f (Z k Γ t entry) (t .ψ) (θ k Γ t entry) (h .admitted) (s .exponent-most)
         (omega (arith, shift f s)) Z-weighed
 
-    J-forward : natAbs (J k Γ t entry (forwardFir k Γ t entry)) ≤ 2 ^ 29
+    J-forward : natAbs (J k Γ t entry (forwardFir k Γ t entry)) ≤ 2 ^ (outputUnit - 1)
     J-forward = J-small (forwardFir k Γ t entry) (Firs.forward-fit k Γ t entry h)
 
-    J-back : natAbs (J k Γ t entry (backFir k Γ t entry)) ≤ 2 ^ 29
+    J-back : natAbs (J k Γ t entry (backFir k Γ t entry)) ≤ 2 ^ (outputUnit - 1)
     J-back = J-small (backFir k Γ t entry) (Firs.back-fit k Γ t entry h)
 
-    pub forward-adaptable : Adaptable (J k Γ t entry (forwardFir k Γ t entry)) (15 - scaleForward k) (t .forward) (t .samples)
+    pub forward-adaptable : Adaptable (J k Γ t entry (forwardFir k Γ t entry)) (dataUnit - scaleForward k) (t .forward) (t .samples)
     forward-adaptable =
         adaptable (forwardFir k Γ t entry) (Firs.forward-fit k Γ t entry h) (J k Γ t entry (forwardFir k Γ t entry)) J-forward
         (omega (arith, Firs.scaleForward-most k Γ t entry h))
 
-    pub back-adaptable : Adaptable (J k Γ t entry (backFir k Γ t entry)) (15 - (scaleBack k + (15 - ν k Γ t entry))) (t .back) (t .symbols)
+    pub back-adaptable : Adaptable (J k Γ t entry (backFir k Γ t entry)) (dataUnit - (scaleBack k + (dataUnit - ν k Γ t entry))) (t .back) (t .symbols)
     back-adaptable =
         adaptable (Firs.symbolFir k Γ t entry) (Firs.symbol-fit k Γ t entry h) (J k Γ t entry (backFir k Γ t entry)) J-back
         (Firs.symbol-scale-most k Γ t entry h)
 
     -- ---- step 7
 
-    new-forward-small : Each (λ (w : ℤ). natAbs w < 2 ^ 15) (newForward k Γ t entry)
+    new-forward-small : Each (λ (w : ℤ). natAbs w < 2 ^ weightUnit) (newForward k Γ t entry)
     unfolding newForward
     new-forward-small = newWeights-small (forwardFir k Γ t entry) (Firs.forward-fit k Γ t entry h) (J k Γ t entry (forwardFir k Γ t entry)) J-forward
 
-    new-back-small : Each (λ (w : ℤ). natAbs w < 2 ^ 15) (newBack k Γ t entry)
+    new-back-small : Each (λ (w : ℤ). natAbs w < 2 ^ weightUnit) (newBack k Γ t entry)
     unfolding newBack
     new-back-small = newWeights-small (backFir k Γ t entry) (Firs.back-fit k Γ t entry h) (J k Γ t entry (backFir k Γ t entry)) J-back
 

@@ -15,7 +15,7 @@ use Rattle.numbers.specs.ScaleCount.{scaleCount}
 use Rattle.numbers.proofs.CutLaws.{raise-abs, raise-raise}
 use Rattle.numbers.proofs.BitLengthLaws.{bit-length-le}
 use Rattle.numbers.proofs.ScaleCountLaws.{scale-enough, scale-least}
-use Rattle.steps.specs.Limits.{tapLimit, scaleLimit, dataExponentLimit}
+use Rattle.steps.specs.Limits.{dataUnit, receivedUnit, mantissaUnit, tapLimit, scaleLimit, dataExponentLimit}
 use Rattle.steps.specs.Settings.{Settings, scaleForward, scaleBack, isSymbol, isEntry}
 use Rattle.steps.specs.Fir.{Fir, adapt, largest, magnitudes, largestBits}
 use Rattle.filter.specs.Sample.{FilterState, ν, held, forwardFir, backFir, H, ξ, decision, v, κ, θ, J, newBack}
@@ -33,9 +33,9 @@ scale-positive n h = exponent-le 1 (scaleCount n) (omega (arith, scale-enough n)
 pub scale-most : (n : ℕ) → n ≤ tapLimit → scaleCount n ≤ scaleLimit
 scale-most n h = scale-least n scaleLimit (omega arith)
 
--- the past symbols as they are make a filter too: a symbol v means v·2^(45−45)
+-- the past symbols as they are make a filter too: a symbol v means v·2^(mantissaUnit − mantissaUnit)
 abbrev pub symbolFir : Settings → ℕ → FilterState → ℤ → Fir
-symbolFir k Γ t entry = record { weights = t .back; mantissas = t .symbols; scale = scaleBack k + (15 - ν k Γ t entry); exponent = 45 }
+symbolFir k Γ t entry = record { weights = t .back; mantissas = t .symbols; scale = scaleBack k + (dataUnit - ν k Γ t entry); exponent = mantissaUnit }
 
 module _ (k : Settings) (Γ : ℕ) (t : FilterState) (entry : ℤ) (h : Fit k Γ t) where
   pub scaleForward-most : scaleForward k ≤ scaleLimit
@@ -61,35 +61,35 @@ module _ (k : Settings) (Γ : ℕ) (t : FilterState) (entry : ℤ) (h : Fit k Γ
 
   -- ---- the past symbols
 
-  symbol-scale : scaleBack k + (15 - ν k Γ t entry) ≡ 15 - largestBits (t .symbols)
+  symbol-scale : scaleBack k + (dataUnit - ν k Γ t entry) ≡ dataUnit - largestBits (t .symbols)
   symbol-scale = omega (arith, ν-is, ν-most)
 
-  pub symbol-scale-most : scaleBack k + (15 - ν k Γ t entry) ≤ 15
+  pub symbol-scale-most : scaleBack k + (dataUnit - ν k Γ t entry) ≤ dataUnit
   symbol-scale-most = omega (arith, symbol-scale)
 
-  symbols-raised : Each (λ (u : ℤ). natAbs u * 2 ^ (15 - largestBits (t .symbols)) < 2 ^ 15) (t .symbols)
-  symbols-raised = each-weaken (λ (u : ℤ). natAbs u < 2 ^ largestBits (t .symbols)) (λ (u : ℤ). natAbs u * 2 ^ (15 - largestBits (t .symbols)) < 2 ^ 15)
-      (λ u l. Powers.raise (natAbs u) 15 (largestBits (t .symbols)) (15 - largestBits (t .symbols)) (omega (arith, largest-bits-most, h .within .r-most)) l)
+  symbols-raised : Each (λ (u : ℤ). natAbs u * 2 ^ (dataUnit - largestBits (t .symbols)) < 2 ^ dataUnit) (t .symbols)
+  symbols-raised = each-weaken (λ (u : ℤ). natAbs u < 2 ^ largestBits (t .symbols)) (λ (u : ℤ). natAbs u * 2 ^ (dataUnit - largestBits (t .symbols)) < 2 ^ dataUnit)
+      (λ u l. Powers.raise (natAbs u) dataUnit (largestBits (t .symbols)) (dataUnit - largestBits (t .symbols)) (omega (arith, largest-bits-most, h .within .r-most)) l)
       (t .symbols) (largest-bits-above (t .symbols))
 
-  held-small : Each (λ (a : ℤ). natAbs a * 2 ^ scaleBack k < 2 ^ 15) (map (held k Γ t entry) (t .symbols))
-  held-small = each-map (λ (u : ℤ). natAbs u * 2 ^ (15 - largestBits (t .symbols)) < 2 ^ 15) (λ (a : ℤ). natAbs a * 2 ^ scaleBack k < 2 ^ 15) (held k Γ t entry)
+  held-small : Each (λ (a : ℤ). natAbs a * 2 ^ scaleBack k < 2 ^ dataUnit) (map (held k Γ t entry) (t .symbols))
+  held-small = each-map (λ (u : ℤ). natAbs u * 2 ^ (dataUnit - largestBits (t .symbols)) < 2 ^ dataUnit) (λ (a : ℤ). natAbs a * 2 ^ scaleBack k < 2 ^ dataUnit) (held k Γ t entry)
       (λ u l. omega (
         arith,
-        ap (λ (n : ℕ). n * 2 ^ scaleBack k) (raise-abs u (15 - ν k Γ t entry)),
-        ap (λ (n : ℕ). natAbs u * n) (split (15 - largestBits (t .symbols)) (15 - ν k Γ t entry) (scaleBack k) (omega (arith, ν-is, ν-most))),
+        ap (λ (n : ℕ). n * 2 ^ scaleBack k) (raise-abs u (dataUnit - ν k Γ t entry)),
+        ap (λ (n : ℕ). natAbs u * n) (split (dataUnit - largestBits (t .symbols)) (dataUnit - ν k Γ t entry) (scaleBack k) (omega (arith, ν-is, ν-most))),
       ))
       (t .symbols) symbols-raised
 
-  pub H-raised : H k Γ t entry ≡ raise (dot (t .back) (t .symbols)) (15 - ν k Γ t entry)
+  pub H-raised : H k Γ t entry ≡ raise (dot (t .back) (t .symbols)) (dataUnit - ν k Γ t entry)
   unfolding H
-  H-raised = dot-scale (pos (2 ^ (15 - ν k Γ t entry))) (t .back) (t .symbols)
+  H-raised = dot-scale (pos (2 ^ (dataUnit - ν k Γ t entry))) (t .back) (t .symbols)
 
-  pub newBack-raised : newBack k Γ t entry ≡ adapt (raise (J k Γ t entry (backFir k Γ t entry)) (scaleBack k + (15 - ν k Γ t entry))) (t .back) (t .symbols)
+  pub newBack-raised : newBack k Γ t entry ≡ adapt (raise (J k Γ t entry (backFir k Γ t entry)) (scaleBack k + (dataUnit - ν k Γ t entry))) (t .back) (t .symbols)
   unfolding newBack
   newBack-raised =
-      adapt-raise (15 - ν k Γ t entry) (raise (J k Γ t entry (backFir k Γ t entry)) (scaleBack k)) (t .back) (t .symbols)
-      ∙ ap (λ (z : ℤ). adapt z (t .back) (t .symbols)) (raise-raise (J k Γ t entry (backFir k Γ t entry)) (scaleBack k) (15 - ν k Γ t entry) _ refl)
+      adapt-raise (dataUnit - ν k Γ t entry) (raise (J k Γ t entry (backFir k Γ t entry)) (scaleBack k)) (t .back) (t .symbols)
+      ∙ ap (λ (z : ℤ). adapt z (t .back) (t .symbols)) (raise-raise (J k Γ t entry (backFir k Γ t entry)) (scaleBack k) (dataUnit - ν k Γ t entry) _ refl)
 
   -- ---- the two filters
 
@@ -120,8 +120,8 @@ module _ (k : Settings) (Γ : ℕ) (t : FilterState) (entry : ℤ) (h : Fit k Γ
     weights-long = h .back-long;
     mantissas-long = h .symbols-long;
     weights-small = h .back-small;
-    mantissas-small = subst (λ (s : ℕ). Each (λ (u : ℤ). natAbs u * 2 ^ s < 2 ^ 15) (t .symbols)) (sym symbol-scale) symbols-raised;
-    scale-enough = omega (arith, h .within .q-most, rises {a = 11} {b = scaleBack k + (15 - ν k Γ t entry)} (omega (arith, symbol-scale, largest-bits-most, h .within .r-most)));
+    mantissas-small = subst (λ (s : ℕ). Each (λ (u : ℤ). natAbs u * 2 ^ s < 2 ^ dataUnit) (t .symbols)) (sym symbol-scale) symbols-raised;
+    scale-enough = omega (arith, h .within .q-most, rises {a = 11} {b = scaleBack k + (dataUnit - ν k Γ t entry)} (omega (arith, symbol-scale, largest-bits-most, h .within .r-most)));
     exponent-least = omega (arith, symbol-scale);
     exponent-most = omega (arith, symbol-scale, largest-bits-most, h .within .r-most);
   }
@@ -129,13 +129,13 @@ module _ (k : Settings) (Γ : ℕ) (t : FilterState) (entry : ℤ) (h : Fit k Γ
   -- ---- v and the exponents
 
   pub ξ-least : 1 ≤ ξ k Γ t entry
-  ξ-least = omega (arith, ξ-form k Γ t entry, le-max-right Γ (ν k Γ t entry + 30), ν-is, scaleBack-least)
+  ξ-least = omega (arith, ξ-form k Γ t entry, le-max-right Γ (ν k Γ t entry + receivedUnit), ν-is, scaleBack-least)
 
   pub ξ-most : ξ k Γ t entry ≤ t .ψ + dataExponentLimit
   ξ-most = omega (
     arith,
     ξ-form k Γ t entry,
-    max-le {a = Γ} {b = ν k Γ t entry + 30} {k = dataExponentLimit + 30} (omega (arith, h .Γ-most, h .within .r-most, scaleForward-most)) (omega (arith, ν-most)),
+    max-le {a = Γ} {b = ν k Γ t entry + receivedUnit} {k = dataExponentLimit + receivedUnit} (omega (arith, h .Γ-most, h .within .r-most, scaleForward-most)) (omega (arith, ν-most)),
   )
 
   pub θ-above : t .ψ ≤ θ k Γ t entry
@@ -144,7 +144,7 @@ module _ (k : Settings) (Γ : ℕ) (t : FilterState) (entry : ℤ) (h : Fit k Γ
     θ-form k Γ t entry,
     le-max-right (κ k Γ t entry) (ξ k Γ t entry),
     ξ-form k Γ t entry,
-    le-max-right Γ (ν k Γ t entry + 30),
+    le-max-right Γ (ν k Γ t entry + receivedUnit),
   )
 
   module _ (e : isEntry (k .r) entry ≡ true) where

@@ -2,12 +2,13 @@
 use mathlib.Core.Path.{_≡_}
 use Prim.Native.Nat.{ℕ, _+_, max}
 use lib.IntN.{ℤ}
+use Rattle.steps.specs.Limits.{receivedUnit}
 use Rattle.steps.specs.Settings.{Settings}
 use Rattle.steps.proofs.OutputLaws.{output-exponent-form, error-exponent-form}
 use Rattle.filter.specs.Sample.{FilterState, ν, ξ, κ, θ}
 
 module _ (k : Settings) (Γ : ℕ) (t : FilterState) (entry : ℤ) where
-  pub ξ-form : ξ k Γ t entry + 30 ≡ t .ψ + max Γ (ν k Γ t entry + 30)
+  pub ξ-form : ξ k Γ t entry + receivedUnit ≡ t .ψ + max Γ (ν k Γ t entry + receivedUnit)
   unfolding ξ
   ξ-form = output-exponent-form (t .ψ) Γ (ν k Γ t entry)
 

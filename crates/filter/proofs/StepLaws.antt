@@ -8,7 +8,7 @@ use lib.IntN.{ℤ, natAbs}
 use Rattle.laws.specs.Sums.{dot}
 use Rattle.numbers.specs.Cut.{raise}
 use Rattle.numbers.proofs.CutLaws.{raise-abs}
-use Rattle.steps.specs.Limits.{symbolLimit, outputExponentLimit}
+use Rattle.steps.specs.Limits.{dataUnit, receivedUnit, symbolLimit, outputExponentLimit}
 use Rattle.steps.specs.Settings.{Settings, scaleForward, scaleBack}
 use Rattle.steps.specs.Fir.{Fir, largestBits}
 use Rattle.filter.specs.Sample.{FilterState, ν, F, H, Y, ξ, decision, v, κ, Z, θ, J, forwardFir, backFir, newForward, newBack, outcome, next}
@@ -35,8 +35,8 @@ module _ (k : Settings) (x : BlockExponents) (t : FilterState) (entry : ℤ) (r 
   unfolding ν
   ν-of = ap (λ (n : ℕ). n + largestBits (t .symbols)) (r .back-scale)
 
-  held : raise (dot (t .back) (t .symbols)) (15 - (x .sb + largestBits (t .symbols))) ≡ H k Γ t entry
-  held = ap (λ (n : ℕ). raise (dot (t .back) (t .symbols)) (15 - n)) ν-of ∙ sym (S.H-raised k Γ t entry (r .fit))
+  held : raise (dot (t .back) (t .symbols)) (dataUnit - (x .sb + largestBits (t .symbols))) ≡ H k Γ t entry
+  held = ap (λ (n : ℕ). raise (dot (t .back) (t .symbols)) (dataUnit - n)) ν-of ∙ sym (S.H-raised k Γ t entry (r .fit))
 
   pub symbol-bounds : {delay : ℕ} → LargestBitsAt (k .r) delay (t .symbols) → SymbolBounds (k .r) delay (t .symbols)
   symbol-bounds h = record { r-most = r .fit .within .r-most; symbols-are = r .fit .symbols-are; largest-bits-at = h }
@@ -99,7 +99,7 @@ module _ (k : Settings) (x : BlockExponents) (t : FilterState) (entry : ℤ) (r 
 
   -- ---- steps 6 to 8
 
-  update-bounds : {n : ℕ} (f : Fir) → FirFit (k .r) n f → (more : ℕ) → f .scale + more ≤ 15 → (w a : List ℤ) → Adaptable (J k Γ t entry f) (15 - (f .scale + more)) w a →
+  update-bounds : {n : ℕ} (f : Fir) → FirFit (k .r) n f → (more : ℕ) → f .scale + more ≤ dataUnit → (w a : List ℤ) → Adaptable (J k Γ t entry f) (dataUnit - (f .scale + more)) w a →
       UpdateBounds (k .M) (Z k Γ t entry) (t .ψ) (θ k Γ t entry) (f .scale) (f .exponent) more w a
   unfolding J
   update-bounds f fit more l w a h = record {
@@ -116,9 +116,9 @@ module _ (k : Settings) (x : BlockExponents) (t : FilterState) (entry : ℤ) (r 
       update-bounds (forwardFir k Γ t entry) (S.forward-fit k Γ t entry (r .fit)) 0 (omega (arith, S.scaleForward-most k Γ t entry (r .fit))) (t .forward) (t .samples)
       (rw add-zero (B.forward-adaptable k Γ t entry (r .fit) (r .entry-is)))
 
-  behind : UpdateBounds (k .M) (Z k Γ t entry) (t .ψ) (θ k Γ t entry) (scaleBack k) (ν k Γ t entry + 30) (15 - ν k Γ t entry) (t .back) (t .symbols)
+  behind : UpdateBounds (k .M) (Z k Γ t entry) (t .ψ) (θ k Γ t entry) (scaleBack k) (ν k Γ t entry + receivedUnit) (dataUnit - ν k Γ t entry) (t .back) (t .symbols)
   behind =
-      update-bounds (backFir k Γ t entry) (S.back-fit k Γ t entry (r .fit)) (15 - ν k Γ t entry) (S.symbol-scale-most k Γ t entry (r .fit)) (t .back) (t .symbols)
+      update-bounds (backFir k Γ t entry) (S.back-fit k Γ t entry (r .fit)) (dataUnit - ν k Γ t entry) (S.symbol-scale-most k Γ t entry (r .fit)) (t .back) (t .symbols)
       (B.back-adaptable k Γ t entry (r .fit) (r .entry-is))
 
   pub change-bounds : (h : Output) (j : Decision) → Output-as h → Decision-as j → ChangeBounds (k .M) x (t .ψ) h j (t .forward) (t .back) (t .samples) (t .symbols)

@@ -9,7 +9,7 @@ use lib.IntN.{ℤ, pos, natAbs, _*ℤ_}
 use Rattle.laws.specs.Sums.{Each, dot}
 use Rattle.numbers.specs.BitLength.{bitLength}
 use Rattle.numbers.specs.Cut.{cut, raise}
-use Rattle.steps.specs.Limits.{symbolLimit, exponentLimit, scaleLimit, dataExponentLimit, outputExponentLimit}
+use Rattle.steps.specs.Limits.{dataUnit, outputUnit, stepUnit, receivedUnit, symbolLimit, exponentLimit, scaleLimit, dataExponentLimit, outputExponentLimit}
 use Rattle.steps.specs.Settings.{Settings, isEntry, scaleForward, scaleBack}
 use Rattle.steps.specs.Fir.{adapt, largestBits}
 use Rattle.steps.specs.Output.{output, outputExponent}
@@ -49,7 +49,7 @@ pub record FilterBounds (e : BlockExponents) (ψ : ℕ) (forward back samples sy
 
 pub record Output-is (e : BlockExponents) (ψ : ℕ) (forward back samples symbols : List ℤ) (h : Output) : Type 0 where
   pub nu : h .nu ≡ e .sb + largestBits symbols
-  pub y : h .y ≡ output (dot forward samples) (raise (dot back symbols) (15 - (e .sb + largestBits symbols))) (e .gamma30) (e .sb + largestBits symbols)
+  pub y : h .y ≡ output (dot forward samples) (raise (dot back symbols) (dataUnit - (e .sb + largestBits symbols))) (e .gamma30) (e .sb + largestBits symbols)
   pub xi : h .xi ≡ outputExponent ψ (e .gamma30) (e .sb + largestBits symbols)
 
 -- ---- steps 4 and 5
@@ -58,7 +58,7 @@ pub record DecisionBounds (r sb : ℕ) (y : ℤ) (ξ : ℕ) (entry : ℤ) : Type
   pub r-most : r ≤ symbolLimit
   pub scale-least : 1 ≤ sb
   pub scale-most : sb ≤ scaleLimit
-  pub y-small : natAbs y < 2 ^ 29
+  pub y-small : natAbs y < 2 ^ (outputUnit - 1)
   pub ξ-least : 1 ≤ ξ
   pub ξ-most : ξ ≤ outputExponentLimit
   pub entry-is : isEntry r entry ≡ true
@@ -76,19 +76,19 @@ pub record Decision-is (r sb : ℕ) (y : ℤ) (ξ : ℕ) (entry : ℤ) (j : Deci
 
 -- J of a filter with this scale and exponent
 abbrev pub factorOf : ℕ → ℤ → ℕ → ℕ → ℕ → ℕ → ℤ
-factorOf m z ψ θ scale exponent = cut (pos m *ℤ z) (60 + ψ + scale - (exponent + θ))
+factorOf m z ψ θ scale exponent = cut (pos m *ℤ z) (stepUnit + receivedUnit + ψ + scale - (exponent + θ))
 
 -- the new weights of a filter whose data are raised by some bits more
 abbrev pub updated : ℕ → ℤ → ℕ → ℕ → ℕ → ℕ → ℕ → List ℤ → List ℤ → List ℤ
 updated m z ψ θ scale exponent more w a = adapt (raise (factorOf m z ψ θ scale exponent) (scale + more)) w a
 
 pub record UpdateBounds (m : ℕ) (z : ℤ) (ψ θ scale exponent more : ℕ) (w a : List ℤ) : Type 0 where
-  pub z-small : natAbs z < 2 ^ 30
+  pub z-small : natAbs z < 2 ^ outputUnit
   pub ψ-most : ψ ≤ exponentLimit
-  pub room : scale + more ≤ 15
-  pub shift : exponent + θ ≤ 60 + ψ + scale
-  pub shift-most : 60 + ψ + scale < exponent + θ + 64
-  pub adaptable : Adaptable (factorOf m z ψ θ scale exponent) (15 - (scale + more)) w a
+  pub room : scale + more ≤ dataUnit
+  pub shift : exponent + θ ≤ stepUnit + receivedUnit + ψ + scale
+  pub shift-most : stepUnit + receivedUnit + ψ + scale < exponent + θ + 64
+  pub adaptable : Adaptable (factorOf m z ψ θ scale exponent) (dataUnit - (scale + more)) w a
 
 -- ---- step 7
 
@@ -102,14 +102,14 @@ pub record Normalised-is (ψ : ℕ) (forward back : List ℤ) (ψ′ : ℕ) (for
 pub record ChangeBounds (m : ℕ) (e : BlockExponents) (ψ : ℕ) (h : Output) (j : Decision) (forward back samples symbols : List ℤ) : Type 0 where
   pub ν-most : h .nu ≤ dataExponentLimit
   pub ahead : UpdateBounds m (j .z) ψ (j .theta) (e .s) (e .gamma30) 0 forward samples
-  pub behind : UpdateBounds m (j .z) ψ (j .theta) (e .sb) (h .nu + 30) (15 - h .nu) back symbols
+  pub behind : UpdateBounds m (j .z) ψ (j .theta) (e .sb) (h .nu + receivedUnit) (dataUnit - h .nu) back symbols
 
 -- the new weights before step 7
 abbrev pub updatedForward : ℕ → BlockExponents → ℕ → Decision → List ℤ → List ℤ → List ℤ
 updatedForward m e ψ j forward samples = updated m (j .z) ψ (j .theta) (e .s) (e .gamma30) 0 forward samples
 
 abbrev pub updatedBack : ℕ → BlockExponents → ℕ → ℕ → Decision → List ℤ → List ℤ → List ℤ
-updatedBack m e ν ψ j back symbols = updated m (j .z) ψ (j .theta) (e .sb) (ν + 30) (15 - ν) back symbols
+updatedBack m e ν ψ j back symbols = updated m (j .z) ψ (j .theta) (e .sb) (ν + receivedUnit) (dataUnit - ν) back symbols
 
 abbrev pub Changed-is : ℕ → BlockExponents → ℕ → Output → Decision → List ℤ → List ℤ → List ℤ → List ℤ → ℕ → List ℤ → List ℤ → Type 0
 Changed-is m e ψ h j forward back samples symbols ψ′ forward′ back′ =

@@ -1,4 +1,4 @@
--- One sample: its steps, the exact LMS step, and what holds. Γ stands for γ + 30, a natural number.
+-- One sample: its steps, the exact LMS step, and what holds. Γ stands for γ + receivedUnit, a natural number.
 use mathlib.Core.Path.{_≡_}
 use mathlib.Core.Bool.{Bool, _&&_, cond}
 use mathlib.Core.List.{List, map}
@@ -10,7 +10,7 @@ use Rattle.laws.specs.Sums.{Each, dot}
 use Rattle.numbers.specs.BitLength.{bitLength}
 use Rattle.numbers.specs.Cut.{raise}
 use Rattle.steps.specs.Settings.{Settings, scaleForward, scaleBack}
-use Rattle.steps.specs.Limits.{doublingLimit, outputExponentLimit}
+use Rattle.steps.specs.Limits.{weightUnit, dataUnit, outputUnit, stepUnit, receivedUnit, mantissaUnit, exactUnit, outputRaise, weightRaise, doublingLimit, outputExponentLimit}
 use Rattle.steps.specs.Fir.{Fir, Small, sum, factor, newWeights, allBelow, allSmall, halved, doubled, push, largestBits}
 use Rattle.steps.specs.Output.{output, outputExponent}
 use Rattle.steps.specs.Decision.{decide}
@@ -53,21 +53,22 @@ normalisedExponent double ψ = ψ - 1
 
 -- ---- the exact LMS step, as whole numbers
 
--- y*, times 2^60: the unrounded sum of weight times data, W·2^(ψ−15)·A·2^(γ−15) and W·2^(ψ−15)·v
+-- y*, times 2^exactUnit: the unrounded sum of weight times data, W·2^(ψ − weightUnit) times A·2^(γ − dataUnit) or v
 abbrev pub exactOutput : ℕ → FilterState → ℤ
-exactOutput Γ t = raise (raise (dot (t .forward) (t .samples)) Γ +ℤ raise (dot (t .back) (t .symbols)) 45) (t .ψ)
+exactOutput Γ t = raise (raise (dot (t .forward) (t .samples)) Γ +ℤ raise (dot (t .back) (t .symbols)) mantissaUnit) (t .ψ)
 
--- weight + μ·data·(v − y*), times 2^135: 30 for μ = M / 2^30, 45 for a datum d·2^(x−45), 60 for y, which is y*·2^60. A weight w·2^(ψ−15) becomes w·2^(120+ψ)
+-- weight + μ·data·(v − y*), times 2^exactWeightUnit, for a datum d·2^(x − mantissaUnit) and y, which is y*·2^exactUnit
 abbrev pub exactWeight : ℕ → ℕ → ℤ → ℤ → ℤ → ℕ → ℤ → ℤ
-exactWeight M ψ y v d x w = raise w (120 + ψ) +ℤ pos M *ℤ raise d x *ℤ (raise v 60 -ℤ y)
+exactWeight M ψ y v d x w = raise w (weightRaise + ψ) +ℤ pos M *ℤ raise d x *ℤ (raise v exactUnit -ℤ y)
 
 -- 1 + 1/1024 units, in 1024ths of a unit
 abbrev pub distance : ℕ
 distance = 1025
 
--- the stored weight w at its ψ and the exact one, times 2^135 e, are at most 1 + 1/1024 units of 2^(u−15) apart: both sides times 1024·2^135
+-- the stored weight w at its ψ and the exact one, times 2^exactWeightUnit e, are at most 1 + 1/1024 units of
+-- 2^(u − weightUnit) apart: both sides times 1024·2^exactWeightUnit
 abbrev pub Near : ℕ → ℕ → ℤ → ℤ → Type 0
-Near u ψ w e = natAbs (raise w (120 + ψ) -ℤ e) * 1024 ≤ distance * 2 ^ (120 + u)
+Near u ψ w e = natAbs (raise w (weightRaise + ψ) -ℤ e) * 1024 ≤ distance * 2 ^ (weightRaise + u)
 
 -- u is the new ψ, but the ψ before the sample where the weights are doubled
 abbrev pub unitExponent : Outcome → ℕ → ℕ
@@ -75,7 +76,7 @@ unitExponent keep ψ = ψ
 unitExponent halve ψ = suc ψ
 unitExponent double ψ = ψ
 
--- the values of weights, times 2^15: W·2^ψ
+-- the values of weights, times 2^weightUnit: W·2^ψ
 abbrev pub valuesOf : ℕ → List ℤ → List ℤ
 valuesOf ψ w = map (λ (x : ℤ). raise x ψ) w
 
@@ -93,13 +94,13 @@ module _ (k : Settings) (Γ : ℕ) (t : FilterState) (entry : ℤ) where
 
   -- 1: a past symbol as it is held
   abbrev pub held : ℤ → ℤ
-  held v = raise v (15 - ν)
+  held v = raise v (dataUnit - ν)
 
   abbrev pub forwardFir : Fir
   forwardFir = record { weights = t .forward; mantissas = t .samples; scale = scaleForward k; exponent = Γ }
 
   abbrev pub backFir : Fir
-  backFir = record { weights = t .back; mantissas = map held (t .symbols); scale = scaleBack k; exponent = ν + 30 }
+  backFir = record { weights = t .back; mantissas = map held (t .symbols); scale = scaleBack k; exponent = ν + receivedUnit }
 
   -- 2
   unfoldable pub F : ℤ
@@ -160,24 +161,24 @@ module _ (k : Settings) (Γ : ℕ) (t : FilterState) (entry : ℤ) where
 
   -- its numbers keep their bounds
   pub record Bounded : Type 0 where
-    pub F-small : natAbs F < 2 ^ 28
-    pub H-small : natAbs H < 2 ^ 28
-    pub Y-small : natAbs Y < 2 ^ 29
-    pub Z-small : natAbs Z < 2 ^ 30
+    pub F-small : natAbs F < 2 ^ (outputUnit - 2)
+    pub H-small : natAbs H < 2 ^ (outputUnit - 2)
+    pub Y-small : natAbs Y < 2 ^ (outputUnit - 1)
+    pub Z-small : natAbs Z < 2 ^ outputUnit
     pub ξ-least : 1 ≤ ξ
     pub ξ-most : ξ ≤ outputExponentLimit
     pub θ-least : 1 ≤ θ
     pub θ-most : θ ≤ outputExponentLimit
     -- no difference of exponents is cut off at 0
-    pub ν-most : ν ≤ 15
-    pub forward-shift : Γ + θ ≤ 60 + t .ψ + scaleForward k
-    pub back-shift : ν + 30 + θ ≤ 60 + t .ψ + scaleBack k
-    pub new-forward : Each (λ (w : ℤ). natAbs w < 2 ^ 15) newForward
-    pub new-back : Each (λ (w : ℤ). natAbs w < 2 ^ 15) newBack
+    pub ν-most : ν ≤ dataUnit
+    pub forward-shift : Γ + θ ≤ stepUnit + receivedUnit + t .ψ + scaleForward k
+    pub back-shift : ν + receivedUnit + θ ≤ stepUnit + receivedUnit + t .ψ + scaleBack k
+    pub new-forward : Each (λ (w : ℤ). natAbs w < 2 ^ weightUnit) newForward
+    pub new-back : Each (λ (w : ℤ). natAbs w < 2 ^ weightUnit) newBack
     pub next-forward : Each Small (next .forward)
     pub next-back : Each Small (next .back)
 
-  -- the exact new weight of a weight w whose datum is d·2^(x−45)
+  -- the exact new weight of a weight w whose datum is d·2^(x − mantissaUnit)
   abbrev pub exactStep : ℤ → ℕ → ℤ → ℤ
   exactStep d x w = exactWeight (k .M) (t .ψ) (exactOutput Γ t) v d x w
 
@@ -187,11 +188,11 @@ module _ (k : Settings) (Γ : ℕ) (t : FilterState) (entry : ℤ) where
 
   -- its results are close to the exact ones
   pub record Faithful : Type 0 where
-    -- |y − y*| < 2^(ξ−30), both sides times 2^60
-    pub output-near : natAbs (raise Y (ξ + 30) -ℤ exactOutput Γ t) < 2 ^ (ξ + 30)
-    -- each of the p and q weights: its datum is A·2^(γ−15), or a past symbol
+    -- |y − y*| < 2^(ξ − outputUnit), both sides times 2^exactUnit
+    pub output-near : natAbs (raise Y (ξ + outputRaise) -ℤ exactOutput Γ t) < 2 ^ (ξ + outputRaise)
+    -- each of the p and q weights: its datum is A·2^(γ − dataUnit), or a past symbol
     pub forward-near : (n : ℕ) → n < k .p → NearStep (getD (next .forward) n (pos 0)) (exactStep (getD (t .samples) n (pos 0)) Γ (getD (t .forward) n (pos 0)))
-    pub back-near : (n : ℕ) → n < k .q → NearStep (getD (next .back) n (pos 0)) (exactStep (getD (t .symbols) n (pos 0)) 45 (getD (t .back) n (pos 0)))
+    pub back-near : (n : ℕ) → n < k .q → NearStep (getD (next .back) n (pos 0)) (exactStep (getD (t .symbols) n (pos 0)) mantissaUnit (getD (t .back) n (pos 0)))
 
   -- what step 7 and the doubling after it leave, once: the new weights as they are; or the cut half of each; or twice each, with the same values
   pub data Normalised : Type 0 where

@@ -1,19 +1,17 @@
 // One sample.
 ghost use mathlib.Core.Path.{_≡_};
-ghost use mathlib.Core.List.{map};
 ghost use Prim.Native.Nat.{_+_, _^_, _<_, _≤_};
 ghost use lib.Bits.{bitOr};
-ghost use lib.IntN.{ℤ, natAbs};
+ghost use lib.IntN.{natAbs};
 ghost use lib.ListN.{drop};
 ghost use Rattle.laws.specs.Sums.{Each};
-ghost use Rattle.numbers.specs.Cut.{rescale};
 ghost use Rattle.steps.specs.Limits.{symbolLimit, exponentLimit, outputExponentLimit};
-ghost use Rattle.steps.specs.Sound.{lineLength, orAll, Storable};
-ghost use Rattle.steps.specs.Fir.{largestBits, magnitudes};
+ghost use Rattle.steps.specs.Sound.{lineLength, orAll};
+ghost use Rattle.steps.specs.Fir.{Small, halved, doubled, largestBits, magnitudes};
 ghost use Rattle.filter.specs.Calls.{LargestBitsAt, nextDelay, SymbolBounds, FilterBounds, Output-is, DecisionBounds, Decision-is, chosen, UpdateBounds, updated, Normalised-is, ChangeBounds, Changed-is, resultOf, Ready, SampleResult-is, filterStateOf};
 use steps::settings::Settings;
 
-// The scale counts of a block, its b and B, and γ + 30.
+// The scale counts of a block, its b and B, and γ + RECEIVED_UNIT.
 pub struct BlockExponents {
     pub s: u32,
     pub sb: u32,
@@ -67,7 +65,7 @@ fn reach(r: u32, delay: usize, symbols: &[i16]) -> u32
     if delay < symbols.len() {
         r + 1
     } else {
-        steps::fir::largest_bits(symbols)
+        steps::past::largest_bits(symbols)
     }
 }
 
@@ -86,8 +84,8 @@ pub fn filter_output(
     ensures { λ h. ⌜ Output-is e psi (now (forward .entry)) (now (back .entry)) (now (samples .entry)) (now (symbols .entry)) h ⌝ }
 {
     let nu = e.sb + reach(r, delay, symbols);
-    let f = steps::fir::sum(forward, samples);
-    let h = steps::fir::sum(back, symbols);
+    let f = steps::weights::sum(forward, samples);
+    let h = steps::weights::sum(back, symbols);
     let o = steps::output::output(f, h, e.gamma30, nu, psi);
     Output {
         nu: nu,
@@ -134,17 +132,29 @@ pub fn update(
     requires { ⌜ UpdateBounds m z psi theta scale exponent more (now w) (now a) ⌝ }
     ensures { λ r. ⌜ (now (w .exit) ≡ updated m z psi theta scale exponent more (now (w .entry)) (now (a .entry))) × (r ≡ orAll (magnitudes (now (w .exit)))) ⌝ }
 {
-    let j = steps::factor::factor(m, z, 60 + psi + scale - (exponent + theta));
-    steps::fir::adapt(w, a, j as i32, 15 - (scale + more))
+    let j = steps::factor::factor(
+        m,
+        z,
+        steps::limits::STEP_UNIT + steps::limits::RECEIVED_UNIT + psi + scale - (exponent + theta),
+    );
+    steps::weights::adapt(w, a, j as i32, steps::limits::DATA_UNIT - (scale + more))
 }
 
-// The weights of both filters at another exponent.
-fn rescale_both(forward: &mut [i16], back: &mut [i16], i: u32, j: u32)
-    requires { ⌜ (Each (Storable i j) (now forward)) × (Each (Storable i j) (now back)) ⌝ }
-    ensures { λ _. ⌜ (now (forward .exit) ≡ map (λ (a : ℤ). rescale a i j) (now (forward .entry))) × (now (back .exit) ≡ map (λ (a : ℤ). rescale a i j) (now (back .entry))) ⌝ }
+// Half of each weight of both filters.
+fn halve_both(forward: &mut [i16], back: &mut [i16])
+    ensures { λ _. ⌜ (now (forward .exit) ≡ halved (now (forward .entry))) × (now (back .exit) ≡ halved (now (back .entry))) ⌝ }
 {
-    steps::fir::rescale_all(forward, i, j);
-    steps::fir::rescale_all(back, i, j);
+    steps::weights::halve(forward);
+    steps::weights::halve(back);
+}
+
+// Twice each weight of both filters.
+fn double_both(forward: &mut [i16], back: &mut [i16])
+    requires { ⌜ (Each Small (now forward)) × (Each Small (now back)) ⌝ }
+    ensures { λ _. ⌜ (now (forward .exit) ≡ doubled (now (forward .entry))) × (now (back .exit) ≡ doubled (now (back .entry))) ⌝ }
+{
+    steps::weights::double(forward);
+    steps::weights::double(back);
 }
 
 // Step 7 and what follows it: the new ψ, where seen has the bits of all new magnitudes together.
@@ -153,7 +163,7 @@ pub fn normalise(forward: &mut [i16], back: &mut [i16], seen: u16, psi: u32) -> 
     ensures { λ r. ⌜ Normalised-is psi (now (forward .entry)) (now (back .entry)) r (now (forward .exit)) (now (back .exit)) ⌝ }
 {
     if steps::limits::HALVING <= seen {
-        rescale_both(forward, back, 0, 1);
+        halve_both(forward, back);
         return psi + 1;
     }
     if psi == 0 {
@@ -162,7 +172,7 @@ pub fn normalise(forward: &mut [i16], back: &mut [i16], seen: u16, psi: u32) -> 
     if steps::limits::DOUBLING <= seen {
         return psi;
     }
-    rescale_both(forward, back, 1, 0);
+    double_both(forward, back);
     psi - 1
 }
 
@@ -185,7 +195,17 @@ pub fn change(
     let z = j.z;
     let theta = j.theta;
     let ahead = update(forward, samples, m, z, psi, theta, e.s, e.gamma30, 0);
-    let behind = update(back, symbols, m, z, psi, theta, e.sb, nu + 30, 15 - nu);
+    let behind = update(
+        back,
+        symbols,
+        m,
+        z,
+        psi,
+        theta,
+        e.sb,
+        nu + steps::limits::RECEIVED_UNIT,
+        steps::limits::DATA_UNIT - nu,
+    );
     normalise(forward, back, ahead | behind, psi)
 }
 
@@ -220,29 +240,10 @@ pub fn step(
     ensures { λ r. ⌜ SampleResult-is k (e .gamma30) (filterStateOf (now (forward .entry)) (now (back .entry)) (now (samples .entry)) (drop 1 (now (symbols .entry))) psi) entry r (now (forward .exit)) (now (back .exit)) (now (symbols .exit)) ⌝ }
 {
     let r = k.r as u32;
-    let h = filter_output(
-        r,
-        delay,
-        e,
-        psi,
-        forward,
-        back,
-        samples,
-        &symbols[1..],
-    );
+    let h = filter_output(r, delay, e, psi, forward, back, samples, &symbols[1..]);
     let j = decision_error(r, e.sb, h.y, h.xi, entry);
     let v = j.v;
     symbols[0] = v;
-    let next = change(
-        k.M,
-        e,
-        psi,
-        h,
-        j,
-        forward,
-        back,
-        samples,
-        &symbols[1..],
-    );
+    let next = change(k.M, e, psi, h, j, forward, back, samples, &symbols[1..]);
     result_of(h, j, next)
 }

@@ -2,7 +2,7 @@
 use mathlib.Core.Path.{_≡_, sym, ap, _∙_, subst}
 use mathlib.Core.Bool.{true}
 use mathlib.Core.List.{List, [], _∷_}
-use Prim.Native.Nat.{ℕ, _^_, _≤_, _<_}
+use Prim.Native.Nat.{ℕ, _≤_, _<_}
 use native.Mathlib.Omega.{arith}
 use lib.IntN.{ℤ, pos, natAbs}
 use lib.ListN.{length, getD}
@@ -57,8 +57,8 @@ module _ (s : Equaliser) (g : WithinLimits s) (l : Buffers) (h : AcceptedBlock s
           xi-fit = exponents (out s l .xi) (long .xi-long) (λ n k. let b = at n k in (omega (arith, out-at n k .ξ-is, b .bounded .ξ-least), omega (arith, out-at n k .ξ-is, b .bounded .ξ-most)));
           theta-fit = exponents (out s l .theta) (long .theta-long) (λ n k. let b = at n k in (omega (arith, out-at n k .θ-is, b .bounded .θ-least), omega (arith, out-at n k .θ-is, b .bounded .θ-most)));
         };
-        z-small = all-small errorLimit (out s l .z) (long .z-long) (λ n k. let b = at n k in subst (λ (x : ℤ). natAbs x < 2 ^ 30) (sym (out-at n k .Z-is)) (b .bounded .Z-small));
-        y-small = all-small outputLimit (out s l .y) (long .y-long) (λ n k. let b = at n k in subst (λ (x : ℤ). natAbs x < 2 ^ 29) (sym (out-at n k .Y-is)) (b .bounded .Y-small));
+        z-small = all-small errorLimit (out s l .z) (long .z-long) (λ n k. let b = at n k in subst (λ (x : ℤ). natAbs x < errorLimit) (sym (out-at n k .Z-is)) (b .bounded .Z-small));
+        y-small = all-small outputLimit (out s l .y) (long .y-long) (λ n k. let b = at n k in subst (λ (x : ℤ). natAbs x < outputLimit) (sym (out-at n k .Y-is)) (b .bounded .Y-small));
       }
 
   taken : Taken (out s l) (s .n)

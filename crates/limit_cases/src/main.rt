@@ -2,10 +2,10 @@
 use libc::STDOUT_FILENO;
 use numbers::bit_length::magnitude;
 use numbers::scale_count::scale_count;
+use one_sample::IMAGE;
+use one_sample::run_sample;
 use state::equaliser::Equaliser;
 use steps::settings::Settings;
-use vectors::sample::IMAGE;
-use vectors::sample::run_sample;
 
 fn text(s: &[u8]) {
     io::write_all(STDOUT_FILENO, s);

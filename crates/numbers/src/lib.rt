@@ -1,4 +1,5 @@
-// The number rules of the equaliser: cuts, bit lengths and scale counts.
+// The number rules of the equaliser: cuts, bit lengths, products and scale counts.
 pub mod bit_length;
 pub mod cut;
+pub mod product;
 pub mod scale_count;

@@ -14,13 +14,13 @@ use Rattle.laws.specs.Lists.{all}
 use Rattle.laws.specs.Powers.{split, positive}
 use Rattle.laws.specs.Sums.{each-at}
 use Rattle.laws.specs.Tests.{each-tested, tested-each, refuted}
-use Rattle.steps.specs.Limits.{blockLimit}
+use Rattle.steps.specs.Limits.{outputUnit, blockLimit}
 use Rattle.steps.specs.Fir.{allBelow}
 use Rattle.steps.proofs.LargestLaws.{all-below}
 use Rattle.floats.specs.Floats.{negative, AtMost, Nearest}
 use Rattle.floats.specs.ValueLaws.{same-value, exact, whole-value, round-zero}
 use Rattle.floats.specs.NearestLaws.{small, rounded-nearest, nearest-at-most, at-most-more}
-use Rattle.readings.specs.Limits.{outputLimit, errorLimit, amplitudeLimit}
+use Rattle.readings.specs.Limits.{outputLimit, errorLimit, amplitudeLimit, amplitudeShift}
 use Rattle.readings.specs.Readings.{Lists, valueOf, amplitude, amplitudes, counted, isUncut, squares, quotient, readable}
 use Rattle.readings.specs.Calls.{Exponent}
 use Rattle.readings.specs.Holds.{Exactly, exactSquares, squaresAbove, Uncut, ReadExactly, DividedOnce, ReadingsHold, ZeroIsPlus}
@@ -33,15 +33,15 @@ use Rattle.readings.proofs.ValueLaws.{quotient-is}
 pub value-exact : (m : ℤ) (e : ℕ) → natAbs m < 2 ^ 53 → Exponent e → Exactly (valueOf m e) m e
 unfolding valueOf
 value-exact m e h k =
-    same-value (valueOf m e) (negative m) (natAbs m) (2 ^ (30 - e)) (natAbs m * 2 ^ e) (2 ^ 30) (positive (30 - e))
-    (scaled (natAbs m) e (30 - e) (omega (arith, k .1))) (exact (negative m) (natAbs m) (30 - e) h (omega arith))
+    same-value (valueOf m e) (negative m) (natAbs m) (2 ^ (outputUnit - e)) (natAbs m * 2 ^ e) (2 ^ outputUnit) (positive (outputUnit - e))
+    (scaled (natAbs m) e (outputUnit - e) (omega (arith, k .1))) (exact (negative m) (natAbs m) (outputUnit - e) h (omega arith))
   where
-    scaled : (a e k : ℕ) → 30 ≡ e + k → a * 2 ^ e * 2 ^ k ≡ a * 2 ^ 30
-    scaled a e k h = omega (arith, ap (λ (x : ℕ). a * x) (split 30 e k h))
+    scaled : (a e k : ℕ) → outputUnit ≡ e + k → a * 2 ^ e * 2 ^ k ≡ a * 2 ^ outputUnit
+    scaled a e k h = omega (arith, ap (λ (x : ℕ). a * x) (split outputUnit e k h))
 
 pub zero-plus : ZeroIsPlus
 unfolding valueOf quotient
-zero-plus = ((λ e. round-zero (2 ^ (30 - e)) (positive (30 - e))), (λ n h. round-zero (65536 * n) (omega arith)))
+zero-plus = ((λ e. round-zero (2 ^ (outputUnit - e)) (positive (outputUnit - e))), (λ n h. round-zero (65536 * n) (omega arith)))
 
 below-at : (limit : ℕ) (l : List ℤ) (i : ℕ) → allBelow limit l ≡ true → i < length l → natAbs (getD l i (pos 0)) < limit
 below-at limit l i e h = each-at (λ (x : ℤ). natAbs x < limit) l i (pos 0) (all-below limit l e) h
@@ -49,44 +49,44 @@ below-at limit l i e h = each-at (λ (x : ℤ). natAbs x < limit) l i (pos 0) (a
 -- ---- the sums
 
 module _ (q : ℕ) where
-  low : let a = counted (q / 2 ^ 22) in a * a * 2 ^ 44 ≤ q * q
-  low = let h : counted (q / 2 ^ 22) * 2 ^ 22 ≤ q = omega arith in omega (arith, mul-le-mul h h)
+  low : let a = counted (q / 2 ^ amplitudeShift) in a * a * 2 ^ (2 * amplitudeShift) ≤ q * q
+  low = let h : counted (q / 2 ^ amplitudeShift) * 2 ^ amplitudeShift ≤ q = omega arith in omega (arith, mul-le-mul h h)
 
-  high : q / 2 ^ 22 ≤ amplitudeLimit → let a = counted (q / 2 ^ 22) in q * q < (a + 1) * (a + 1) * 2 ^ 44
+  high : q / 2 ^ amplitudeShift ≤ amplitudeLimit → let a = counted (q / 2 ^ amplitudeShift) in q * q < (a + 1) * (a + 1) * 2 ^ (2 * amplitudeShift)
   high k =
-      let a = counted (q / 2 ^ 22) in
-      let h : q + 1 ≤ (a + 1) * 2 ^ 22 = omega arith in
+      let a = counted (q / 2 ^ amplitudeShift) in
+      let h : q + 1 ≤ (a + 1) * 2 ^ amplitudeShift = omega arith in
       omega (arith, mul-le-mul h h)
 
-sums-low : (Z : List ℤ) (θ : List ℕ) → squares (amplitudes Z θ) * 2 ^ 44 ≤ exactSquares Z θ
+sums-low : (Z : List ℤ) (θ : List ℕ) → squares (amplitudes Z θ) * 2 ^ (2 * amplitudeShift) ≤ exactSquares Z θ
 unfolding squares amplitudes exactSquares
 sums-low [] θ = omega arith
 sums-low (z ∷ Z) [] = omega arith
 sums-low (z ∷ Z) (t ∷ θ) = joined (counted (amplitude z t)) (natAbs z * 2 ^ t) (squares (amplitudes Z θ)) (exactSquares Z θ) (low (natAbs z * 2 ^ t)) (sums-low Z θ)
   where
-    joined : (a q s e : ℕ) → a * a * 2 ^ 44 ≤ q * q → s * 2 ^ 44 ≤ e → (a * a + s) * 2 ^ 44 ≤ q * q + e
+    joined : (a q s e : ℕ) → a * a * 2 ^ (2 * amplitudeShift) ≤ q * q → s * 2 ^ (2 * amplitudeShift) ≤ e → (a * a + s) * 2 ^ (2 * amplitudeShift) ≤ q * q + e
     joined a q s e h k = omega arith
 
 -- at most, and less where there is one
-sums-high : (Z : List ℤ) (θ : List ℕ) → Uncut (amplitudes Z θ) → exactSquares Z θ + length (amplitudes Z θ) ≤ squaresAbove (amplitudes Z θ) * 2 ^ 44
+sums-high : (Z : List ℤ) (θ : List ℕ) → Uncut (amplitudes Z θ) → exactSquares Z θ + length (amplitudes Z θ) ≤ squaresAbove (amplitudes Z θ) * 2 ^ (2 * amplitudeShift)
 unfolding squaresAbove amplitudes exactSquares
 sums-high [] θ u = omega arith
 sums-high (z ∷ Z) [] u = omega arith
 sums-high (z ∷ Z) (t ∷ θ) u =
     joined (counted (amplitude z t) + 1) (natAbs z * 2 ^ t) (squaresAbove (amplitudes Z θ)) (exactSquares Z θ) (length (amplitudes Z θ)) (high (natAbs z * 2 ^ t) (u .0)) (sums-high Z θ (u .1))
   where
-    joined : (a q s e n : ℕ) → q * q < a * a * 2 ^ 44 → e + n ≤ s * 2 ^ 44 → q * q + e + suc n ≤ (a * a + s) * 2 ^ 44
+    joined : (a q s e n : ℕ) → q * q < a * a * 2 ^ (2 * amplitudeShift) → e + n ≤ s * 2 ^ (2 * amplitudeShift) → q * q + e + suc n ≤ (a * a + s) * 2 ^ (2 * amplitudeShift)
     joined a q s e n h k = omega arith
 
 -- with a cut the sum falls short by more than what the division rounds
-high-cut : (q : ℕ) → isUncut (q / 2 ^ 22) ≡ false → let a = counted (q / 2 ^ 22) in (a * a + 1) * 2 ^ 44 ≤ q * q
+high-cut : (q : ℕ) → isUncut (q / 2 ^ amplitudeShift) ≡ false → let a = counted (q / 2 ^ amplitudeShift) in (a * a + 1) * 2 ^ (2 * amplitudeShift) ≤ q * q
 high-cut q e =
-    let c : amplitudeLimit < q / 2 ^ 22 = leb-false (q / 2 ^ 22) amplitudeLimit e in
-    let h : 65536 * 2 ^ 22 ≤ q = omega arith in
-    let k : counted (q / 2 ^ 22) ≡ amplitudeLimit = omega arith in
+    let c : amplitudeLimit < q / 2 ^ amplitudeShift = leb-false (q / 2 ^ amplitudeShift) amplitudeLimit e in
+    let h : 65536 * 2 ^ amplitudeShift ≤ q = omega arith in
+    let k : counted (q / 2 ^ amplitudeShift) ≡ amplitudeLimit = omega arith in
     omega (arith, mul-le-mul h h, ap (λ (x : ℕ). x * x) k)
 
-sums-cut : (Z : List ℤ) (θ : List ℕ) → all isUncut (amplitudes Z θ) ≡ false → (squares (amplitudes Z θ) + 1) * 2 ^ 44 ≤ exactSquares Z θ
+sums-cut : (Z : List ℤ) (θ : List ℕ) → all isUncut (amplitudes Z θ) ≡ false → (squares (amplitudes Z θ) + 1) * 2 ^ (2 * amplitudeShift) ≤ exactSquares Z θ
 unfolding squares amplitudes exactSquares
 sums-cut [] θ e = absurd (true≢false e)
 sums-cut (z ∷ Z) [] e = absurd (true≢false e)
@@ -95,14 +95,14 @@ sums-cut (z ∷ Z) (t ∷ θ) e = go (isUncut (amplitude z t)) refl e (λ f. sum
     q : ℕ
     q = natAbs z * 2 ^ t
 
-    first : (a q s e : ℕ) → (a * a + 1) * 2 ^ 44 ≤ q * q → s * 2 ^ 44 ≤ e → (a * a + s + 1) * 2 ^ 44 ≤ q * q + e
+    first : (a q s e : ℕ) → (a * a + 1) * 2 ^ (2 * amplitudeShift) ≤ q * q → s * 2 ^ (2 * amplitudeShift) ≤ e → (a * a + s + 1) * 2 ^ (2 * amplitudeShift) ≤ q * q + e
     first a q s e h k = omega arith
 
-    later : (a q s e : ℕ) → a * a * 2 ^ 44 ≤ q * q → (s + 1) * 2 ^ 44 ≤ e → (a * a + s + 1) * 2 ^ 44 ≤ q * q + e
+    later : (a q s e : ℕ) → a * a * 2 ^ (2 * amplitudeShift) ≤ q * q → (s + 1) * 2 ^ (2 * amplitudeShift) ≤ e → (a * a + s + 1) * 2 ^ (2 * amplitudeShift) ≤ q * q + e
     later a q s e h k = omega arith
 
-    go : (b : Bool) → isUncut (amplitude z t) ≡ b → (b && all isUncut (amplitudes Z θ)) ≡ false → (all isUncut (amplitudes Z θ) ≡ false → (squares (amplitudes Z θ) + 1) * 2 ^ 44 ≤ exactSquares Z θ) →
-        (counted (amplitude z t) * counted (amplitude z t) + squares (amplitudes Z θ) + 1) * 2 ^ 44 ≤ q * q + exactSquares Z θ
+    go : (b : Bool) → isUncut (amplitude z t) ≡ b → (b && all isUncut (amplitudes Z θ)) ≡ false → (all isUncut (amplitudes Z θ) ≡ false → (squares (amplitudes Z θ) + 1) * 2 ^ (2 * amplitudeShift) ≤ exactSquares Z θ) →
+        (counted (amplitude z t) * counted (amplitude z t) + squares (amplitudes Z θ) + 1) * 2 ^ (2 * amplitudeShift) ≤ q * q + exactSquares Z θ
     go true f g rest = later (counted (amplitude z t)) q (squares (amplitudes Z θ)) (exactSquares Z θ) (low q) (rest g)
     go false f g rest = first (counted (amplitude z t)) q (squares (amplitudes Z θ)) (exactSquares Z θ) (high-cut q f) (sums-low Z θ)
 
@@ -132,10 +132,10 @@ module _ (sum n : ℕ) (h : sum < 2 ^ 39) (some : 1 ≤ n) (few : n ≤ blockLim
   k-most : k * n ≤ (sum + 1) * 128
   k-most = omega (arith, div-mul-le-self (sum * 128) n, few)
 
-  quotient-most : (e : ℕ) → (sum + 1) * 2 ^ 44 ≤ e → AtMost (quotient sum n) e (65536 * n * 2 ^ 44)
+  quotient-most : (e : ℕ) → (sum + 1) * 2 ^ (2 * amplitudeShift) ≤ e → AtMost (quotient sum n) e (65536 * n * 2 ^ (2 * amplitudeShift))
   unfolding quotient
   quotient-most e g =
-      at-most-more (quotient sum n) k (2 ^ 23) e (65536 * n * 2 ^ 44) (positive 23) (omega (arith, k-most, g))
+      at-most-more (quotient sum n) k (2 ^ 23) e (65536 * n * 2 ^ (2 * amplitudeShift)) (positive 23) (omega (arith, k-most, g))
       (nearest-at-most binary64 (quotient sum n) sum (65536 * n) (omega (arith, some)) (rounded sum n h some) (round binary64 false k (2 ^ 23)) k (2 ^ 23) (round-fits binary64 false k (2 ^ 23))
       (exact false k 23 (omega (arith, div-le-self (sum * 128) n, h)) (omega arith)) (positive 23) (omega (arith, k-least)))
 

@@ -11,11 +11,12 @@ use lib.Ieee.Scale.{round-same}
 use Rattle.laws.specs.Powers.{split3, positive, rises, scale-le}
 use Rattle.floats.specs.Floats.{negative}
 use Rattle.floats.specs.ValueLaws.{whole-value, mul-value, div-value, field-value}
-use Rattle.steps.specs.Limits.{blockLimit, outputExponentLimit}
+use Rattle.steps.specs.Limits.{outputUnit, blockLimit, outputExponentLimit}
+use Rattle.readings.specs.Limits.{amplitudeShift}
 use Rattle.readings.specs.Readings.{valueOf, quotient}
 use Rattle.readings.specs.Calls.{Exponent, powers}
 
--- ---- 2^(e−30)
+-- ---- 2^(e − outputUnit)
 
 pub power-at : (k n i : ℕ) (d : Float) → i < n → getD (powers k n) i d ≡ ofBits binary64 (suc (k + i) * 2 ^ 52)
 power-at k zero i d h = absurd (not-suc-le-zero h)
@@ -26,7 +27,7 @@ unlike-false : (s : Bool) → unlike s false ≡ s
 unlike-false true = refl
 unlike-false false = refl
 
--- the leading digit, the field and 30 − e are 1074 together
+-- the leading digit, the field and outputUnit − e are 1074 together
 scaled : (a n k : ℕ) → 1074 ≡ 52 + (n + k) → a * (2 ^ 52 * 2 ^ n) * 2 ^ k ≡ a * (1 * 2 ^ 1074)
 scaled a n k e = turn a (2 ^ 52) (2 ^ n) (2 ^ k) ∙ ap (λ (x : ℕ). a * (1 * x)) (sym (split3 1074 52 n k e))
   where
@@ -40,14 +41,14 @@ product-is m e h k =
     mul-value binary64 (negative m) false (natAbs m) 1 (2 ^ 52 * 2 ^ n) (2 ^ 1074) (omega arith) (positive 1074) (ofInt binary64 m) (ofBits binary64 (suc n * 2 ^ 52))
     (whole-value m (omega arith)) (field-value n (omega (arith, k .1)))
     ∙ ap (λ (s : Bool). round binary64 s (natAbs m * (2 ^ 52 * 2 ^ n)) (1 * 2 ^ 1074)) (unlike-false (negative m))
-    ∙ round-same binary64 (negative m) (natAbs m * (2 ^ 52 * 2 ^ n)) (1 * 2 ^ 1074) (natAbs m) (2 ^ (30 - e)) (positive 1074) (positive (30 - e)) (scaled (natAbs m) n (30 - e) (omega (arith, k .1)))
+    ∙ round-same binary64 (negative m) (natAbs m * (2 ^ 52 * 2 ^ n)) (1 * 2 ^ 1074) (natAbs m) (2 ^ (outputUnit - e)) (positive 1074) (positive (outputUnit - e)) (scaled (natAbs m) n (outputUnit - e) (omega (arith, k .1)))
 
 -- ---- a
 
-pub amplitude-is : (m e : ℕ) → m ≤ 2 ^ 31 → e ≤ outputExponentLimit → m * 2 ^ e % 2 ^ 64 / 2 ^ 22 ≡ m * 2 ^ e / 2 ^ 22
+pub amplitude-is : (m e : ℕ) → m ≤ 2 ^ 31 → e ≤ outputExponentLimit → m * 2 ^ e % 2 ^ 64 / 2 ^ amplitudeShift ≡ m * 2 ^ e / 2 ^ amplitudeShift
 amplitude-is m e h k =
     let a : 2 ^ e ≤ 2 ^ outputExponentLimit = rises k in
-    ap (λ (x : ℕ). x / 2 ^ 22) (mod-eq-of-lt (omega (arith, scale-le e h)))
+    ap (λ (x : ℕ). x / 2 ^ amplitudeShift) (mod-eq-of-lt (omega (arith, scale-le e h)))
 
 -- ---- the power
 

@@ -22,7 +22,7 @@ abbrev pub powers : ℕ → ℕ → List Float
 powers k zero = []
 powers k (suc n) = ofBits binary64 (suc k * 2 ^ 52) ∷ powers (suc k) n
 
--- 2^(e−30) for each e up to the greatest exponent: its field is 993 + e
+-- 2^(e − outputUnit) for each e up to the greatest exponent: its field is 993 + e
 abbrev pub powerTable : List Float
 powerTable = powers 992 (outputExponentLimit + 1)
 

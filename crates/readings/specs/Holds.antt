@@ -9,15 +9,16 @@ use lib.Ieee.{Float, fin, binary64, ofInt, div}
 use lib.Ieee.Exact.{HasValue}
 use Rattle.laws.specs.Sums.{Each}
 use Rattle.floats.specs.Floats.{negative, AtMost, Nearest}
-use Rattle.readings.specs.Limits.{amplitudeLimit}
+use Rattle.steps.specs.Limits.{outputUnit}
+use Rattle.readings.specs.Limits.{amplitudeLimit, amplitudeShift}
 use Rattle.readings.specs.Readings.{Lists, valueOf, pairOf, readingOf, readingsOf, amplitudes, counted, squares, quotient, powerOf}
 use Rattle.readings.specs.declared.Power.the-variants.{Mean, Floor}
 
--- x is m·2^(e−30): it has the sign of m, + where m is 0, and 2^30·|x| is |m|·2^e
+-- x is m·2^(e − outputUnit): it has the sign of m, + where m is 0, and 2^outputUnit·|x| is |m|·2^e
 abbrev pub Exactly : Float → ℤ → ℕ → Type 0
-Exactly x m e = HasValue x (negative m) (natAbs m * 2 ^ e) (2 ^ 30)
+Exactly x m e = HasValue x (negative m) (natAbs m * 2 ^ e) (2 ^ outputUnit)
 
--- the exact sum of (256·error)², times 2^44: 256·|error| is |Z|·2^θ / 2^22
+-- the exact sum of (256·error)², times 2^(2·amplitudeShift)
 unfoldable pub exactSquares : List ℤ → List ℕ → ℕ
 exactSquares [] θs = 0
 exactSquares (Z ∷ Zs) [] = 0
@@ -57,10 +58,10 @@ module _ (l : Lists) (n : ℕ) where
     pub mean : Uncut a → powerOf a ≡ Mean (quotient (squares a) n)
     pub floor : (Uncut a → ⊥) → powerOf a ≡ Floor (quotient (squares a) n)
     -- the exact sum of (256·error)² is at least the sum of a², and less than the sum of (a + 1)² where no a was cut
-    pub at-least : squares a * 2 ^ 44 ≤ exactSquares (l .z) (l .theta)
-    pub below : Uncut a → exactSquares (l .z) (l .theta) < squaresAbove a * 2 ^ 44
+    pub at-least : squares a * 2 ^ (2 * amplitudeShift) ≤ exactSquares (l .z) (l .theta)
+    pub below : Uncut a → exactSquares (l .z) (l .theta) < squaresAbove a * 2 ^ (2 * amplitudeShift)
     -- a floor, rounded as it is, is at most the exact mean of error²
-    pub floor-below : (Uncut a → ⊥) → AtMost (quotient (squares a) n) (exactSquares (l .z) (l .theta)) (65536 * n * 2 ^ 44)
+    pub floor-below : (Uncut a → ⊥) → AtMost (quotient (squares a) n) (exactSquares (l .z) (l .theta)) (65536 * n * 2 ^ (2 * amplitudeShift))
 
 -- a zero reading is +0, and so is a zero power
 abbrev pub ZeroIsPlus : Type 0

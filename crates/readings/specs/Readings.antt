@@ -8,9 +8,9 @@ use lib.ListN.{length}
 use lib.Ieee.{Float, binary64, round}
 use Rattle.laws.specs.Lists.{all}
 use Rattle.floats.specs.Floats.{negative}
-use Rattle.steps.specs.Limits.{blockLimit, outputExponentLimit}
+use Rattle.steps.specs.Limits.{outputUnit, blockLimit, outputExponentLimit}
 use Rattle.steps.specs.Fir.{allBelow}
-use Rattle.readings.specs.Limits.{outputLimit, errorLimit, amplitudeLimit}
+use Rattle.readings.specs.Limits.{outputLimit, errorLimit, amplitudeLimit, amplitudeShift}
 use Rattle.readings.specs.declared.Reading.{Reading}
 use Rattle.readings.specs.declared.Power.{Power}
 use Rattle.readings.specs.declared.Power.the-variants.{Mean, Floor}
@@ -27,9 +27,9 @@ listsOf y xi z theta = record { y = y; xi = xi; z = z; theta = theta }
 
 -- ---- a reading
 
--- a mantissa and its exponent: m·2^(e−30), as m over 2^(30−e)
+-- a mantissa and its exponent: m·2^(e − outputUnit), as m over 2^(outputUnit − e)
 unfoldable pub valueOf : ℤ → ℕ → Float
-valueOf m e = round binary64 (negative m) (natAbs m) (2 ^ (30 - e))
+valueOf m e = round binary64 (negative m) (natAbs m) (2 ^ (outputUnit - e))
 
 abbrev pub readingOf : ℤ → ℕ → ℤ → ℕ → Reading
 readingOf Y ξ Z θ = record { y = valueOf Y ξ; error = valueOf Z θ }
@@ -50,9 +50,9 @@ readingsOf l = pairs (l .y) (l .xi) (l .z) (l .theta)
 
 -- ---- the error power
 
--- a = floor(256·|error|), where 256·|error| is |Z|·2^(θ−22)
+-- a = floor(256·|error|), where 256·|error| is |Z|·2^(θ − amplitudeShift)
 abbrev pub amplitude : ℤ → ℕ → ℕ
-amplitude Z θ = natAbs Z * 2 ^ θ / 2 ^ 22
+amplitude Z θ = natAbs Z * 2 ^ θ / 2 ^ amplitudeShift
 
 unfoldable pub amplitudes : List ℤ → List ℕ → List ℕ
 amplitudes [] θs = []

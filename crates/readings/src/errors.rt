@@ -13,7 +13,7 @@ fn amplitude(z: i32, theta: u8) -> u64
     requires { ⌜ theta ≤ outputExponentLimit ⌝ }
     ensures { λ r. ⌜ r ≡ amplitude z theta ⌝ }
 {
-    ((numbers::bit_length::magnitude32(z) as u64) << theta) >> 22
+    ((numbers::bit_length::magnitude32(z) as u64) << theta) >> limits::AMPLITUDE_SHIFT
 }
 
 fn counted(a: u64) -> u64

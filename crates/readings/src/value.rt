@@ -5,7 +5,7 @@ ghost use Rattle.readings.specs.Calls.{Exponent, powerTable};
 use super::Reading;
 use super::limits::EXPONENTS;
 
-// 2^(e−30) for each e up to the greatest exponent.
+// 2^(e − OUTPUT_UNIT) for each e up to the greatest exponent.
 const POWERS: [f64; EXPONENTS] = [
     0.000000000931322574615478515625,
     0.00000000186264514923095703125,
@@ -41,7 +41,7 @@ pub fn powers() -> [f64; EXPONENTS]
     POWERS
 }
 
-// m·2^(e−30).
+// m·2^(e − OUTPUT_UNIT).
 fn value(m: i32, e: u8, powers: &[f64; EXPONENTS]) -> f64
     requires { ⌜ Exponent e × (now powers ≡ powerTable) ⌝ }
     ensures { λ r. ⌜ r ≡ valueOf m e ⌝ }

@@ -11,7 +11,7 @@ use borrow.Author.Tests.{le-leb, lt-ltb}
 use Rattle.laws.specs.Lists.{all}
 use Rattle.laws.specs.Tests.{both, tested-each, all-replicate}
 use Rattle.laws.specs.Sums.{each-append}
-use Rattle.steps.specs.Limits.{exponentLimit, halvingLimit, lengthLimit, slots}
+use Rattle.steps.specs.Limits.{dataUnit, exponentLimit, halvingLimit, lengthLimit, slots}
 use Rattle.steps.specs.Settings.{Settings, scaleForward, isEntry}
 use Rattle.steps.specs.Fir.{Small, allSmall, isBelow}
 use Rattle.block.specs.Block.{Memory}
@@ -99,7 +99,7 @@ module _ (k : Settings) (o : Memory) (s : Sound k o) where
       (spare past (k .p + k .q) past-size)
     where
       stored : all (isStored (scaleForward k) (o .b) (o .B)) (o .samples) ≡ true
-      stored = tested-each _ _ (λ a h. lt-ltb (natAbs a * 2 ^ (o .B + scaleForward k)) (2 ^ (15 + o .b)) h) (o .samples) (s .samples-small)
+      stored = tested-each _ _ (λ a h. lt-ltb (natAbs a * 2 ^ (o .B + scaleForward k)) (2 ^ (dataUnit + o .b)) h) (o .samples) (s .samples-small)
 
       entries : all (isEntry (k .r)) (o .symbols) ≡ true
       entries = tested-each _ _ (λ v h. h) (o .symbols) (s .symbols-are)

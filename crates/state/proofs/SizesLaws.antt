@@ -7,7 +7,7 @@ use native.Mathlib.Nat.{mul-le-mul, le-of-lt}
 use borrow.Author.Tests.{leb-true}
 use Rattle.laws.specs.Powers.{rises}
 use Rattle.laws.specs.Tests.{last-le}
-use Rattle.steps.specs.Limits.{tapLimit, blockLimit, symbolLimit, gainLimit}
+use Rattle.steps.specs.Limits.{stepUnit, tapLimit, blockLimit, symbolLimit, gainLimit}
 use Rattle.steps.specs.Settings.{Settings, given, stepBound}
 use Rattle.steps.specs.Sound.{Within, Admitted}
 use Rattle.state.specs.Sizes.{sizesFit, admits, settingsNumber}
@@ -39,7 +39,7 @@ fit-within k e =
 -- ---- the step admission
 
 pub admits-admitted : (k : Settings) → admits k ≡ true → Admitted k
-admits-admitted k e = leb-true (k .M * stepBound k) (2 ^ (30 + k .L)) e
+admits-admitted k e = leb-true (k .M * stepBound k) (2 ^ (stepUnit + k .L)) e
 
 -- D·2^L at the limits
 abbrev pub stepMost : ℕ

@@ -12,7 +12,7 @@ use lib.IntN.{ℤ, pos}
 use borrow.Author.Tests.{leb-true, le-leb, ltb-true, lt-ltb, eqb-true}
 use Rattle.laws.specs.Lists.{all, and-left, and-right}
 use Rattle.laws.specs.Tests.{both, last-le, each-tested, each-parts, all-take, all-drop, all-replicate}
-use Rattle.steps.specs.Limits.{exponentLimit, halvingLimit, lengthLimit, slots}
+use Rattle.steps.specs.Limits.{dataUnit, exponentLimit, halvingLimit, lengthLimit, slots}
 use Rattle.steps.specs.Settings.{Settings, given, scaleForward, isEntry}
 use Rattle.steps.specs.Sound.{Within}
 use Rattle.steps.specs.Fir.{Small, isBelow}
@@ -165,7 +165,7 @@ unfolding fresh
 fresh-past k w =
     both _ _
     (both _ _
-    (both _ _ (front-passes (isStored (scaleForward k) 0 0) (lt-ltb (0 * 2 ^ (0 + scaleForward k)) (2 ^ 15) (omega arith)) (k .p - 1))
+    (both _ _ (front-passes (isStored (scaleForward k) 0 0) (lt-ltb (0 * 2 ^ (0 + scaleForward k)) (2 ^ dataUnit) (omega arith)) (k .p - 1))
     (ap isZero (getD-replicate slots (k .p - 1) (pos 0) (pos 0) (omega (arith, w .p-most)))))
     (all-take (isEntry (k .r)) (k .q) (drop (k .p) zeros) (rest-passes (isEntry (k .r)) refl (k .p))))
     (rest-passes isZero refl (k .p + k .q))

@@ -6,7 +6,7 @@ use lib.Dec.{leb, ltb, eqb}
 use lib.ListN.{length, take, drop, getD, replicate}
 use lib.IntN.{ℤ, pos, natAbs}
 use Rattle.laws.specs.Lists.{all}
-use Rattle.steps.specs.Limits.{exponentLimit, lengthLimit, slots}
+use Rattle.steps.specs.Limits.{dataUnit, exponentLimit, lengthLimit, slots}
 use Rattle.steps.specs.Settings.{Settings, given, scaleForward, isEntry}
 use Rattle.steps.specs.Fir.{allSmall}
 use Rattle.block.specs.Block.{Memory}
@@ -46,9 +46,9 @@ memory e = record { forward = forward e; back = back e; samples = samples e; sym
 abbrev pub isZero : ℤ → Bool
 isZero z = eqb (natAbs z) 0
 
--- |A|·2^(B+S) < 2^(15+b)
+-- |A|·2^(B+S) < 2^(dataUnit + b)
 abbrev pub isStored : ℕ → ℕ → ℕ → ℤ → Bool
-isStored s b B a = ltb (natAbs a * 2 ^ (B + s)) (2 ^ (15 + b))
+isStored s b B a = ltb (natAbs a * 2 ^ (B + s)) (2 ^ (dataUnit + b))
 
 abbrev pub soundExponents : Equaliser → Bool
 soundExponents e = leb (e .psi) exponentLimit && leb (e .b) (e .bmax) && leb (e .bmax + e .l) lengthLimit

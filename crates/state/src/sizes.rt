@@ -20,7 +20,7 @@ pub fn sizes_fit(k: Settings) -> bool
         & (k.L <= Equaliser::GAIN)
 }
 
-// Whether M·D ≤ 2^30, both sides times 2^L.
+// Whether M·D ≤ 2^STEP_UNIT, both sides times 2^L.
 pub fn admits(k: Settings) -> bool
     requires { ⌜ Within k ⌝ }
     ensures { λ f. ⌜ f ≡ admits k ⌝ }
@@ -30,7 +30,7 @@ pub fn admits(k: Settings) -> bool
     let d = (1u64 << (e + 3 + l))
         + (k.p as u64) * (1u64 << (e + 2))
         + (k.q as u64) * (1u64 << (e + 2 + l));
-    (k.M as u64) * d <= 1u64 << (30 + l)
+    (k.M as u64) * d <= 1u64 << ((steps::limits::STEP_UNIT as u64) + l)
 }
 
 // 1 for a size outside its limits, then 2 for an M that is not admitted, else 0.

@@ -12,18 +12,18 @@ use super::equaliser::Equaliser;
 pub fn all_zero(xs: &[i16]) -> bool
     ensures { λ r. ⌜ r ≡ all isZero (now (xs .entry)) ⌝ }
 {
-    steps::fir::largest_bits(xs) == 0
+    steps::past::largest_bits(xs) == 0
 }
 
-// |A|·2^(B+S) < 2^(15+b) for each: it goes by the largest bit length.
+// |A|·2^(B+S) < 2^(DATA_UNIT + b) for each: it goes by the largest bit length.
 pub fn all_stored(xs: &[i16], s: u32, b: u8, bmax: u8) -> bool
     requires { ⌜ s ≤ scaleLimit ⌝ }
     ensures { λ r. ⌜ r ≡ all (isStored s b bmax) (now (xs .entry)) ⌝ }
 {
     let scale = (bmax as u32) + s;
-    let room = 15 + (b as u32);
+    let room = steps::limits::DATA_UNIT + (b as u32);
     if scale < room {
-        steps::fir::largest_bits(xs) <= room - scale
+        steps::past::largest_bits(xs) <= room - scale
     } else {
         all_zero(xs)
     }
@@ -65,7 +65,7 @@ fn sound_weights(e: Equaliser) -> bool
 {
     let weights = e.weights;
     let taps = (e.p as usize) + (e.q as usize);
-    steps::fir::all_small(&weights[0..taps]) & all_zero(&weights[taps..])
+    steps::weights::all_small(&weights[0..taps]) & steps::weights::all_zero(&weights[taps..])
 }
 
 fn sound_past(e: Equaliser) -> bool

@@ -9,7 +9,7 @@ use native.Mathlib.Numerals.{add-one}
 use lib.Dec.{ltb}
 use lib.IntN.{ℤ, pos, natAbs}
 use lib.Bits.{bitOr, and-le-l, and-le-r, or-lt, or-add-and, or-zero-r}
-use lib.ListN.{length, getD, take, List·getD-map}
+use lib.ListN.{length, getD, take, length-map, List·getD-map}
 use lib.Seq.{take-all}
 use borrow.Author.Tests.{lt-ltb, le-ltb, ltb-true, ltb-false}
 use Rattle.laws.specs.Machine.{or-assoc}
@@ -118,6 +118,19 @@ or-all-next ns i m n e f = ap₂ bitOr e f ∙ or-all-take ns i ∙ ap (λ (j : 
 -- all of them
 pub or-all-all : (ns : List ℕ) (i m : ℕ) → length ns ≤ i → m ≡ orAll (take i ns) → m ≡ orAll ns
 or-all-all ns i m h e = e ∙ ap orAll (take-all i ns h)
+
+-- the bits of the first i magnitudes together
+abbrev pub Seen : List ℤ → ℕ → ℕ → Type 0
+Seen l i seen = seen ≡ orAll (take i (magnitudes l))
+
+pub seen-none : (l : List ℤ) → Seen l 0 0
+seen-none l = sym or-all-none
+
+pub seen-next : (l : List ℤ) (i seen n : ℕ) → Seen l i seen → n ≡ natAbs (getD l i (pos 0)) → Seen l (i + 1) (bitOr seen n)
+seen-next l i seen n e f = or-all-next (magnitudes l) i seen n e (f ∙ sym (List·getD-map natAbs l i (pos 0)))
+
+pub seen-all : (l : List ℤ) (i seen : ℕ) → Seen l i seen → length l ≤ i → seen ≡ orAll (magnitudes l)
+seen-all l i seen e h = or-all-all (magnitudes l) i seen (rw length-map h) e
 
 -- ---- below a limit
 

@@ -9,11 +9,12 @@ use Rattle.laws.specs.Integers.{abs-neg}
 use Rattle.laws.specs.Negated.{negated, *ℤ-neg, map-odd, map-even, all-even, negated-take}
 use Rattle.numbers.specs.Cut.{cut, raise}
 use Rattle.numbers.proofs.CutLaws.{cut-neg, raise-neg}
+use Rattle.steps.specs.Limits.{updateShift}
 use Rattle.steps.specs.Fir.{adapted, adapt, isBelow, allBelow, halved, doubled, push, magnitudes}
 
 -- step 6
 adapted-neg : (K w a : ℤ) → adapted K (negℤ w) (negℤ a) ≡ negℤ (adapted K w a)
-adapted-neg K w a = ap (λ (x : ℤ). negℤ w +ℤ x) (ap (λ (x : ℤ). cut x 30) (*ℤ-neg K a) ∙ cut-neg (K *ℤ a) 30) ∙ sym (negℤ-+ℤ w (cut (K *ℤ a) 30))
+adapted-neg K w a = ap (λ (x : ℤ). negℤ w +ℤ x) (ap (λ (x : ℤ). cut x updateShift) (*ℤ-neg K a) ∙ cut-neg (K *ℤ a) updateShift) ∙ sym (negℤ-+ℤ w (cut (K *ℤ a) updateShift))
 
 pub adapt-neg : (K : ℤ) (w a : List ℤ) → adapt K (negated w) (negated a) ≡ negated (adapt K w a)
 unfolding adapt

@@ -8,6 +8,7 @@ use borrow.Author.Tests.{lt-ltb, le-ltb}
 use lib.IntN.{ℤ, _+ℤ_, _-ℤ_, +ℤ-comm}
 use Rattle.numbers.specs.Cut.{cut, raise}
 use Rattle.numbers.proofs.CutLaws.{cut-none, rescale-up}
+use Rattle.steps.specs.Limits.{dataUnit, outputUnit, receivedUnit, mantissaUnit}
 use Rattle.steps.specs.Output.{output, outputExponent}
 use Rattle.steps.specs.Error.{error, errorExponent}
 
@@ -16,31 +17,31 @@ cut-nothing : (z : ℤ) (a b : ℕ) → a ≤ b → cut z (a - b) ≡ z
 cut-nothing z a b h = ap (cut z) (omega arith) ∙ cut-none z
 
 -- Y: both sums are cut, one of them by no bits
-pub output-form : (F H : ℤ) (Γ ν : ℕ) → output F H Γ ν ≡ cut F (ν + 30 - Γ) +ℤ cut H (Γ - (ν + 30))
+pub output-form : (F H : ℤ) (Γ ν : ℕ) → output F H Γ ν ≡ cut F (ν + receivedUnit - Γ) +ℤ cut H (Γ - (ν + receivedUnit))
 unfolding output
-output-form F H Γ ν = go (decLt (ν + 30) Γ)
+output-form F H Γ ν = go (decLt (ν + receivedUnit) Γ)
   where
-    go : Dec (ν + 30 < Γ) → output F H Γ ν ≡ cut F (ν + 30 - Γ) +ℤ cut H (Γ - (ν + 30))
-    go (yes h) = simp (lt-ltb (ν + 30) Γ h) (ap (λ (x : ℤ). x +ℤ cut H (Γ - (ν + 30))) (sym (cut-nothing F (ν + 30) Γ (le-of-lt h))))
-    go (no h) = simp (le-ltb (ν + 30) Γ (omega arith)) (
-        +ℤ-comm H (cut F (ν + 30 - Γ)) ∙ ap (λ (x : ℤ). cut F (ν + 30 - Γ) +ℤ x) (sym (cut-nothing H Γ (ν + 30) (omega arith))))
+    go : Dec (ν + receivedUnit < Γ) → output F H Γ ν ≡ cut F (ν + receivedUnit - Γ) +ℤ cut H (Γ - (ν + receivedUnit))
+    go (yes h) = simp (lt-ltb (ν + receivedUnit) Γ h) (ap (λ (x : ℤ). x +ℤ cut H (Γ - (ν + receivedUnit))) (sym (cut-nothing F (ν + receivedUnit) Γ (le-of-lt h))))
+    go (no h) = simp (le-ltb (ν + receivedUnit) Γ (omega arith)) (
+        +ℤ-comm H (cut F (ν + receivedUnit - Γ)) ∙ ap (λ (x : ℤ). cut F (ν + receivedUnit - Γ) +ℤ x) (sym (cut-nothing H Γ (ν + receivedUnit) (omega arith))))
 
 -- Y from the sum of weights times symbols, which loses nothing
-pub output-raised : (F h : ℤ) (Γ ν : ℕ) → Γ ≤ 45 → ν ≤ 15 → output F (raise h (15 - ν)) Γ ν ≡ cut F (max Γ (ν + 30) - Γ) +ℤ raise h (45 - max Γ (ν + 30))
+pub output-raised : (F h : ℤ) (Γ ν : ℕ) → Γ ≤ mantissaUnit → ν ≤ dataUnit → output F (raise h (dataUnit - ν)) Γ ν ≡ cut F (max Γ (ν + receivedUnit) - Γ) +ℤ raise h (mantissaUnit - max Γ (ν + receivedUnit))
 output-raised F h Γ ν l m =
-    output-form F (raise h (15 - ν)) Γ ν
+    output-form F (raise h (dataUnit - ν)) Γ ν
     ∙ ap₂ (λ (x y : ℤ). x +ℤ y)
-    (ap (cut F) (omega (arith, sub-add-eq-max Γ (ν + 30))))
-    (rescale-up h (15 - ν) (Γ - (ν + 30)) (45 - max Γ (ν + 30)) (omega (arith, sub-add-eq-max Γ (ν + 30))))
+    (ap (cut F) (omega (arith, sub-add-eq-max Γ (ν + receivedUnit))))
+    (rescale-up h (dataUnit - ν) (Γ - (ν + receivedUnit)) (mantissaUnit - max Γ (ν + receivedUnit)) (omega (arith, sub-add-eq-max Γ (ν + receivedUnit))))
 
 -- ξ
-pub output-exponent-form : (ψ Γ ν : ℕ) → outputExponent ψ Γ ν + 30 ≡ ψ + max Γ (ν + 30)
+pub output-exponent-form : (ψ Γ ν : ℕ) → outputExponent ψ Γ ν + receivedUnit ≡ ψ + max Γ (ν + receivedUnit)
 unfolding outputExponent
-output-exponent-form ψ Γ ν = go (decLt (ν + 30) Γ)
+output-exponent-form ψ Γ ν = go (decLt (ν + receivedUnit) Γ)
   where
-    go : Dec (ν + 30 < Γ) → outputExponent ψ Γ ν + 30 ≡ ψ + max Γ (ν + 30)
-    go (yes h) = simp (lt-ltb (ν + 30) Γ h) (omega (arith, sub-add-eq-max Γ (ν + 30)))
-    go (no h) = simp (le-ltb (ν + 30) Γ (omega arith)) (omega (arith, sub-add-eq-max Γ (ν + 30)))
+    go : Dec (ν + receivedUnit < Γ) → outputExponent ψ Γ ν + receivedUnit ≡ ψ + max Γ (ν + receivedUnit)
+    go (yes h) = simp (lt-ltb (ν + receivedUnit) Γ h) (omega (arith, sub-add-eq-max Γ (ν + receivedUnit)))
+    go (no h) = simp (le-ltb (ν + receivedUnit) Γ (omega arith)) (omega (arith, sub-add-eq-max Γ (ν + receivedUnit)))
 
 -- θ
 pub error-exponent-form : (ξ κ : ℕ) → errorExponent ξ κ ≡ max κ ξ
@@ -52,10 +53,10 @@ error-exponent-form ξ κ = go (decLt ξ κ)
     go (no h) = simp (le-ltb ξ κ (omega arith)) (sym (max-eq-right (omega arith)))
 
 -- Z
-pub error-form : (v Y : ℤ) (ξ κ : ℕ) → error v Y ξ κ ≡ raise v (30 - errorExponent ξ κ) -ℤ cut Y (errorExponent ξ κ - ξ)
+pub error-form : (v Y : ℤ) (ξ κ : ℕ) → error v Y ξ κ ≡ raise v (outputUnit - errorExponent ξ κ) -ℤ cut Y (errorExponent ξ κ - ξ)
 unfolding error errorExponent
 error-form v Y ξ κ = go (decLt ξ κ)
   where
-    go : Dec (ξ < κ) → error v Y ξ κ ≡ raise v (30 - errorExponent ξ κ) -ℤ cut Y (errorExponent ξ κ - ξ)
+    go : Dec (ξ < κ) → error v Y ξ κ ≡ raise v (outputUnit - errorExponent ξ κ) -ℤ cut Y (errorExponent ξ κ - ξ)
     go (yes h) = simp (lt-ltb ξ κ h)
-    go (no h) = simp (le-ltb ξ κ (omega arith)) (ap (λ (x : ℤ). raise v (30 - ξ) -ℤ x) (sym (cut-nothing Y ξ ξ (omega arith))))
+    go (no h) = simp (le-ltb ξ κ (omega arith)) (ap (λ (x : ℤ). raise v (outputUnit - ξ) -ℤ x) (sym (cut-nothing Y ξ ξ (omega arith))))

@@ -12,6 +12,7 @@ use Rattle.laws.specs.Integers.{abs-neg}
 use Rattle.laws.specs.Lists.{and-right}
 use Rattle.laws.specs.Machine.{lt-refuted}
 use Rattle.laws.specs.Powers.{split, positive}
+use Rattle.steps.specs.Limits.{outputUnit}
 use Rattle.steps.specs.Settings.{isSymbol, isEntry}
 use Rattle.steps.specs.Decision.{floor, clip, topSymbol, decide}
 use Rattle.steps.proofs.DecisionLaws.{between-ends}
@@ -56,7 +57,7 @@ clip-symbol r d o = high (ltZ (topSymbol r) d) refl
 
 pub decide-symbol : (r : ℕ) (Y : ℤ) (ξ : ℕ) → isSymbol r (decide r Y ξ) ≡ true
 unfolding decide
-decide-symbol r Y ξ = clip-symbol r (pos 2 *ℤ floor Y (31 - ξ) +ℤ pos 1) (odd (floor Y (31 - ξ)))
+decide-symbol r Y ξ = clip-symbol r (pos 2 *ℤ floor Y (outputUnit + 1 - ξ) +ℤ pos 1) (odd (floor Y (outputUnit + 1 - ξ)))
 
 pub symbol-entry : (r : ℕ) (v : ℤ) → isSymbol r v ≡ true → isEntry r v ≡ true
 symbol-entry r v e = go (eqb (natAbs v) 0)

@@ -4,10 +4,11 @@ use Prim.Native.Nat.{ℕ, _-_}
 use lib.Dec.{ltb}
 use lib.IntN.{ℤ, _-ℤ_}
 use Rattle.numbers.specs.Cut.{cut, raise}
+use Rattle.steps.specs.Limits.{outputUnit}
 
 -- Z
 unfoldable pub error : ℤ → ℤ → ℕ → ℕ → ℤ
-error v Y ξ κ = cond (ltb ξ κ) (raise v (30 - κ) -ℤ cut Y (κ - ξ)) (raise v (30 - ξ) -ℤ Y)
+error v Y ξ κ = cond (ltb ξ κ) (raise v (outputUnit - κ) -ℤ cut Y (κ - ξ)) (raise v (outputUnit - ξ) -ℤ Y)
 
 -- θ
 unfoldable pub errorExponent : ℕ → ℕ → ℕ

@@ -9,9 +9,9 @@ use Rattle.laws.specs.Lists.{all}
 use Rattle.laws.specs.Sums.{dot}
 use Rattle.numbers.specs.BitLength.{bitLength}
 use Rattle.numbers.specs.Cut.{cut, raise}
-use Rattle.steps.specs.Limits.{halvingLimit}
+use Rattle.steps.specs.Limits.{stepUnit, receivedUnit, updateShift, halvingLimit}
 
--- weights, data mantissas, the scale count S or S′, and the exponent. A weight W means W·2^(ψ−15), a mantissa a means a·2^(exponent − 45)
+-- weights, data mantissas, the scale count S or S′, and the exponent: a mantissa a means a·2^(exponent − mantissaUnit)
 pub record Fir : Type 0 where
   pub weights : List ℤ
   pub mantissas : List ℤ
@@ -24,7 +24,7 @@ sum f = dot (f .weights) (f .mantissas)
 
 -- step 6: the shift by which M·Z is cut, from ψ and θ
 abbrev pub factorShift : ℕ → ℕ → Fir → ℕ
-factorShift ψ θ f = 60 + ψ + f .scale - (f .exponent + θ)
+factorShift ψ θ f = stepUnit + receivedUnit + ψ + f .scale - (f .exponent + θ)
 
 -- step 6: J
 abbrev pub factor : ℕ → ℤ → ℕ → ℕ → Fir → ℤ
@@ -32,7 +32,7 @@ factor M Z ψ θ f = cut (pos M *ℤ Z) (factorShift ψ θ f)
 
 -- step 6: a weight and what it gains, where K is J·2^s
 abbrev pub adapted : ℤ → ℤ → ℤ → ℤ
-adapted K w a = w +ℤ cut (K *ℤ a) 30
+adapted K w a = w +ℤ cut (K *ℤ a) updateShift
 
 unfoldable pub adapt : ℤ → List ℤ → List ℤ → List ℤ
 adapt K [] a = []
@@ -43,7 +43,7 @@ adapt K (w ∷ ws) (a ∷ b) = adapted K w a ∷ adapt K ws b
 abbrev pub newWeights : ℤ → Fir → List ℤ
 newWeights J f = adapt (raise J (f .scale)) (f .weights) (f .mantissas)
 
--- a weight as it is stored: |W| ≤ 16383
+-- a weight as it is stored
 abbrev pub Small : ℤ → Type 0
 Small w = natAbs w < halvingLimit
 

@@ -1,8 +1,8 @@
 // Step 4: the decision.
 ghost use mathlib.Core.Path.{_≡_};
-ghost use Prim.Native.Nat.{_-_, _^_, _<_, _≤_};
+ghost use Prim.Native.Nat.{_+_, _-_, _^_, _<_, _≤_};
 ghost use lib.IntN.{pos, natAbs, _+ℤ_, _*ℤ_};
-ghost use Rattle.steps.specs.Limits.{symbolLimit};
+ghost use Rattle.steps.specs.Limits.{outputUnit, symbolLimit};
 ghost use Rattle.steps.specs.Decision.{floor, clip, topSymbol, decide};
 
 // The greatest symbol.
@@ -13,12 +13,12 @@ fn top_symbol(r: u32) -> i32
     numbers::cut::ones32(r + 1)
 }
 
-// The odd number nearest to y·2^(ξ−30).
+// The odd number nearest to y·2^(ξ − OUTPUT_UNIT).
 fn nearest(y: i32, xi: u32) -> i32
-    requires { ⌜ (1 ≤ xi) × (xi ≤ 31) × (natAbs y < 2 ^ 29) ⌝ }
-    ensures { λ d. ⌜ d ≡ pos 2 *ℤ floor y (31 - xi) +ℤ pos 1 ⌝ }
+    requires { ⌜ (1 ≤ xi) × (xi ≤ outputUnit + 1) × (natAbs y < 2 ^ (outputUnit - 1)) ⌝ }
+    ensures { λ d. ⌜ d ≡ pos 2 *ℤ floor y (outputUnit + 1 - xi) +ℤ pos 1 ⌝ }
 {
-    2 * (y >> (31 - xi)) + 1
+    2 * (y >> (super::limits::OUTPUT_UNIT + 1 - xi)) + 1
 }
 
 // Brought to the nearest end, if beyond it.
@@ -37,7 +37,7 @@ fn clip(top: i32, d: i32) -> i16
 }
 
 pub fn decide(y: i32, xi: u32, r: u32) -> i16
-    requires { ⌜ (1 ≤ xi) × (xi ≤ 31) × (r ≤ symbolLimit) × (natAbs y < 2 ^ 29) ⌝ }
+    requires { ⌜ (1 ≤ xi) × (xi ≤ outputUnit + 1) × (r ≤ symbolLimit) × (natAbs y < 2 ^ (outputUnit - 1)) ⌝ }
     ensures { λ d. ⌜ d ≡ decide r y xi ⌝ }
 {
     clip(top_symbol(r), nearest(y, xi))

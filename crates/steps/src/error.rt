@@ -1,9 +1,10 @@
 // Step 5: the error.
 ghost use mathlib.Core.Path.{_≡_};
-ghost use Prim.Native.Nat.{_+_, _*_, _^_, _<_, _≤_};
+ghost use Prim.Native.Nat.{_+_, _*_, _-_, _^_, _<_, _≤_};
 ghost use lib.IntN.{natAbs, _-ℤ_};
 ghost use Rattle.numbers.specs.BitLength.{bitLength};
 ghost use Rattle.numbers.specs.Cut.{cut, raise};
+ghost use Rattle.steps.specs.Limits.{outputUnit};
 ghost use Rattle.steps.specs.Error.{error, errorExponent};
 ghost use Rattle.steps.specs.Sound.{DifferenceBounds, ErrorBounds};
 
@@ -14,7 +15,7 @@ pub struct ScaledError {
 
 // The symbol and the output, at one exponent.
 fn difference(v: i16, y: i32, up: u32, down: u32) -> i32
-    requires { ⌜ (natAbs y < 2 ^ 29) × (up ≤ 30) × (down ≤ 30) × (natAbs v * 2 ^ up ≤ 2 ^ 29) ⌝ }
+    requires { ⌜ (natAbs y < 2 ^ (outputUnit - 1)) × (up ≤ outputUnit) × (down ≤ outputUnit) × (natAbs v * 2 ^ up ≤ 2 ^ (outputUnit - 1)) ⌝ }
     ensures { λ r. ⌜ r ≡ raise v up -ℤ cut y down ⌝ }
 {
     numbers::cut::raise32(v as i32, up) - numbers::cut::cut32(y, down)
@@ -27,7 +28,7 @@ fn compared(v: i16, y: i32, xi: u32, kappa: u32) -> ScaledError
 {
     let theta = super::exponent::larger(kappa, xi);
     ScaledError {
-        z: difference(v, y, 30 - theta, theta - xi),
+        z: difference(v, y, super::limits::OUTPUT_UNIT - theta, theta - xi),
         theta: theta,
     }
 }
@@ -39,7 +40,7 @@ pub fn error(r: u32, sb: u32, v: i16, y: i32, xi: u32) -> ScaledError
 {
     if sb + r + 1 <= xi {
         ScaledError {
-            z: difference(v, y, 30 - xi, 0),
+            z: difference(v, y, super::limits::OUTPUT_UNIT - xi, 0),
             theta: xi,
         }
     } else {

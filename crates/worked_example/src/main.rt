@@ -1,10 +1,10 @@
 // Sets a station up, runs two blocks and writes the image of the state in hexadecimal.
 ghost use Prim.Native.Nat.{_<_};
 use libc::STDOUT_FILENO;
+use one_sample::IMAGE;
+use one_sample::run_sample;
 use state::equaliser::Equaliser;
 use steps::settings::Settings;
-use vectors::sample::IMAGE;
-use vectors::sample::run_sample;
 
 const LAST: usize = IMAGE - 1;
 

@@ -1,4 +1,4 @@
--- The sample, widened, times a power of two of at most 2^15.
+-- The sample, widened, times a power of two of at most 2^gainLimit.
 use mathlib.Core.Path.{_∙_}
 use native.Mathlib.Omega.{arith}
 use lib.IntN.{natAbs}

@@ -1,17 +1,17 @@
 -- Halved where the bits of all weights reach the halving limit; else kept, or doubled where ψ can fall and they are below the doubling limit.
 use mathlib.Core.Path.{_≡_, refl, sym, ap, _∙_}
 use mathlib.Core.Bool.{true, _&&_}
-use Prim.Native.Nat.{ℕ, _^_, _<_}
+use Prim.Native.Nat.{ℕ, _-_, _^_, _<_}
 use native.Mathlib.Numerals.{add-one}
 use native.Mathlib.Omega.{arith}
 use lib.Dec.{ltb}
 use borrow.Author.Needs.{needs}
 use borrow.Author.Tests.{lt-ltb, le-ltb}
-use Rattle.steps.specs.Limits.{halvingLimit, doublingLimit}
+use Rattle.steps.specs.Limits.{weightUnit, halvingLimit, doublingLimit}
 use Rattle.steps.specs.Fir.{allBelow, allSmall, magnitudes}
 use Rattle.steps.specs.Sound.{orAll}
 use Rattle.steps.proofs.LargestLaws.{or-left, or-right, both-below}
-use Rattle.steps.proofs.FirLaws.{halvable, halved-is, doublable, doubled-is}
+use Rattle.steps.proofs.FirLaws.{doublable}
 use Rattle.filter.specs.Sample.{keep, halve, double}
 use Rattle.filter.proofs.OutcomeLaws.{can-fall}
 use Rattle.filter.proofs.SampleLaws.{normalised-as, halves, keeps-lowest, keeps, doubles}
@@ -31,24 +31,18 @@ short k c h =
 
 -- ---- halved
 
-rescale-both-requires : tie.Need-rescale-both-requires
-rescale-both-requires c κs =
-    let s = c .before .before .before in
-    let b = short 16 s (omega (arith, s .fits .seen .fits)) in
-    (halvable (s .args .forward .now) (b .0), halvable (s .args .back .now) (b .1))
-
 returns : tie.Need-returns
 returns c =
     let r = c .before .before in
     let d = r .before .before .before in
     let s = d .before in
-    normalised-as halve (halves _ _ _ (sym (tested 14 s) ∙ le-ltb (s .args .seen) halvingLimit (omega (arith, d .if1 .taken)))) (add-one (s .args .psi))
-    (r .rescale-both .ensures .0 ∙ halved-is (s .args .forward .now)) (r .rescale-both .ensures .1 ∙ halved-is (s .args .back .now))
+    normalised-as halve (halves _ _ _ (sym (tested (weightUnit - 1) s) ∙ le-ltb (s .args .seen) halvingLimit (omega (arith, d .if1 .taken)))) (add-one (s .args .psi))
+    (r .halve-both .ensures .0) (r .halve-both .ensures .1)
 
 -- ---- kept
 
 small : (c : tie.Else1) → (allSmall (c .before .args .forward .now) && allSmall (c .before .args .back .now)) ≡ true
-small c = sym (tested 14 (c .before)) ∙ lt-ltb (c .before .args .seen) halvingLimit (omega (arith, c .if1 .left))
+small c = sym (tested (weightUnit - 1) (c .before)) ∙ lt-ltb (c .before .args .seen) halvingLimit (omega (arith, c .if1 .left))
 
 returns-2 : tie.Need-returns-2
 returns-2 c = normalised-as keep (keeps-lowest _ _ _ (small (c .before)) (c .if2 .taken)) refl refl refl
@@ -57,18 +51,18 @@ returns-3 : tie.Need-returns-3
 returns-3 c =
     let d = c .before .before in
     let s = d .before in
-    normalised-as keep (keeps _ _ _ (small d) (sym (tested 12 s) ∙ le-ltb (s .args .seen) doublingLimit (omega (arith, c .if3 .taken)))) refl refl refl
+    normalised-as keep (keeps _ _ _ (small d) (sym (tested (weightUnit - 3) s) ∙ le-ltb (s .args .seen) doublingLimit (omega (arith, c .if3 .taken)))) refl refl refl
 
 -- ---- doubled
 
 below : (c : tie.Else3) → c .before .before .before .args .seen < doublingLimit
 below c = omega (arith, c .if3 .left)
 
-rescale-both-requires-2 : tie.Need-rescale-both-requires-2
-rescale-both-requires-2 c κs =
+double-both-requires : tie.Need-double-both-requires
+double-both-requires c κs =
     let d = c .before .before in
     let s = d .before .before .before in
-    let b = short 12 s (below d) in
+    let b = short (weightUnit - 3) s (below d) in
     (doublable (s .args .forward .now) (b .0), doublable (s .args .back .now) (b .1))
 
 sub-result : tie.Need-sub-result
@@ -81,12 +75,12 @@ returns-4 c =
     let e = d .before in
     let s = e .before .before in
     normalised-as double
-    (doubles _ _ _ (small (e .before)) (can-fall (s .args .psi) (omega (arith, e .if2 .left))) (sym (tested 12 s) ∙ lt-ltb (s .args .seen) doublingLimit (below d))) refl
-    (r .rescale-both2 .ensures .0 ∙ doubled-is (s .args .forward .now)) (r .rescale-both2 .ensures .1 ∙ doubled-is (s .args .back .now))
+    (doubles _ _ _ (small (e .before)) (can-fall (s .args .psi) (omega (arith, e .if2 .left))) (sym (tested (weightUnit - 3) s) ∙ lt-ltb (s .args .seen) doublingLimit (below d))) refl
+    (r .double-both .ensures .0) (r .double-both .ensures .1)
 
 pub normalise-spec : {M : Type 1} → statement M
 normalise-spec =
     tie.close
     (tie.spec
-    rescale-both-requires (λ c. search needs) (λ c. search needs) (λ c. search needs) returns returns-2
-    returns-3 rescale-both-requires-2 sub-result (λ c. search needs) (λ c. search needs) returns-4)
+    (λ c κs. search needs) (λ c. search needs) (λ c. search needs) (λ c. search needs) returns returns-2
+    returns-3 double-both-requires sub-result (λ c. search needs) (λ c. search needs) returns-4)

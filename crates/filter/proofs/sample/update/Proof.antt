@@ -1,4 +1,4 @@
--- J is within 32 bits, and what it is raised by is what is left of 15 bits.
+-- J is within 32 bits, and what it is raised by is what is left of dataUnit bits.
 use mathlib.Core.Path.{_≡_, ap₂, _∙_}
 use Prim.Native.Nat.{ℕ, _+_, _-_, _≤_}
 use native.Mathlib.Omega.{arith}
@@ -9,6 +9,7 @@ use mir.Facts.{toZ-ofZ}
 use borrow.Author.Needs.{needs}
 use Rattle.laws.specs.Machine.{kept, fits-abs}
 use Rattle.numbers.specs.Cut.{raise}
+use Rattle.steps.specs.Limits.{dataUnit}
 use Rattle.steps.specs.Fir.{adapt}
 use Rattle.filter.specs.Calls.{factorOf}
 use Rattle.filter.proofs.sample.update.Statement.{statement}
@@ -32,7 +33,7 @@ passed c = simp (factored c) (toZ-ofZ (narrow (c .before)))
 adapt-requires : tie.Need-adapt-requires
 adapt-requires c κs = rw (passed (c .before)) (c .before .before .pre .adaptable)
 
-left : (n : ℕ) → n ≤ 15 → 15 - (15 - n) ≡ n
+left : (n : ℕ) → n ≤ dataUnit → dataUnit - (dataUnit - n) ≡ n
 left n h = omega arith
 
 returns : tie.Need-returns
@@ -47,5 +48,5 @@ pub update-spec : {M : Type 1} → statement M
 update-spec =
     tie.close
     (tie.spec
-    (λ c. search needs) (λ c. search needs) (λ c. search needs) (λ c. search needs) (λ c κs. search needs)
-    cast-adapt (λ c. search needs) (λ c. search needs) adapt-requires (λ c. search needs) returns)
+    (λ c. search needs) (λ c. search needs) (λ c. search needs) (λ c. search needs) (λ c. search needs)
+    (λ c κs. search needs) cast-adapt (λ c. search needs) (λ c. search needs) adapt-requires (λ c. search needs) returns)

@@ -5,6 +5,7 @@ use native.Mathlib.Omega.{arith}
 use mir.Syntax.{w64}
 use borrow.Author.Needs.{needs}
 use Rattle.laws.specs.Machine.{one-shifted}
+use Rattle.steps.specs.Limits.{stepUnit}
 use Rattle.state.proofs.SizesLaws.{terms-most, bound-most, product-most}
 use Rattle.state.proofs.sizes.admits.Statement.{statement}
 use Rattle.state.proofs.sizes.admits.Tie as tie
@@ -19,8 +20,8 @@ two c = one-shifted w64 (2 * c .args .k .r + 2) (omega (arith, c .pre))
 three : (c : tie.Start) → 1 * 2 ^ (2 * c .args .k .r + 2 + c .args .k .L) % 2 ^ 64 ≡ 2 ^ (2 * c .args .k .r + 2 + c .args .k .L)
 three c = one-shifted w64 (2 * c .args .k .r + 2 + c .args .k .L) (omega (arith, c .pre))
 
-four : (c : tie.Start) → 1 * 2 ^ (30 + c .args .k .L) % 2 ^ 64 ≡ 2 ^ (30 + c .args .k .L)
-four c = one-shifted w64 (30 + c .args .k .L) (omega (arith, c .pre))
+four : (c : tie.Start) → 1 * 2 ^ (stepUnit + c .args .k .L) % 2 ^ 64 ≡ 2 ^ (stepUnit + c .args .k .L)
+four c = one-shifted w64 (stepUnit + c .args .k .L) (omega (arith, c .pre))
 
 mul-d : tie.Need-mul-d
 mul-d d = let c = d .before .before .before in simp (two c) (record { fits = omega (arith, terms-most (c .args .k) (c .pre)) })
@@ -49,4 +50,4 @@ admits-spec =
     (λ c. search needs) (λ c. search needs) (λ c. search needs) (λ c. search needs) (λ c. search needs)
     (λ c. search needs) (λ c. search needs) (λ c. search needs) (λ c. search needs) mul-d add-d-4
     (λ c. search needs) (λ c. search needs) (λ c. search needs) (λ c. search needs) mul-d-2 add-d-7
-    (λ c. search needs) mul-result (λ c. search needs) (λ c. search needs) returns)
+    (λ c. search needs) mul-result (λ c. search needs) (λ c. search needs) (λ c. search needs) returns)

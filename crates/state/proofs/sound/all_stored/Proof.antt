@@ -1,9 +1,10 @@
--- Where B + S is no less than 15 + b, only zeros are stored samples.
+-- Where B + S is no less than dataUnit + b, only zeros are stored samples.
 use mathlib.Core.Path.{ap, _∙_}
 use Prim.Native.Nat.{ℕ, _+_, _-_}
 use native.Mathlib.Omega.{arith}
 use lib.Dec.{leb}
 use borrow.Author.Needs.{needs}
+use Rattle.steps.specs.Limits.{dataUnit}
 use Rattle.state.proofs.ElementTests.{stored-largest-bits, stored-zero}
 use Rattle.state.proofs.sound.all_stored.Statement.{statement}
 use Rattle.state.proofs.sound.all_stored.Tie as tie
@@ -11,7 +12,7 @@ use Rattle.state.proofs.sound.all_stored.Tie as tie
 returns : tie.Need-returns
 returns c =
     let a = c .before .before .args in
-    ap (λ (n : ℕ). leb n (15 + a .b - (a .bmax + a .s))) (c .largest-bits .ensures)
+    ap (λ (n : ℕ). leb n (dataUnit + a .b - (a .bmax + a .s))) (c .largest-bits .ensures)
     ∙ stored-largest-bits (a .s) (a .b) (a .bmax) (a .xs .now) (omega arith)
 
 returns-2 : tie.Need-returns-2

@@ -2,13 +2,13 @@
 use mathlib.Core.Path.{_≡_, ap, ap₂, _∙_}
 use mathlib.Core.Bool.{Bool, _&&_}
 use native.Mathlib.Omega.{arith}
-use lib.ListN.{length}
+use lib.ListN.{length, drop}
 use borrow.Author.Needs.{needs}
-use Rattle.laws.specs.Lists.{all}
 use Rattle.laws.specs.Tests.{front-is, rest-is}
 use Rattle.steps.specs.Limits.{slots}
-use Rattle.steps.specs.Fir.{allSmall}
-use Rattle.state.specs.State.{taps, isZero}
+use Rattle.steps.specs.Fir.{allBelow, allSmall}
+use Rattle.state.specs.State.{taps}
+use Rattle.state.proofs.ElementTests.{below-one}
 use Rattle.state.proofs.sound.sound_weights.Statement.{statement}
 use Rattle.state.proofs.sound.sound_weights.Tie as tie
 
@@ -27,7 +27,7 @@ returns c =
     let t = a .before .before .before .before .before .before in
     let e = t .args .e in
     ap₂ (λ (a b : Bool). a && b) (a .all-small .ensures ∙ ap allSmall (front-is (taps e) (e .weights)))
-    (c .all-zero .ensures ∙ ap (all isZero) (rest-is (taps e) slots (e .weights) (long t)))
+    (c .all-zero .ensures ∙ ap (allBelow 1) (rest-is (taps e) slots (e .weights) (long t)) ∙ below-one (drop (taps e) (e .weights)))
 
 pub sound-weights-spec : {M : Type 1} → statement M
 sound-weights-spec =

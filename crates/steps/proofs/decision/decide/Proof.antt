@@ -1,6 +1,6 @@
 -- The three parts of the definition, each by its own contract.
 use mathlib.Core.Path.{_≡_, ap₂, _∙_}
-use Prim.Native.Nat.{_-_}
+use Prim.Native.Nat.{_+_, _-_}
 use native.Mathlib.Omega.{arith}
 use lib.IntN.{ℤ, pos, _+ℤ_, _*ℤ_}
 use mir.Syntax.{w16, w32}
@@ -8,6 +8,7 @@ use mir.Val.{toZ, ofZ}
 use mir.Facts.{toZ-ofZ}
 use borrow.Author.Needs.{needs}
 use Rattle.laws.specs.Machine.{kept}
+use Rattle.steps.specs.Limits.{outputUnit}
 use Rattle.steps.specs.Decision.{floor, clip, topSymbol, decide}
 use Rattle.steps.proofs.DecisionLaws.{symbol-most}
 use Rattle.steps.proofs.decision.decide.Statement.{statement}
@@ -22,7 +23,7 @@ nearest-requires c κs = simp (toZ-ofZ (c .before .fits .y)) (omega (arith, c .b
 top : (c : tie.After-top-symbol) → toZ w32 (ofZ w32 (c .top-symbol .result)) ≡ topSymbol (c .before .args .r)
 top c = kept w32 (c .top-symbol .result) (c .top-symbol .ok) ∙ c .top-symbol .ensures
 
-odd : (c : tie.After-nearest) → toZ w32 (ofZ w32 (c .nearest .result)) ≡ pos 2 *ℤ floor (c .before .before .args .y) (31 - c .before .before .args .xi) +ℤ pos 1
+odd : (c : tie.After-nearest) → toZ w32 (ofZ w32 (c .nearest .result)) ≡ pos 2 *ℤ floor (c .before .before .args .y) (outputUnit + 1 - c .before .before .args .xi) +ℤ pos 1
 odd c = kept w32 (c .nearest .result) (c .nearest .ok) ∙ c .nearest .ensures ∙ simp (toZ-ofZ (c .before .before .fits .y))
 
 clip-requires : tie.Need-clip-requires

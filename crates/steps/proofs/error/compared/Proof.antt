@@ -9,6 +9,7 @@ use mir.Facts.{toZ-ofZ}
 use borrow.Author.Needs.{needs}
 use Rattle.laws.specs.Machine.{kept}
 use Rattle.numbers.specs.Cut.{cut, raise}
+use Rattle.steps.specs.Limits.{outputUnit}
 use Rattle.steps.specs.Error.{error, errorExponent}
 use Rattle.steps.proofs.OutputLaws.{error-form, error-exponent-form}
 use Rattle.steps.proofs.error.compared.Statement.{statement}
@@ -20,7 +21,7 @@ larger-requires c κs = search needs
 theta : (c : tie.After-larger) → c .larger .result ≡ errorExponent (c .before .args .xi) (c .before .args .kappa)
 theta c = c .larger .ensures ∙ sym (error-exponent-form (c .before .args .xi) (c .before .args .kappa))
 
-between : (c : tie.After-larger) → (c .before .args .xi ≤ c .larger .result) × (c .larger .result ≤ 30)
+between : (c : tie.After-larger) → (c .before .args .xi ≤ c .larger .result) × (c .larger .result ≤ outputUnit)
 between c =
     let a = c .before .args in
     omega (arith, c .larger .ensures, le-max-right (a .kappa) (a .xi), max-le (c .before .pre .κ-most) (c .before .pre .ξ-most))
@@ -31,7 +32,7 @@ sub-difference c = between c .1
 sub-difference-2 : tie.Need-sub-difference-2
 sub-difference-2 c = between c .0
 
-room : (c : tie.After-larger) → natAbs (c .before .args .v) * 2 ^ (30 - c .larger .result) ≤ 2 ^ 29
+room : (c : tie.After-larger) → natAbs (c .before .args .v) * 2 ^ (outputUnit - c .larger .result) ≤ 2 ^ (outputUnit - 1)
 room c = rw (theta c) (c .before .pre .room)
 
 difference-requires : tie.Need-difference-requires
@@ -43,7 +44,7 @@ found : (c : tie.After-difference) → c .difference .result ≡ error (c .befor
 found c =
     let a = c .before .before .args in
     c .difference .ensures ∙ (simp (toZ-ofZ (c .before .before .fits .v), toZ-ofZ (c .before .before .fits .y)))
-    ∙ ap (λ (θ : ℕ). raise (a .v) (30 - θ) -ℤ cut (a .y) (θ - a .xi)) (theta (c .before)) ∙ sym (error-form (a .v) (a .y) (a .xi) (a .kappa))
+    ∙ ap (λ (θ : ℕ). raise (a .v) (outputUnit - θ) -ℤ cut (a .y) (θ - a .xi)) (theta (c .before)) ∙ sym (error-form (a .v) (a .y) (a .xi) (a .kappa))
 
 returns : tie.Need-returns
 returns c = (kept w32 (c .difference .result) (c .difference .ok) ∙ found c, theta (c .before))

@@ -1,4 +1,4 @@
--- Both parts are at most 2^29 in magnitude, so their difference fits 32 bits.
+-- Both parts are at most half of 2^outputUnit in magnitude, so their difference fits 32 bits.
 use mathlib.Core.Path.{_≡_, _∙_}
 use Prim.Native.Nat.{_+_, _^_, _<_}
 use native.Mathlib.Omega.{arith}

@@ -8,6 +8,7 @@ use mir.Facts.{toZ-ofZ, sfits-widen}
 use borrow.Author.Needs.{needs}
 use Rattle.laws.specs.Machine.{kept}
 use Rattle.numbers.specs.BitLength.{bitLength}
+use Rattle.steps.specs.Limits.{outputUnit}
 use Rattle.steps.proofs.ErrorLaws.{exponent-kept, error-kept, length-most, difference-bounds}
 use Rattle.steps.proofs.error.error.Statement.{statement}
 use Rattle.steps.proofs.error.error.Tie as tie
@@ -19,7 +20,7 @@ kappa s = s .args .sb + bitLength (natAbs (s .args .v))
 kappa-most : (c : tie.Then1) → kappa (c .before) ≤ c .before .args .xi
 kappa-most c = omega (arith, length-most (c .before .pre), c .if1 .taken)
 
-room : (c : tie.Then1) → natAbs (c .before .args .v) * 2 ^ (30 - c .before .args .xi) ≤ 2 ^ 29
+room : (c : tie.Then1) → natAbs (c .before .args .v) * 2 ^ (outputUnit - c .before .args .xi) ≤ 2 ^ (outputUnit - 1)
 room c = rw (← exponent-kept (c .before .args .xi) (kappa (c .before)) (kappa-most c)) (difference-bounds (c .before .pre) .room)
 
 difference-requires : tie.Need-difference-requires

@@ -1,4 +1,4 @@
--- Neither part grows beyond 2^28, so both together fit 32 bits.
+-- Neither part grows beyond a quarter of 2^outputUnit, so both together fit 32 bits.
 use mathlib.Core.Path.{_≡_, ap₂, _∙_}
 use Prim.Native.Nat.{_+_, _^_, _<_}
 use native.Mathlib.Omega.{arith}

@@ -9,20 +9,20 @@ use mir.Facts.{toZ-ofZ}
 use borrow.Author.Needs.{needs}
 use Rattle.laws.specs.Machine.{kept}
 use Rattle.laws.specs.Powers.{rises}
-use Rattle.steps.specs.Limits.{dataExponentLimit}
+use Rattle.steps.specs.Limits.{dataUnit, outputUnit, receivedUnit, mantissaUnit, dataExponentLimit}
 use Rattle.steps.proofs.OutputLaws.{output-raised, output-exponent-form}
 use Rattle.steps.proofs.output.output.Statement.{statement}
 use Rattle.steps.proofs.output.output.Tie as tie
 
-between : (c : tie.After-larger) → (c .before .args .gamma30 ≤ c .larger .result) × (c .before .args .nu + 30 ≤ c .larger .result) × (c .larger .result ≤ dataExponentLimit + 30)
+between : (c : tie.After-larger) → (c .before .args .gamma30 ≤ c .larger .result) × (c .before .args .nu + receivedUnit ≤ c .larger .result) × (c .larger .result ≤ dataExponentLimit + receivedUnit)
 between c =
     let a = c .before .args in
     omega (
       arith,
       c .larger .ensures,
-      le-max-left (a .gamma30) (a .nu + 30),
-      le-max-right (a .gamma30) (a .nu + 30),
-      max-le {a = a .gamma30} {b = a .nu + 30} {k = dataExponentLimit + 30} (c .before .pre .Γ-most) (omega (arith, c .before .pre .ν-most)),
+      le-max-left (a .gamma30) (a .nu + receivedUnit),
+      le-max-right (a .gamma30) (a .nu + receivedUnit),
+      max-le {a = a .gamma30} {b = a .nu + receivedUnit} {k = dataExponentLimit + receivedUnit} (c .before .pre .Γ-most) (omega (arith, c .before .pre .ν-most)),
     )
 
 sub-added : tie.Need-sub-added
@@ -31,12 +31,12 @@ sub-added c = omega (arith, between c)
 sub-added-2 : tie.Need-sub-added-2
 sub-added-2 c = omega (arith, between c)
 
-room : (c : tie.After-larger) → natAbs (c .before .args .h) * 2 ^ (45 - c .larger .result) < 2 ^ 28
+room : (c : tie.After-larger) → natAbs (c .before .args .h) * 2 ^ (mantissaUnit - c .larger .result) < 2 ^ (outputUnit - 2)
 room c =
     let a = c .before .args in
     omega (
       arith,
-      mul-le-mul-left (natAbs (a .h)) (rises {a = 45 - c .larger .result} {b = 15 - a .nu} (omega (arith, between c))),
+      mul-le-mul-left (natAbs (a .h)) (rises {a = mantissaUnit - c .larger .result} {b = dataUnit - a .nu} (omega (arith, between c))),
       c .before .pre .h-small,
     )
 
