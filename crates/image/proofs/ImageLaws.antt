@@ -15,25 +15,26 @@ use Rattle.words.proofs.ByteLaws.{bytes-length, words-long}
 use Rattle.steps.specs.Limits.{slots}
 use Rattle.state.specs.State.{settings, taps}
 use Rattle.state.specs.Answers.{examined}
-use Rattle.image.specs.Image.{header, imageHeaderLength, weightWord, datumWord, image, dataPlace, imageLength, saveNumber, Save}
+use Rattle.image.specs.Layout.{weightWord, datumWord, current, dataPlace}
+use Rattle.image.specs.Image.{header, image, imageLength, saveNumber, Save}
 use Rattle.state.specs.declared.equaliser.Equaliser.{Equaliser}
 use Rattle.state.proofs.SizesLaws.{fit-within}
 use Rattle.state.proofs.SoundLaws.{examined-tests}
 
 -- ---- the header
 
-pub header-length : (e : Equaliser) → length (header e) ≡ imageHeaderLength
+pub header-length : (e : Equaliser) → length (header e) ≡ current .header
 header-length e = omega (arith, bytes-length 4 (e .m))
 
 -- a place of the header while the bytes before it are stored
-pub header-room : (e : Equaliser) (out : List ℕ) (k : ℕ) → length out ≡ imageHeaderLength → k < imageHeaderLength → k < length (sets out 0 (take k (header e)))
+pub header-room : (e : Equaliser) (out : List ℕ) (k : ℕ) → length out ≡ current .header → k < current .header → k < length (sets out 0 (take k (header e)))
 header-room e out k h b = lt-length-sets out 0 (take k (header e)) (omega arith)
 
 -- and of M
-pub header-long : (e : Equaliser) (out : List ℕ) → length out ≡ imageHeaderLength → 8 + 4 ≤ length (sets out 0 (take 8 (header e)))
+pub header-long : (e : Equaliser) (out : List ℕ) → length out ≡ current .header → 8 + 4 ≤ length (sets out 0 (take 8 (header e)))
 header-long e out h = omega (arith, length-sets out 0 (take 8 (header e)))
 
-pub header-put : (e : Equaliser) (out : List ℕ) → length out ≡ imageHeaderLength → sets out 0 (header e) ≡ header e
+pub header-put : (e : Equaliser) (out : List ℕ) → length out ≡ current .header → sets out 0 (header e) ≡ header e
 header-put e out h =
     sets-eq (header e) out 0 (omega (arith, header-length e)) ∙ ap (λ (r : List ℕ). header e ++ r) (drop-of-length-le out {i = 0 + length (header e)} (omega (arith, header-length e))) ∙ append-nil (header e)
 
@@ -48,16 +49,16 @@ image-length e w d =
 
 -- the header and both lists of words at the front of a buffer
 pub image-put : (e : Equaliser) (before h u v : List ℕ) → taps e ≤ length (e .weights) → taps e ≤ length (e .past) → h ≡ header e → u ≡ words weightWord (take (taps e) (e .weights)) → v ≡ words datumWord (take (taps e) (e .past)) →
-    putMid (dataPlace (taps e)) (imageLength e - dataPlace (taps e)) (putMid imageHeaderLength (dataPlace (taps e) - imageHeaderLength) (h ++ drop imageHeaderLength before) u) v
+    putMid (dataPlace current (taps e)) (imageLength e - dataPlace current (taps e)) (putMid (current .header) (dataPlace current (taps e) - current .header) (h ++ drop (current .header) before) u) v
     ≡ image e ++ drop (imageLength e) before
 unfolding image
 image-put e before h u v w d hs us vs =
-    let mid = dataPlace (taps e) in
-    ap (λ (l : List ℕ). putMid mid (imageLength e - mid) l v) (next-part h u before imageHeaderLength mid long-h (omega (arith, long-u)))
+    let mid = dataPlace current (taps e) in
+    ap (λ (l : List ℕ). putMid mid (imageLength e - mid) l v) (next-part h u before (current .header) mid long-h (omega (arith, long-u)))
     ∙ next-part (h ++ u) v before mid (imageLength e) (length-append h u ∙ omega (arith, long-h, long-u)) (omega (arith, long-v))
     ∙ ap (λ (l : List ℕ). l ++ drop (imageLength e) before) (append-assoc h u v ∙ all-is)
   where
-    long-h : length h ≡ imageHeaderLength
+    long-h : length h ≡ current .header
     long-h = ap length hs ∙ header-length e
 
     long-u : length u ≡ width weightWord * taps e

@@ -1,3 +1,4 @@
+pub mod LayoutLaws
 pub mod WordLaws
 pub mod ImageLaws
 pub mod StateBits

@@ -1,5 +1,5 @@
 -- A saved state loads as it was, and accepted bytes are the image of the state that they hold.
-use mathlib.Core.Path.{_≡_, refl, sym, ap, ap₂, _∙_}
+use mathlib.Core.Path.{_≡_, refl, sym, ap, ap₂, _∙_, subst}
 use mathlib.Core.Bool.{Bool, true, false, cond}
 use mathlib.Core.List.{List, _++_}
 use Prim.Native.Nat.{ℕ, _*_, _-_, _≤_}
@@ -20,10 +20,13 @@ use Rattle.steps.specs.Limits.{slots}
 use Rattle.block.specs.Sound.{Sound}
 use Rattle.state.specs.State.{settings, memory, taps, padded, isZero, refused}
 use Rattle.state.specs.Answers.{examined}
-use Rattle.image.specs.Image.{header, imageHeaderLength, weightWord, datumWord, image, dataPlace, endPlace, imageLength, saveNumber, saveLength, saveBuffer}
-use Rattle.image.specs.Load.{tapsIn, weightBytes, pastBytes, stateIn, frameNumber, loadNumber, loadState}
+use Rattle.image.specs.Layout.{weightWord, datumWord, current, leastHeader, dataPlace, endPlace, tapsIn, layoutOf}
+use Rattle.image.specs.Image.{header, image, imageLength, saveNumber, saveLength, saveBuffer}
+use Rattle.image.specs.Load.{weightBytes, pastBytes, stateBy, stateIn, frameNumber, loadNumber, loadState}
+use Rattle.image.specs.declared.layout.Layout.{Layout}
 use Rattle.state.specs.declared.equaliser.Equaliser.{Equaliser}
 use Rattle.state.proofs.SoundLaws.{Accepted, accepted-sound, refused-accepted, examined-tests}
+use Rattle.image.proofs.LayoutLaws.{only-current}
 use Rattle.image.proofs.StateBits.{spare-zero, step-bits, weights-bits, past-bits}
 use Rattle.image.proofs.ImageLaws.{taps-most, header-length, image-length, save-fits}
 use Rattle.state.proofs.PaddedLaws.{padded-back, padded-long}
@@ -31,7 +34,7 @@ use Rattle.state.proofs.PaddedLaws.{padded-back, padded-long}
 -- ---- the tests of loading
 
 module _ (l : List ℕ) where
-  three : (a b c : Bool) → leb imageHeaderLength (length l) ≡ a → sizesFit (settings (stateIn l)) ≡ b → eqb (length l) (imageLength (stateIn l)) ≡ c →
+  three : (a b c : Bool) → leb leastHeader (length l) ≡ a → sizesFit (settings (stateIn l)) ≡ b → eqb (length l) (endPlace (layoutOf l) (tapsIn l)) ≡ c →
       frameNumber l ≡ 0 → (a ≡ true) × (b ≡ true) × (c ≡ true)
   unfolding frameNumber
   three true true true x y z h = (refl, refl, refl)
@@ -40,11 +43,11 @@ module _ (l : List ℕ) where
   three true false false x y z h = absurd (omega (arith, simp (x, y, z) at h))
   three false b c x y z h = absurd (omega (arith, simp x at h))
 
-  pub frame-tests : frameNumber l ≡ 0 → (imageHeaderLength ≤ length l) × (sizesFit (settings (stateIn l)) ≡ true) × (length l ≡ imageLength (stateIn l))
+  pub frame-tests : frameNumber l ≡ 0 → (leastHeader ≤ length l) × (sizesFit (settings (stateIn l)) ≡ true) × (length l ≡ endPlace (layoutOf l) (tapsIn l))
   frame-tests h =
       let s = stateIn l in
-      let t = three (leb imageHeaderLength (length l)) (sizesFit (settings s)) (eqb (length l) (imageLength s)) refl refl refl h in
-      (leb-true imageHeaderLength (length l) (t .0), t .1, eqb-true (length l) (imageLength s) (t .2))
+      let t = three (leb leastHeader (length l)) (sizesFit (settings s)) (eqb (length l) (endPlace (layoutOf l) (tapsIn l))) refl refl refl h in
+      (leb-true leastHeader (length l) (t .0), t .1, eqb-true (length l) (endPlace (layoutOf l) (tapsIn l)) (t .2))
 
 both-zero : (f x : ℕ) (t : Bool) → eqb f 0 ≡ t → cond t x f ≡ 0 → (f ≡ 0) × (x ≡ 0)
 both-zero f x true e h = (eqb-true f 0 e, h)
@@ -54,9 +57,15 @@ pub load-tests : (l : List ℕ) → loadNumber l ≡ 0 → (frameNumber l ≡ 0)
 unfolding loadNumber
 load-tests l h = both-zero (frameNumber l) (examined (stateIn l)) (eqb (frameNumber l) 0) refl h
 
+taps-are : (l : List ℕ) → taps (stateIn l) ≡ tapsIn l
+unfolding stateBy
+taps-are l = refl
+
 framed : (l : List ℕ) (e : Equaliser) → stateIn l ≡ e → length l ≡ imageLength e → sizesFit (settings e) ≡ true → frameNumber l ≡ 0
 unfolding frameNumber
-framed l e h k f = rw (h, k, le-leb imageHeaderLength (imageLength e) (omega arith), f, eq-eqb (imageLength e) (imageLength e) refl)
+framed l e h k f =
+    let same : length l ≡ endPlace (layoutOf l) (tapsIn l) = k ∙ ap (endPlace current) (sym (ap taps h) ∙ taps-are l) ∙ ap (λ (y : Layout). endPlace y (tapsIn l)) (sym (only-current l)) in
+    simp (le-leb leastHeader (length l) (omega (arith, k)), ap (λ (x : Equaliser). sizesFit (settings x)) h ∙ f, eq-eqb (length l) (endPlace (layoutOf l) (tapsIn l)) same)
 
 accepted : (l : List ℕ) (e : Equaliser) → stateIn l ≡ e → length l ≡ imageLength e → examined e ≡ 0 → loadNumber l ≡ 0
 unfolding loadNumber
@@ -79,32 +88,32 @@ module _ (e : Equaliser) (a : Accepted e) where
       ∙ padded-back (taps e) l long (taps-most e (a .number)) spare
 
   -- what follows the header
-  after-header : drop imageHeaderLength (image e) ≡ words weightWord (take (taps e) (e .weights)) ++ words datumWord (take (taps e) (e .past))
+  after-header : drop (current .header) (image e) ≡ words weightWord (take (taps e) (e .weights)) ++ words datumWord (take (taps e) (e .past))
   unfolding image
-  after-header = drop-at (header e) _ imageHeaderLength (header-length e)
+  after-header = drop-at (header e) _ (current .header) (header-length e)
 
-  weights-in : padded (wordsOf weightWord (taps e) (take (width weightWord * taps e) (drop imageHeaderLength (image e)))) ≡ e .weights
+  weights-in : padded (wordsOf weightWord (taps e) (take (width weightWord * taps e) (drop (current .header) (image e)))) ≡ e .weights
   weights-in =
       ap (λ (l : List ℕ). padded (wordsOf weightWord (taps e) l))
       (ap (take (width weightWord * taps e)) after-header
       ∙ take-at (words weightWord (take (taps e) (e .weights))) (words datumWord (take (taps e) (e .past))) (width weightWord * taps e) (words-long weightWord (taps e) (e .weights) weights-within))
       ∙ array-in weightWord (e .weights) (a .weights-long) (weights-bits e a) (spare-zero e (a .number) .0)
 
-  past-in : padded (wordsOf datumWord (taps e) (take (width datumWord * taps e) (drop (dataPlace (taps e)) (image e)))) ≡ e .past
+  past-in : padded (wordsOf datumWord (taps e) (take (width datumWord * taps e) (drop (dataPlace current (taps e)) (image e)))) ≡ e .past
   past-in =
       let w = words weightWord (take (taps e) (e .weights)) in
       let d = words datumWord (take (taps e) (e .past)) in
       ap (λ (l : List ℕ). padded (wordsOf datumWord (taps e) (take (width datumWord * taps e) l)))
-      (sym (drop-drop (width weightWord * taps e) imageHeaderLength (image e)) ∙ ap (drop (width weightWord * taps e)) after-header ∙ drop-at w d (width weightWord * taps e) (words-long weightWord (taps e) (e .weights) weights-within))
+      (sym (drop-drop (width weightWord * taps e) (current .header) (image e)) ∙ ap (drop (width weightWord * taps e)) after-header ∙ drop-at w d (width weightWord * taps e) (words-long weightWord (taps e) (e .weights) weights-within))
       ∙ ap (λ (l : List ℕ). padded (wordsOf datumWord (taps e) l)) (take-all (width datumWord * taps e) d (omega (arith, words-long datumWord (taps e) (e .past) past-within)))
       ∙ array-in datumWord (e .past) (a .past-long) (past-bits e a) (spare-zero e (a .number) .1)
 
   step-in : (l : List ℕ) → numberAt 4 (bytes 4 (e .m) ++ l) 0 ≡ e .m
   step-in l = number-front 4 (e .m) l (step-bits e a)
 
-  state-in : stateIn (image e) ≡ e
-  unfolding stateIn image
-  state-in = λ i. record {
+  state-by : stateBy current (image e) ≡ e
+  unfolding stateBy image
+  state-by = λ i. record {
     p = e .p;
     q = e .q;
     n = e .n;
@@ -117,6 +126,9 @@ module _ (e : Equaliser) (a : Accepted e) where
     weights = weights-in i;
     past = past-in i;
   }
+
+  state-in : stateIn (image e) ≡ e
+  state-in = ap (λ (y : Layout). stateBy y (image e)) (only-current (image e)) ∙ state-by
 
   image-long : length (image e) ≡ imageLength e
   image-long = image-length e weights-within past-within
@@ -175,8 +187,8 @@ module _ (e : Equaliser) (a : Accepted e) where
 
 -- ---- accepted bytes are an image
 
-header-in : (l : List ℕ) → imageHeaderLength ≤ length l → Each Byte l → header (stateIn l) ≡ take imageHeaderLength l
-unfolding stateIn
+header-in : (l : List ℕ) → current .header ≤ length l → Each Byte l → header (stateBy current l) ≡ take (current .header) l
+unfolding stateBy
 header-in l h b =
     ap₂ (λ (x y : List ℕ). x ++ y) (sym (take-each 8 0 l (omega arith))) (bytes-number l (byte-below l b) 4 8 (omega arith))
     ∙ sym (take-add 8 4 l)
@@ -189,47 +201,55 @@ module _ (l : List ℕ) (b : Each Byte l) (ok : loadNumber l ≡ 0) where
   loaded-sound : examined (stateIn l) ≡ 0
   loaded-sound = load-tests l ok .1
 
-  long : length l ≡ endPlace (tapsIn l)
-  unfolding stateIn
-  long = frame-tests l (load-tests l ok .0) .2
+  long : length l ≡ endPlace current (tapsIn l)
+  long = frame-tests l (load-tests l ok .0) .2 ∙ ap (λ (y : Layout). endPlace y (tapsIn l)) (only-current l)
+
+  same : stateIn l ≡ stateBy current l
+  same = ap (λ (y : Layout). stateBy y l) (only-current l)
 
   few : tapsIn l ≤ slots
-  unfolding stateIn
+  unfolding stateBy
   few = taps-most (stateIn l) loaded-sound
 
-  weights-size : length (weightBytes l) ≡ width weightWord * tapsIn l
-  weights-size = length-take-le (width weightWord * tapsIn l) (drop imageHeaderLength l) (omega (arith, length-drop imageHeaderLength l, long))
+  weights-size : length (weightBytes current l) ≡ width weightWord * tapsIn l
+  weights-size = length-take-le (width weightWord * tapsIn l) (drop (current .header) l) (omega (arith, length-drop (current .header) l, long))
 
-  past-size : length (pastBytes l) ≡ width datumWord * tapsIn l
-  past-size = length-take-le (width datumWord * tapsIn l) (drop (dataPlace (tapsIn l)) l) (omega (arith, length-drop (dataPlace (tapsIn l)) l, long))
+  past-size : length (pastBytes current l) ≡ width datumWord * tapsIn l
+  past-size = length-take-le (width datumWord * tapsIn l) (drop (dataPlace current (tapsIn l)) l) (omega (arith, length-drop (dataPlace current (tapsIn l)) l, long))
 
-  weights-are : Each Byte (weightBytes l)
-  weights-are = each-take Byte (width weightWord * tapsIn l) (drop imageHeaderLength l) (each-drop Byte imageHeaderLength l b)
+  weights-are : Each Byte (weightBytes current l)
+  weights-are = each-take Byte (width weightWord * tapsIn l) (drop (current .header) l) (each-drop Byte (current .header) l b)
 
-  past-are : Each Byte (pastBytes l)
-  past-are = each-take Byte (width datumWord * tapsIn l) (drop (dataPlace (tapsIn l)) l) (each-drop Byte (dataPlace (tapsIn l)) l b)
+  past-are : Each Byte (pastBytes current l)
+  past-are = each-take Byte (width datumWord * tapsIn l) (drop (dataPlace current (tapsIn l)) l) (each-drop Byte (dataPlace current (tapsIn l)) l b)
 
   -- both parts are all that follows the header
-  rest : weightBytes l ++ pastBytes l ≡ drop imageHeaderLength l
+  rest : weightBytes current l ++ pastBytes current l ≡ drop (current .header) l
   rest =
-      ap (λ (r : List ℕ). weightBytes l ++ r)
-      (take-all (width datumWord * tapsIn l) (drop (dataPlace (tapsIn l)) l) (omega (arith, length-drop (dataPlace (tapsIn l)) l, long)) ∙ sym (drop-drop (width weightWord * tapsIn l) imageHeaderLength l))
-      ∙ take-append-drop (width weightWord * tapsIn l) (drop imageHeaderLength l)
+      ap (λ (r : List ℕ). weightBytes current l ++ r)
+      (take-all (width datumWord * tapsIn l) (drop (dataPlace current (tapsIn l)) l) (omega (arith, length-drop (dataPlace current (tapsIn l)) l, long)) ∙ sym (drop-drop (width weightWord * tapsIn l) (current .header) l))
+      ∙ take-append-drop (width weightWord * tapsIn l) (drop (current .header) l)
 
-  loaded-accepted : Accepted (stateIn l)
-  unfolding stateIn
-  loaded-accepted = record {
-    weights-long = padded-long (wordsOf weightWord (tapsIn l) (weightBytes l)) (omega (arith, few, words-count weightWord (tapsIn l) (weightBytes l)));
-    past-long = padded-long (wordsOf datumWord (tapsIn l) (pastBytes l)) (omega (arith, few, words-count datumWord (tapsIn l) (pastBytes l)));
-    number = loaded-sound;
+  by-accepted : Accepted (stateBy current l)
+  unfolding stateBy
+  by-accepted = record {
+    weights-long = padded-long (wordsOf weightWord (tapsIn l) (weightBytes current l)) (omega (arith, few, words-count weightWord (tapsIn l) (weightBytes current l)));
+    past-long = padded-long (wordsOf datumWord (tapsIn l) (pastBytes current l)) (omega (arith, few, words-count datumWord (tapsIn l) (pastBytes current l)));
+    number = ap examined (sym same) ∙ loaded-sound;
   }
 
-  image-in : image (stateIn l) ≡ l
-  unfolding image stateIn
-  image-in =
+  loaded-accepted : Accepted (stateIn l)
+  loaded-accepted = subst Accepted (sym same) by-accepted
+
+  image-by : image (stateBy current l) ≡ l
+  unfolding image stateBy
+  image-by =
       ap₂ (λ (x y : List ℕ). x ++ y) (header-in l (frame-tests l (load-tests l ok .0) .0) b)
-      (ap₂ (λ (x y : List ℕ). x ++ y) (part-in weightWord (tapsIn l) (weightBytes l) weights-size weights-are) (part-in datumWord (tapsIn l) (pastBytes l) past-size past-are) ∙ rest)
-      ∙ take-append-drop imageHeaderLength l
+      (ap₂ (λ (x y : List ℕ). x ++ y) (part-in weightWord (tapsIn l) (weightBytes current l) weights-size weights-are) (part-in datumWord (tapsIn l) (pastBytes current l) past-size past-are) ∙ rest)
+      ∙ take-append-drop (current .header) l
+
+  image-in : image (stateIn l) ≡ l
+  image-in = ap image same ∙ image-by
 
 -- whatever bytes are loaded
 pub load-accepted : (l : List ℕ) → Each Byte l → Accepted (loadState l)

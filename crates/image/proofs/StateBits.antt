@@ -22,7 +22,7 @@ use Rattle.steps.proofs.SymbolLaws.{entry-below}
 use Rattle.state.specs.State.{settings, memory, taps, forward, back, samples, filler, symbols, isZero}
 use Rattle.state.specs.Answers.{examined}
 use Rattle.state.specs.declared.equaliser.Equaliser.{Equaliser}
-use Rattle.image.specs.Image.{weightWord, datumWord}
+use Rattle.image.specs.Layout.{weightWord, datumWord}
 use Rattle.state.proofs.SoundLaws.{Accepted, accepted-sound, examined-tests, sound-tests, past-tests}
 
 -- M·D ≤ 2^30, both sides times 2^L

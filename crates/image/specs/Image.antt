@@ -2,44 +2,27 @@
 use mathlib.Core.Bool.{cond}
 use mathlib.Core.List.{List, _∷_, _++_}
 use mathlib.Core.Path.{_≡_}
-use Prim.Native.Nat.{ℕ, _+_, _*_}
+use Prim.Native.Nat.{ℕ}
 use lib.Dec.{leb, eqb}
 use lib.ListN.{length, take, drop}
-use mir.Syntax.{Width, w16}
-use Rattle.words.specs.Words.{bytes, width, words}
+use Rattle.words.specs.Words.{bytes, words}
 use Rattle.state.specs.State.{taps}
 use Rattle.state.specs.Answers.{examined}
 use Rattle.state.specs.declared.equaliser.Equaliser.{Equaliser}
+use Rattle.image.specs.Layout.{weightWord, datumWord, current, endPlace}
 use Rattle.image.specs.declared.save.Saved.{Saved}
 
--- ---- the layout
+-- ---- the image
 
 -- p, q, N, r, L, ψ, b, B and M
 abbrev pub header : Equaliser → List ℕ
 header e = e .p ∷ e .q ∷ e .n ∷ e .r ∷ e .l ∷ e .psi ∷ e .b ∷ e .bmax ∷ bytes 4 (e .m)
 
-abbrev pub imageHeaderLength : ℕ
-imageHeaderLength = 12
-
--- a weight has 16 bits, and so has a datum
-abbrev pub weightWord : Width
-weightWord = w16
-
-abbrev pub datumWord : Width
-datumWord = w16
-
 unfoldable pub image : Equaliser → List ℕ
 image e = header e ++ (words weightWord (take (taps e) (e .weights)) ++ words datumWord (take (taps e) (e .past)))
 
--- where the data begin, and where an image ends, from the number of taps
-abbrev pub dataPlace : ℕ → ℕ
-dataPlace t = imageHeaderLength + width weightWord * t
-
-abbrev pub endPlace : ℕ → ℕ
-endPlace t = dataPlace t + width datumWord * t
-
 abbrev pub imageLength : Equaliser → ℕ
-imageLength e = endPlace (taps e)
+imageLength e = endPlace current (taps e)
 
 -- ---- saving
 

@@ -1,2 +1,4 @@
+pub mod Layout
 pub mod Image
 pub mod Load
+pub mod Calls

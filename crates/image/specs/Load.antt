@@ -2,31 +2,29 @@
 use mathlib.Core.Bool.{cond}
 use mathlib.Core.List.{List}
 use mathlib.Core.Path.{_≡_}
-use Prim.Native.Nat.{ℕ, _+_, _*_}
+use Prim.Native.Nat.{ℕ, _*_}
 use lib.Dec.{leb, eqb}
 use lib.ListN.{length, take, drop}
 use Rattle.words.specs.Words.{byteAt, numberAt, width, wordsOf}
 use Rattle.state.specs.Sizes.{sizesFit}
 use Rattle.state.specs.State.{settings, padded, refused}
 use Rattle.state.specs.Answers.{examined}
-use Rattle.image.specs.Image.{imageHeaderLength, weightWord, datumWord, dataPlace, imageLength}
+use Rattle.image.specs.Layout.{weightWord, datumWord, leastHeader, dataPlace, endPlace, tapsIn, layoutOf}
+use Rattle.image.specs.declared.layout.Layout.{Layout}
 use Rattle.state.specs.declared.equaliser.Equaliser.{Equaliser}
 use Rattle.state.specs.declared.equaliser.Answer.{Answer}
 
 -- ---- the parts of an image
 
-abbrev pub tapsIn : List ℕ → ℕ
-tapsIn l = byteAt l 0 + byteAt l 1
+abbrev pub weightBytes : Layout → List ℕ → List ℕ
+weightBytes y l = take (y .weight * tapsIn l) (drop (y .header) l)
 
-abbrev pub weightBytes : List ℕ → List ℕ
-weightBytes l = take (width weightWord * tapsIn l) (drop imageHeaderLength l)
+abbrev pub pastBytes : Layout → List ℕ → List ℕ
+pastBytes y l = take (width datumWord * tapsIn l) (drop (dataPlace y (tapsIn l)) l)
 
-abbrev pub pastBytes : List ℕ → List ℕ
-pastBytes l = take (width datumWord * tapsIn l) (drop (dataPlace (tapsIn l)) l)
-
--- the state that bytes hold
-unfoldable pub stateIn : List ℕ → Equaliser
-stateIn l = record {
+-- the state that bytes of a layout hold
+unfoldable pub stateBy : Layout → List ℕ → Equaliser
+stateBy y l = record {
   p = byteAt l 0;
   q = byteAt l 1;
   n = byteAt l 2;
@@ -36,16 +34,20 @@ stateIn l = record {
   b = byteAt l 6;
   bmax = byteAt l 7;
   m = numberAt 4 l 8;
-  weights = padded (wordsOf weightWord (tapsIn l) (weightBytes l));
-  past = padded (wordsOf datumWord (tapsIn l) (pastBytes l));
+  weights = padded (wordsOf weightWord (tapsIn l) (weightBytes y l));
+  past = padded (wordsOf datumWord (tapsIn l) (pastBytes y l));
 }
+
+-- by the layout that their length tells
+abbrev pub stateIn : List ℕ → Equaliser
+stateIn l = stateBy (layoutOf l) l
 
 -- ---- loading
 
--- the checks of the bytes alone: 8 below the header's length, 1 on the sizes, 8 if the length isn't exact
+-- the checks of the bytes alone: 8 below the shortest header, 1 on the sizes, 8 if the length isn't exact
 unfoldable pub frameNumber : List ℕ → ℕ
 frameNumber l =
-    cond (leb imageHeaderLength (length l)) (cond (sizesFit (settings (stateIn l))) (cond (eqb (length l) (imageLength (stateIn l))) 0 8) 1) 8
+    cond (leb leastHeader (length l)) (cond (sizesFit (settings (stateIn l))) (cond (eqb (length l) (endPlace (layoutOf l) (tapsIn l))) 0 8) 1) 8
 
 -- then 2 and 9
 unfoldable pub loadNumber : List ℕ → ℕ

@@ -6,8 +6,12 @@ ghost use mir.Syntax.{w16};
 ghost use Rattle.words.specs.Words.{wordsOf, width};
 ghost use Rattle.steps.specs.Limits.{slots};
 ghost use Rattle.state.specs.State.{settings, padded};
-ghost use Rattle.image.specs.Image.{imageHeaderLength, endPlace};
-ghost use Rattle.image.specs.Load.{tapsIn, stateIn, frameNumber, Load};
+ghost use Rattle.image.specs.Layout.{leastHeader, endPlace, tapsIn, layoutOf};
+ghost use Rattle.image.specs.Load.{stateIn, frameNumber, Load};
+use super::layout::LEAST_HEADER;
+use super::layout::data_place;
+use super::layout::end_place;
+use super::layout::layout_of;
 use state::equaliser::Answer;
 use state::equaliser::Equaliser;
 use steps::settings::Settings;
@@ -30,7 +34,7 @@ pub fn words_in(bytes: &[u8], n: usize) -> [i16; Equaliser::SLOTS]
 
 // The settings in a header.
 fn settings_in(bytes: &[u8]) -> Settings
-    requires { ⌜ imageHeaderLength ≤ length (now bytes) ⌝ }
+    requires { ⌜ leastHeader ≤ length (now bytes) ⌝ }
     ensures { λ k. ⌜ k ≡ settings (stateIn (now (bytes .entry))) ⌝ }
 {
     Settings {
@@ -43,11 +47,11 @@ fn settings_in(bytes: &[u8]) -> Settings
     }
 }
 
-// 8 below the header's length, 1 on the sizes, 8 if the length isn't exact, or 0.
+// 8 below the shortest header, 1 on the sizes, 8 if the length isn't exact, or 0.
 pub fn frame_number(bytes: &[u8]) -> u8
     ensures { λ r. ⌜ r ≡ frameNumber (now (bytes .entry)) ⌝ }
 {
-    if bytes.len() < Equaliser::HEADER {
+    if bytes.len() < LEAST_HEADER {
         return 8;
     }
     let k = settings_in(bytes);
@@ -55,7 +59,7 @@ pub fn frame_number(bytes: &[u8]) -> u8
         return 1;
     }
     let taps = (k.p as usize) + (k.q as usize);
-    if bytes.len() == Equaliser::HEADER + Equaliser::WEIGHT * taps + Equaliser::DATUM * taps {
+    if bytes.len() == end_place(layout_of(bytes), taps) {
         0
     } else {
         8
@@ -64,13 +68,14 @@ pub fn frame_number(bytes: &[u8]) -> u8
 
 // The state in bytes of the right length.
 pub fn state_in(bytes: &[u8]) -> Equaliser
-    requires { ⌜ (length (now bytes) ≡ endPlace (tapsIn (now bytes))) × (tapsIn (now bytes) ≤ slots) ⌝ }
+    requires { ⌜ (leastHeader ≤ length (now bytes)) × (length (now bytes) ≡ endPlace (layoutOf (now bytes)) (tapsIn (now bytes))) × (tapsIn (now bytes) ≤ slots) ⌝ }
     ensures { λ e. ⌜ e ≡ stateIn (now (bytes .entry)) ⌝ }
 {
     let taps = (bytes[0] as usize) + (bytes[1] as usize);
-    let start = Equaliser::HEADER;
-    let mid = start + Equaliser::WEIGHT * taps;
-    let end = mid + Equaliser::DATUM * taps;
+    let y = layout_of(bytes);
+    let start = y.header;
+    let mid = data_place(y, taps);
+    let end = end_place(y, taps);
     let weights = words_in(&bytes[start..mid], taps);
     let past = words_in(&bytes[mid..end], taps);
     Equaliser {

@@ -1,7 +1,8 @@
 // Saving: the bytes of a state.
 ghost use mathlib.Core.Path.{_≡_};
 ghost use lib.ListN.{length};
-ghost use Rattle.image.specs.Image.{header, imageHeaderLength, Save};
+ghost use Rattle.image.specs.Image.{header, Save};
+ghost use Rattle.image.specs.Layout.{current};
 use state::equaliser::Equaliser;
 use words::write::put_words;
 use words::write::put32;
@@ -15,7 +16,7 @@ pub struct Saved {
 
 // What stands before the weights.
 pub fn put_header(e: Equaliser, out: &mut [u8])
-    requires { ⌜ length (now out) ≡ imageHeaderLength ⌝ }
+    requires { ⌜ length (now out) ≡ current .header ⌝ }
     ensures { λ _. ⌜ now (out .exit) ≡ header e ⌝ }
 {
     out[0] = e.p;

@@ -4,7 +4,7 @@ use mathlib.Core.List.{List}
 use Prim.Native.Nat.{ℕ}
 use borrow.Author.Needs.{needs}
 use Rattle.image.specs.Load.{frameNumber}
-use Rattle.image.proofs.FrameLaws.{framed-long, framed-few}
+use Rattle.image.proofs.FrameLaws.{framed-least, framed-long, framed-few}
 use Rattle.image.proofs.LoadAnswers.{load-frame, load-refused, load-done}
 use Rattle.image.proofs.load.load.Statement.{statement}
 use Rattle.image.proofs.load.load.Tie as tie
@@ -21,7 +21,7 @@ returns c =
     load-frame (bytes f) (f .frame-number .result) (f .frame-number .ensures) (c .refused .result) (c .before .if1 .taken) (c .refused .ensures)
 
 state-in-requires : tie.Need-state-in-requires
-state-in-requires c κs = let l = bytes (c .before) in (framed-long l (framed c), framed-few l (framed c))
+state-in-requires c κs = let l = bytes (c .before) in (framed-least l (framed c), framed-long l (framed c), framed-few l (framed c))
 
 returns-2 : tie.Need-returns-2
 returns-2 c =

@@ -9,7 +9,8 @@ use borrow.Rule.Slice.PartMut.{putMid, mid-len, same-len-mid}
 use Rattle.steps.specs.Limits.{slots}
 use Rattle.state.specs.State.{taps}
 use Rattle.state.specs.Answers.{examined}
-use Rattle.image.specs.Image.{imageHeaderLength, dataPlace, endPlace, imageLength}
+use Rattle.image.specs.Layout.{current, dataPlace, endPlace}
+use Rattle.image.specs.Image.{imageLength}
 use Rattle.image.proofs.ImageLaws.{taps-most, image-put, save-refused, save-short, save-done}
 use borrow.Author.Needs.{needs}
 use Rattle.image.proofs.save.save.Statement.{statement}
@@ -62,8 +63,8 @@ past-taken c = let e = start (long-enough c) .args .e in length-take-le (taps e)
 
 -- the buffer is as long when a part is back
 headed-long : (c : tie.After-put-header) → let b = start (long-enough (lent c)) .args .buffer .now in
-    length (c .put-header .last .1 .0 ++ drop imageHeaderLength b) ≡ length b
-headed-long c = length-front (start (long-enough (lent c)) .args .buffer .now) (c .put-header .last .1 .0) imageHeaderLength (c .put-header .kept .1 .0)
+    length (c .put-header .last .1 .0 ++ drop (current .header) b) ≡ length b
+headed-long c = length-front (start (long-enough (lent c)) .args .buffer .now) (c .put-header .last .1 .0) (current .header) (c .put-header .kept .1 .0)
 
 -- ---- the needs
 
@@ -77,11 +78,11 @@ returns-2 c =
 
 slice-aggregate-put-header : tie.Need-slice-aggregate-put-header
 slice-aggregate-put-header c =
-    sym (length-take-le imageHeaderLength (start (long-enough (c .before)) .args .buffer .now) (omega (arith, room (long-enough (c .before)))))
+    sym (length-take-le (current .header) (start (long-enough (c .before)) .args .buffer .now) (omega (arith, room (long-enough (c .before)))))
 
 put-header-requires : tie.Need-put-header-requires
 put-header-requires c κs =
-    length-take-le imageHeaderLength (start (long-enough (c .before)) .args .buffer .now) (omega (arith, room (long-enough (c .before))))
+    length-take-le (current .header) (start (long-enough (c .before)) .args .buffer .now) (omega (arith, room (long-enough (c .before))))
 
 array-share-prefix-weights : tie.Need-array-share-prefix-weights
 array-share-prefix-weights c = weights-within (lent (c .before .before))
@@ -93,7 +94,7 @@ put-words-requires : tie.Need-put-words-requires
 put-words-requires c κs =
     let h = c .before .before .before .before in
     let s = start (long-enough (lent h)) in
-    mid-len imageHeaderLength (dataPlace (taps (s .args .e))) (h .put-header .last .1 .0 ++ drop imageHeaderLength (s .args .buffer .now)) (omega (arith, headed-long h, room (long-enough (lent h))))
+    mid-len (current .header) (dataPlace current (taps (s .args .e))) (h .put-header .last .1 .0 ++ drop (current .header) (s .args .buffer .now)) (omega (arith, headed-long h, room (long-enough (lent h))))
     ∙ omega (arith, weights-taken (lent h))
 
 array-share-prefix-past : tie.Need-array-share-prefix-past
@@ -108,9 +109,9 @@ put-words-requires-2 c κs =
     let h = headed w in
     let s = start (long-enough (lent h)) in
     let t = taps (s .args .e) in
-    let b = h .put-header .last .1 .0 ++ drop imageHeaderLength (s .args .buffer .now) in
-    mid-len (dataPlace t) (endPlace t) (putMid imageHeaderLength (dataPlace t - imageHeaderLength) b (w .put-words .last .1 .0))
-    (omega (arith, same-len-mid imageHeaderLength (dataPlace t - imageHeaderLength) b (w .put-words .last .1 .0) (w .put-words .kept .1 .0), headed-long h, room (long-enough (lent h))))
+    let b = h .put-header .last .1 .0 ++ drop (current .header) (s .args .buffer .now) in
+    mid-len (dataPlace current t) (endPlace current t) (putMid (current .header) (dataPlace current t - (current .header)) b (w .put-words .last .1 .0))
+    (omega (arith, same-len-mid (current .header) (dataPlace current t - (current .header)) b (w .put-words .last .1 .0) (w .put-words .kept .1 .0), headed-long h, room (long-enough (lent h))))
     ∙ omega (arith, past-taken (lent h))
 
 returns-3 : tie.Need-returns-3
@@ -121,7 +122,7 @@ returns-3 c =
     let l = long-enough (lent h) in
     let s = start l in
     let t = taps (s .args .e) in
-    save-done (s .args .e) (s .args .buffer .now) (endPlace t) _ (sound (l .before)) (room l) (omega arith)
+    save-done (s .args .e) (s .args .buffer .now) (endPlace current t) _ (sound (l .before)) (room l) (omega arith)
     (image-put (s .args .e) (s .args .buffer .now) (h .put-header .last .1 .0) (w .put-words .last .1 .0) (p .put-words2 .last .1 .0)
     (weights-within (lent h)) (past-within (lent h)) (h .put-header .ensures) (w .put-words .ensures) (p .put-words2 .ensures))
 
