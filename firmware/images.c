@@ -2,12 +2,9 @@
  * byte for byte; a damaged one gives its number and the fresh state. Each image is also compared with changed
  * expectations, which must be told apart. Exit status 1: a difference, with its place; 2: no such file, or one that
  * breaks off. */
-#include "records.h"
-#include "tigbulode.h"
+#include "saving.h"
 
-#include <stdbool.h>
-
-enum { AFTER = 16, NUMBERS = 10 };
+enum { NUMBERS = 10 };
 
 /* An image as it is lent, and what is expected of it. */
 typedef struct {
@@ -22,35 +19,12 @@ typedef struct {
 /* Of the file's bytes, which are lent to every load, a copy that no call sees. */
 static uint8_t copy[MOST_FILE];
 
-static bool all_sentinels(const uint8_t *bytes, size_t length) {
-    for (size_t i = 0; i < length; i++)
-        if (bytes[i] != SENTINEL) return false;
-    return true;
-}
-
-/* What is wrong with saving an accepted state, or NULL. */
-static const char *saving_differs(const image *i, const tigbulode_equaliser *state) {
-    const tigbulode_equaliser before = *state;
-    uint8_t buffer[TIGBULODE_IMAGE_BYTES + AFTER];
-    memset(buffer, SENTINEL, sizeof buffer);
-    tigbulode_saved s = tigbulode_save(state, buffer, i->length - 1);
-    if (s.number != TIGBULODE_BUFFER || s.length != 0) return "a short buffer is not turned down";
-    if (!all_sentinels(buffer, sizeof buffer)) return "a short buffer is written to";
-    s = tigbulode_save(state, buffer, sizeof buffer);
-    if (s.number != TIGBULODE_ACCEPTED) return "saving it again is turned down";
-    if (s.length != i->length) return "saved again with another length";
-    if (memcmp(buffer, i->saved, i->length) != 0) return "saved again with other bytes";
-    if (!all_sentinels(buffer + i->length, sizeof buffer - i->length)) return "bytes after the saved image are changed";
-    if (memcmp(state, &before, sizeof before) != 0) return "a save changes the record";
-    return NULL;
-}
-
 /* What is wrong with loading an image, or NULL. */
 static const char *differs(const image *i) {
     tigbulode_answer a = tigbulode_load(i->lent, i->length);
     if (a.number != i->number) return "another answer";
     if (memcmp(i->lent, i->bytes, i->length) != 0) return "the lent bytes are changed";
-    if (a.number == TIGBULODE_ACCEPTED) return saving_differs(i, &a.state);
+    if (a.number == TIGBULODE_ACCEPTED) return saving_differs(&a.state, i->saved, i->length);
     if (memcmp(&a.state, &i->refused, sizeof a.state) != 0) return "not the fresh state";
     return NULL;
 }
@@ -104,8 +78,7 @@ static unsigned counts[NUMBERS];
 
 static void print_counts(unsigned count) {
     printf("images %u: good %u, damaged %u\n", count, counts[0], count - counts[0]);
-    for (int number = 0; number < NUMBERS; number++)
-        if (counts[number] > 0) printf("answer %d: %u\n", number, counts[number]);
+    print_answers(counts, NUMBERS);
 }
 
 static const char *compare(size_t place, unsigned before, size_t *bytes) {

@@ -62,6 +62,12 @@ static inline unsigned compare_records(const char *name, comparison *compare) {
     return count;
 }
 
+/* How many records have each answer. */
+static inline void print_answers(const unsigned *counts, int numbers) {
+    for (int number = 0; number < numbers; number++)
+        if (counts[number] > 0) printf("answer %d: %u\n", number, counts[number]);
+}
+
 /* The last lines, and the exit status. */
 static inline int end_of_records(const char *difference) {
     printf("changed expectations told apart: %u of %u\n", told, tried);

@@ -111,8 +111,7 @@ static unsigned counts[NUMBERS];
 
 static void print_counts(unsigned count) {
     printf("cables %u: accepted %u, turned down %u\n", count, counts[0], count - counts[0]);
-    for (int number = 0; number < NUMBERS; number++)
-        if (counts[number] > 0) printf("answer %d: %u\n", number, counts[number]);
+    print_answers(counts, NUMBERS);
 }
 
 static const char *compare(size_t place, unsigned before, size_t *bytes) {

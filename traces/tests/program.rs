@@ -2,20 +2,12 @@
 
 mod common;
 
-use common::WORKED;
-use std::io::Write;
+use common::{Ended, WORKED};
 use std::os::unix::fs::FileTypeExt;
 use std::path::{Path, PathBuf};
 use std::process::{Command, Stdio};
 
 const TEXT: &str = "p = 1\nq = 1\nN = 1\nr = 0\nL = 0\nM = 67108864\n16384 0 1\n16384 0\n";
-
-/// What the program ended with and wrote.
-struct Ended {
-    status: Option<i32>,
-    out: Vec<u8>,
-    err: String,
-}
 
 struct Folder(PathBuf);
 
@@ -44,22 +36,8 @@ impl Folder {
     }
 
     fn run(&self, words: &[&str], input: &[u8]) -> Ended {
-        let mut child = Command::new(env!("CARGO_BIN_EXE_traces"))
-            .args(words)
-            .current_dir(&self.0)
-            .stdin(Stdio::piped())
-            .stdout(Stdio::piped())
-            .stderr(Stdio::piped())
-            .spawn()
-            .unwrap();
-        // a program that turns its words down reads nothing
-        let _ = child.stdin.take().unwrap().write_all(input);
-        let ended = child.wait_with_output().unwrap();
-        Ended {
-            status: ended.status.code(),
-            out: ended.stdout,
-            err: String::from_utf8(ended.stderr).unwrap(),
-        }
+        let mut command = Command::new(env!("CARGO_BIN_EXE_traces"));
+        Ended::on(command.args(words).current_dir(&self.0), input)
     }
 }
 

@@ -17,7 +17,7 @@ use Rattle.state.specs.Sizes.{settingsNumber}
 use Rattle.cable_trace.specs.Limits.{responseLimit, countLimit}
 use Rattle.cable_trace.specs.Calls.{sentLimit, Made}
 use Rattle.cable_trace.specs.Cable.{Cable, s, sampleCount, traceLength, cableTrace, responseFits, blocksFit, gainAvailable, lengthCause, listCause, cause, cableNumber}
-use Rattle.cable_trace.specs.Answers.{cableOf, Simulation}
+use Rattle.cable_trace.specs.Answers.{Simulation}
 
 -- ---- by the lengths
 
@@ -62,15 +62,6 @@ module _ (c : Cable) where
       pub lists-fit : all (isSymbol (c .settings .r)) (c .symbols) ≡ true → room ≡ traceLength c → 0 ≡ listCause c room
       unfolding listCause
       lists-fit b h = simp (a, b, eq-eqb room (traceLength c) h)
-
--- only N, r and the lists count
-pub length-cause-same : (p q N r L M : ℕ) (h v : List ℤ) (training : ℕ) → lengthCause (cableOf 1 1 N 0 0 0 h v training) ≡ lengthCause (cableOf p q N r L M h v training)
-unfolding lengthCause
-length-cause-same p q N r L M h v training = refl
-
-pub list-cause-same : (p q N r L M : ℕ) (h v : List ℤ) (training room : ℕ) → listCause (cableOf 1 1 N r 0 0 h v training) room ≡ listCause (cableOf p q N r L M h v training) room
-unfolding listCause lengthCause
-list-cause-same p q N r L M h v training room = refl
 
 -- ---- where there is no cause
 

@@ -5,6 +5,5 @@ pub mod RowLaws
 pub mod PutLaws
 pub mod CauseLaws
 pub mod SumLaws
-pub mod ReadingBytes
 pub mod ReadingLaws
 pub mod WorkedCable

@@ -14,10 +14,10 @@ use mir.Syntax.{w8, w16}
 use mir.Val.{SFits, ofZ}
 use borrow.Author.Tests.{eqb-true, ltb-true, ltb-false}
 use borrow.Rule.Slice.PartMut.{putMid}
-use Rattle.laws.specs.Values.{values-length, values-at, values, joined}
+use Rattle.laws.specs.Values.{values, values-length, values-at, joined, joined-none, joined-next}
 use Rattle.laws.specs.Lent.{next-part}
 use Rattle.words.specs.Words.{bytes}
-use Rattle.words.proofs.ByteLaws.{four-bytes, word-bytes}
+use Rattle.words.proofs.ByteLaws.{bytes-length, four-bytes, word-bytes}
 use Rattle.steps.specs.Settings.{isSymbol, isEntry}
 use Rattle.cable_trace.specs.Calls.{gainUnit, wordBytes, storedWords}
 
@@ -33,33 +33,27 @@ module _ (words : List ℤ) (out : List ℕ) where
   stored-long zero = refl
   stored-long (suc n) = length-sets (storedWords words out n) (3 * n) (wordBytes words n) ∙ stored-long n
 
-  pub stored-next : (i w : ℕ) → w ≡ natAbs (getD words i (pos 0)) →
-      set (set (set (set (storedWords words out i) (3 * i) (w % 256)) (3 * i + 1) (w / 256 % 256)) (3 * i + 2) (w / 256 / 256 % 256)) (3 * i + 3) (w / 256 / 256 / 256 % 256)
-      ≡ storedWords words out (i + 1)
+  pub stored-next : (i w : ℕ) → w ≡ natAbs (getD words i (pos 0)) → sets (storedWords words out i) (3 * i) (bytes 4 w) ≡ storedWords words out (i + 1)
   unfolding storedWords
-  stored-next i w e =
-      let one : 3 * i + 1 ≡ suc (3 * i) = omega arith in
-      let two : 3 * i + 2 ≡ suc (suc (3 * i)) = omega arith in
-      let three : 3 * i + 3 ≡ suc (suc (suc (3 * i))) = omega arith in
-      rw (one, two, three) (ap (sets (storedWords words out i) (3 * i)) (sym (four-bytes w) ∙ ap (bytes 4) e)) ∙ ap (storedWords words out) (sym (add-one i))
+  stored-next i w e = ap (λ (n : ℕ). sets (storedWords words out i) (3 * i) (bytes 4 n)) e ∙ ap (storedWords words out) (sym (add-one i))
 
   -- what the next word leaves of each
   pub stored-front : (n : ℕ) → 3 * n < length out → take (3 * n) (storedWords words out n) ≡ joined (λ i. take 3 (wordBytes words i)) n
-  unfolding storedWords joined
-  stored-front zero h = refl
+  unfolding storedWords
+  stored-front zero h = sym (joined-none (λ i. take 3 (wordBytes words i)))
   stored-front (suc n) h =
       let l = storedWords words out n in
       let next : 3 * suc n ≡ 3 * n + 3 = omega arith in
       ap₂ take next (sets-eq (wordBytes words n) l (3 * n) (omega (arith, stored-long n, four)))
       ∙ take-append-le (3 * n + 3) (take (3 * n) l ++ wordBytes words n) _ (omega (arith, length-append (take (3 * n) l) (wordBytes words n), before, four))
       ∙ ap (λ (m : ℕ). take (m + 3) (take (3 * n) l ++ wordBytes words n)) (sym before) ∙ take-append-add (take (3 * n) l) (wordBytes words n) 3
-      ∙ ap (λ (x : List ℕ). x ++ take 3 (wordBytes words n)) (stored-front n (omega arith))
+      ∙ ap (λ (x : List ℕ). x ++ take 3 (wordBytes words n)) (stored-front n (omega arith)) ∙ sym (joined-next (λ i. take 3 (wordBytes words i)) n)
     where
       before : length (take (3 * n) (storedWords words out n)) ≡ 3 * n
       before = length-take-le (3 * n) (storedWords words out n) (omega (arith, stored-long n))
 
       four : length (wordBytes words n) ≡ 4
-      four = ap length (four-bytes (natAbs (getD words n (pos 0))))
+      four = bytes-length 4 (natAbs (getD words n (pos 0)))
 
 -- the lowest byte, and the rest
 lowest : (x a b : ℕ) → x ≡ a + 256 * b → a < 256 → (x % 256 ≡ a) × (x / 256 ≡ b)

@@ -3,26 +3,23 @@ use mathlib.Core.Path.{_≡_, refl, sym, ap, _∙_, subst}
 use mathlib.Core.Bool.{Bool, true, false, cond}
 use mathlib.Core.List.{List}
 use mathlib.Core.Logic.{_⊎_, inl, inr}
-use Prim.Native.Nat.{ℕ, zero, suc, _+_, _*_, _/_, _%_, _^_, _≤_, _<_}
+use Prim.Native.Nat.{ℕ, zero, suc, _+_, _*_, _^_, _≤_, _<_}
 use native.Mathlib.Omega.{arith}
 use native.Mathlib.Nat.{mod-add-div, mul-le-mul-right, le-of-lt}
-use lib.Dec.{leb, ltb, eqb}
+use lib.Dec.{leb, ltb}
 use lib.ListN.{length, getD}
 use lib.IntN.{ℤ, pos, natAbs}
-use mir.Syntax.{w8}
-use mir.Val.{toZ}
 use borrow.Author.Tests.{lt-ltb, le-ltb, le-leb, leb-true, eq-eqb}
 use Rattle.laws.specs.Lists.{all, all-at, and-left, and-right}
 use Rattle.laws.specs.Powers.{rises}
 use Rattle.laws.specs.Tests.{both}
 use Rattle.laws.specs.Values.{values-length, values-at, values}
-use Rattle.words.specs.Words.{byteAt}
 use Rattle.steps.specs.Limits.{gainLimit}
 use Rattle.steps.specs.Settings.{Settings, isSymbol, isEntry}
 use Rattle.steps.specs.Sound.{Within}
 use Rattle.steps.proofs.SymbolLaws.{symbol-entry, entry-below}
-use Rattle.trace_layout.specs.Trace.{traceHeaderLength, settingsIn, countIn, samplesIn, wellFormed, sampleStart}
-use Rattle.trace_layout.proofs.ReadLaws.{well-tested}
+use Rattle.trace_layout.specs.Trace.{traceHeaderLength, settingsIn, countIn, samplesIn, wellFormed, traceSample, traceGain, traceEntry}
+use Rattle.trace_layout.proofs.WriteLaws.{settings-back, count-back, trace-length, samples-back, well-formed-back, sample-back, gain-back, entry-back}
 use Rattle.state.specs.Sizes.{settingsNumber}
 use Rattle.state.specs.State.{settings, fresh, refused}
 use Rattle.state.specs.Answers.{SetUp, setUpState}
@@ -33,7 +30,7 @@ use Rattle.state.proofs.SizesLaws.{settings-tests, fit-within}
 use Rattle.state.proofs.SoundLaws.{Accepted, set-up-accepted}
 use Rattle.image.proofs.StateBits.{step-bits}
 use Rattle.checks.specs.Checks as Checks
-use Rattle.checks.specs.Checks.{Buffers, block, checkNumber}
+use Rattle.checks.specs.Checks.{Buffers, checkNumber}
 use Rattle.checks.specs.Calls.{Sampled}
 use Rattle.checks.proofs.CheckLaws.{checks-pass}
 use Rattle.station.specs.Answers.{runNumber, runState}
@@ -44,12 +41,10 @@ use Rattle.trace_text.specs.Trace.{buffersAt}
 use Rattle.trace_text.specs.Text.{textFrom, traceText}
 use Rattle.trace_text.proofs.BufferLaws.{buffers-long, buffers-samples, buffers-gains, buffers-entries}
 use Rattle.trace_text.proofs.TraceLaws.{state-is, accepted-text}
-use Rattle.cable_trace.specs.Limits.{countLimit}
-use Rattle.cable_trace.specs.Cable.{Cable, s, gain, hasGain, entry, sampleCount, blockCount, cableTrace, gainAvailable, cableNumber}
+use Rattle.cable_trace.specs.Cable.{Cable, s, gain, hasGain, sample, entry, sampleCount, blockCount, cableTrace, gainAvailable, cableNumber}
 use Rattle.cable_trace.specs.Reading.{ReadsSample, Runs, Reads}
 use Rattle.cable_trace.proofs.CauseLaws.{Listed, listed, cause-tests, number-tests}
 use Rattle.cable_trace.proofs.GainLaws.{gain-most, sample-small}
-use Rattle.cable_trace.proofs.ReadingBytes.{flat, trace-flat, flat-length, gain-byte, sample-word, entry-byte}
 
 module _ (c : Cable) (room : ℕ) (ok : cableNumber c room ≡ 0) where
   settled : settingsNumber (c .settings) ≡ 0
@@ -78,7 +73,7 @@ module _ (c : Cable) (room : ℕ) (ok : cableNumber c room ≡ 0) where
   -- ---- the header
 
   abbrev t : List ℕ
-  t = flat c
+  t = cableTrace c
 
   first : Accepted (fresh (c .settings))
   first = subst Accepted (ap (λ (b : Bool). cond b (fresh (c .settings)) refused) (eq-eqb (settingsNumber (c .settings)) 0 settled)) (set-up-accepted (c .settings))
@@ -86,50 +81,73 @@ module _ (c : Cable) (room : ℕ) (ok : cableNumber c room ≡ 0) where
   step : c .settings .M < 2 ^ 32
   step = subst (λ (k : Settings). k .M < 2 ^ 32) (fresh-settings (c .settings)) (step-bits (fresh (c .settings)) first)
 
+  whole : c .settings .N * blockCount c ≡ sampleCount c
+  whole = omega (arith, mod-add-div (sampleCount c) (c .settings .N), fitting .whole)
+
+  few-blocks : blockCount c < 2 ^ 16
+  few-blocks = omega (arith, fitting .blocks-most)
+
+  -- the samples and gains by their places
+  abbrev m : ℕ → ℤ
+  m n = sample (c .settings .r) (s c n)
+
+  abbrev g : ℕ → ℕ
+  g n = gain (c .settings .r) (s c n)
+
   settings-are : settingsIn t ≡ c .settings
-  settings-are =
-      let k = c .settings in
-      ap (λ (m : ℕ). record { p = k .p; q = k .q; N = k .N; r = k .r; L = k .L; M = m }) (whole (k .M) step)
-    where
-      whole : (m : ℕ) → m < 2 ^ 32 → m % 256 + 256 * (m / 256 % 256) + 65536 * (m / 256 / 256 % 256 + 256 * (m / 256 / 256 / 256 % 256)) ≡ m
-      whole m h = omega arith
+  unfolding cableTrace
+  settings-are = settings-back (c .settings) (blockCount c) m g (entry c) (sampleCount c) step
 
   count-is : countIn t ≡ blockCount c
-  count-is = whole (blockCount c) (fitting .blocks-most)
-    where
-      whole : (n : ℕ) → n ≤ countLimit → n % 256 + 256 * (n / 256 % 256) ≡ n
-      whole n h = omega arith
+  unfolding cableTrace
+  count-is = count-back (c .settings) (blockCount c) m g (entry c) (sampleCount c) few-blocks
 
   samples-are : samplesIn t ≡ sampleCount c
-  samples-are =
-      ap (λ (n : ℕ). c .settings .N * n) count-is ∙ omega (arith, mod-add-div (sampleCount c) (c .settings .N), fitting .whole)
+  unfolding cableTrace
+  samples-are = samples-back (c .settings) (blockCount c) m g (entry c) (sampleCount c) whole few-blocks step
+
+  trace-long : length t ≡ traceHeaderLength + 4 * sampleCount c
+  unfolding cableTrace
+  trace-long = trace-length (c .settings) (blockCount c) m g (entry c) (sampleCount c)
 
   well-formed : wellFormed t ≡ true
-  well-formed =
-      well-tested t (omega (arith, flat-length c)) (omega (arith, flat-length c, fitting .few))
-      ∙ both (eqb (length t) (traceHeaderLength + 4 * samplesIn t)) (eqb (byteAt t 5) 0) (eq-eqb (length t) (traceHeaderLength + 4 * samplesIn t) (flat-length c ∙ ap (λ (n : ℕ). traceHeaderLength + 4 * n) (sym samples-are))) refl
+  unfolding cableTrace
+  well-formed = well-formed-back (c .settings) (blockCount c) m g (entry c) (sampleCount c) whole few-blocks step (omega (arith, trace-long, fitting .few))
 
   -- ---- the samples
 
   chosen : (n : ℕ) {b : Bool} → ltb n (c .training) ≡ b → entry c n ≡ cond b (getD (c .symbols) n (pos 0)) (pos 0)
   chosen n e = ap (λ (b : Bool). cond b (getD (c .symbols) n (pos 0)) (pos 0)) e
 
+  sample-is : (n : ℕ) → n < sampleCount c → traceSample t n ≡ m n
+  unfolding cableTrace
+  sample-is n h = sample-back (c .settings) (blockCount c) m g (entry c) (sampleCount c) n h (sample-small (c .settings .r) (s c n) (gains n h .0))
+
+  gain-is : (n : ℕ) → n < sampleCount c → traceGain t n ≡ g n
+  unfolding cableTrace
+  gain-is n h = gain-back (c .settings) (blockCount c) m g (entry c) (sampleCount c) n h
+
+  entry-byte : (n : ℕ) → n < sampleCount c → traceEntry t n ≡ entry c n
+  unfolding cableTrace
+  entry-byte n h =
+      let r = c .settings .r in
+      entry-back (c .settings) (blockCount c) m g (entry c) (sampleCount c) n h samples-are
+      (omega (arith, entry-below r (entry c n) (entry-is n h), rises {a = r + 1} {b = 4} (omega (arith, within .r-most))))
+
   reads-sample : (n : ℕ) → n < sampleCount c → ReadsSample c t n
   reads-sample n h =
       let r = c .settings .r in
-      let g = gains n h in
-      let small = sample-small r (s c n) (g .0) in
-      let m-is = sample-word c n h small in
-      let e-is = ap (λ (k : ℕ). toZ w8 (byteAt t (sampleStart k + n))) samples-are ∙ entry-byte c n h (omega (arith, entry-below r (entry c n) (entry-is n h), rises {a = r + 1} {b = 4} (omega (arith, within .r-most)))) in
+      let small = sample-small r (s c n) (gains n h .0) in
+      let e-is = entry-byte n h in
       record {
-        sample-is = m-is;
-        gain-is = gain-byte c n h;
+        sample-is = sample-is n h;
+        gain-is = gain-is n h;
         entry-is = e-is;
         entry-trained = λ l. e-is ∙ chosen n (lt-ltb n (c .training) l);
         entry-later = λ l. e-is ∙ chosen n (le-ltb n (c .training) l);
-        sample-small = rw m-is small;
-        gain-least = omega (arith, gain-byte c n h, g .1);
-        gain-most = omega (arith, gain-byte c n h, gain-most r (s c n));
+        sample-small = rw (sample-is n h) small;
+        gain-least = omega (arith, gain-is n h, gains n h .1);
+        gain-most = omega (arith, gain-is n h, gain-most r (s c n));
         entry-fits = rw e-is (entry-is n h);
       }
 
@@ -158,25 +176,25 @@ module _ (c : Cable) (room : ℕ) (ok : cableNumber c room ≡ 0) where
     lengths : Checks.lengthsFit (e .n) l ≡ true
     lengths = subst (λ (n : ℕ). Checks.lengthsFit n l ≡ true) (sym n-is) (buffers-long t (i * e .n))
 
-    gains-pass : all (Checks.gainFits (e .l)) (l .gains) ≡ true
+    gains-pass : all (Checks.gainFits (e .l)) (l .block .gains) ≡ true
     gains-pass =
         buffers-gains t (i * e .n) (Checks.gainFits (e .l))
         (λ j k. both _ _ (le-leb (e .l) _ (omega (arith, l-is, at j k .gain-least))) (le-leb _ gainLimit (at j k .gain-most)))
 
-    entries-pass : all (isEntry (e .r)) (l .entries) ≡ true
+    entries-pass : all (isEntry (e .r)) (l .block .entries) ≡ true
     entries-pass = buffers-entries t (i * e .n) (isEntry (e .r)) (λ j k. rw r-is (at j k .entry-fits))
 
     checked : checkNumber e l ≡ 0
     checked = sym (checks-pass e l (a .number) lengths gains-pass entries-pass)
 
-    sampled : Sampled (l .m)
+    sampled : Sampled (l .block .samples)
     sampled = buffers-samples t (i * e .n) (λ (z : ℤ). natAbs z ≤ 2 ^ 15) (λ j k. le-of-lt (at j k .sample-small))
 
   runs : (blocks i : ℕ) (e : Equaliser) → Accepted e → settings e ≡ settingsIn t → i + blocks ≡ countIn t → Runs t blocks i e
   runs zero i e a same q = tt
   runs (suc blocks) i e a same q =
       let h : i < countIn t = omega (arith, q) in
-      go (ψFitsBlock e (block (l e a same i h))) (number-is e (l e a same i h) (checked e a same i h))
+      go (ψFitsBlock e (l e a same i h .block)) (number-is e (l e a same i h) (checked e a same i h))
       (λ z. runs blocks (suc i) (runState e (l e a same i h)) (run-accepted e (l e a same i h) z (a .weights-long) (a .past-long) (sampled e a same i h))
       (run-settings e (l e a same i h) ∙ same) (omega (arith, q)))
     where
@@ -195,15 +213,13 @@ module _ (c : Cable) (room : ℕ) (ok : cableNumber c room ≡ 0) where
       sym (accepted-text t well-formed a u set-up) ∙ ap (textFrom t (countIn t) 0) (state-is t well-formed a u set-up)
 
   pub reads : Reads c (cableTrace c)
-  reads =
-      subst (Reads c) (sym (trace-flat c))
-      (record {
-        well-formed = well-formed;
-        settings-are = settings-are;
-        set-up = set-up;
-        count-is = count-is;
-        samples-are = samples-are;
-        samples = reads-sample;
-        text-is = text-is;
-        blocks = runs (countIn t) 0 (fresh (settingsIn t)) (subst (λ (k : Settings). Accepted (fresh k)) (sym settings-are) first) (fresh-settings (settingsIn t)) (omega arith);
-      })
+  reads = record {
+    well-formed = well-formed;
+    settings-are = settings-are;
+    set-up = set-up;
+    count-is = count-is;
+    samples-are = samples-are;
+    samples = reads-sample;
+    text-is = text-is;
+    blocks = runs (countIn t) 0 (fresh (settingsIn t)) (subst (λ (k : Settings). Accepted (fresh k)) (sym settings-are) first) (fresh-settings (settingsIn t)) (omega arith);
+  }

@@ -19,10 +19,12 @@ use Rattle.words.specs.Words.{bytes}
 use Rattle.steps.specs.Limits.{symbolLimit}
 use Rattle.steps.specs.Settings.{isSymbol}
 use Rattle.steps.proofs.SymbolLaws.{symbol-below}
+use Rattle.trace_layout.specs.Trace.{traceHeader, sampleBytes, entryPart}
+use Rattle.trace_layout.proofs.WriteLaws.{trace-parts}
 use Rattle.checks.specs.Calls.{Sampled}
 use Rattle.cable_trace.specs.Limits.{responseLimit}
 use Rattle.cable_trace.specs.Calls.{sentLimit, placed, lineOf, sums, LineSummable, Gainable, sampleWord, sampleWords, NotNegative, wordBytes, traceBytes, sentLineLength}
-use Rattle.cable_trace.specs.Cable.{Cable, s, gain, sample, sampleCount, blockCount, traceHeader, sampleBytes, entryPart, cableTrace}
+use Rattle.cable_trace.specs.Cable.{Cable, s, gain, sample, entry, sampleCount, blockCount, cableTrace}
 use Rattle.cable_trace.proofs.LineLaws.{line-small, window-is}
 use Rattle.cable_trace.proofs.GainLaws.{gain-most, sample-small}
 use Rattle.cable_trace.proofs.PutLaws.{word-is}
@@ -54,7 +56,7 @@ words-whole r sums =
     each-of NotNegative (pos 0) (sampleWords r sums)
     (λ i h. rw (map-at (λ (x : ℤ). pos (sampleWord r x)) sums i (pos 0) (pos 0) (omega (arith, length-map sums (λ (x : ℤ). pos (sampleWord r x))))) refl)
 
-sample-word : (r : ℕ) (s : ℤ) → Gainable r s → take 3 (bytes 4 (sampleWord r s)) ≡ sampleBytes r s
+sample-word : (r : ℕ) (s : ℤ) → Gainable r s → take 3 (bytes 4 (sampleWord r s)) ≡ sampleBytes (sample r s) (gain r s)
 sample-word r s h =
     word-is (ofZ w16 (sample r s)) (gain r s) (fits-ofZ (fits-abs {w = w16} (sample r s) (sample-small r s (h .has))) .fits) (omega (arith, gain-most r s))
 
@@ -62,9 +64,10 @@ pub trace-is : (c : Cable) (words : List ℤ) → words ≡ sampleWords (c .sett
     traceBytes (c .settings) (c .symbols) (c .training) words ≡ cableTrace c
 unfolding cableTrace
 trace-is c words e gains =
-    ap (λ (b : List ℕ). traceHeader (c .settings) (blockCount c) ++ (b ++ entryPart c))
+    ap (λ (b : List ℕ). traceHeader (c .settings) (blockCount c) ++ (b ++ entryPart (entry c) (sampleCount c)))
     (ap₂ (λ (x : List ℤ) (n : ℕ). joined (λ i. take 3 (wordBytes x i)) n) e (ap length e ∙ length-map sums _ ∙ values-length (s c) (sampleCount c))
-    ∙ joined-same (λ i. take 3 (wordBytes (sampleWords r sums) i)) (λ i. sampleBytes r (s c i)) (sampleCount c) at)
+    ∙ joined-same (λ i. take 3 (wordBytes (sampleWords r sums) i)) (λ i. sampleBytes (sample r (s c i)) (gain r (s c i))) (sampleCount c) at)
+    ∙ trace-parts (c .settings) (blockCount c) (λ n. sample r (s c n)) (λ n. gain r (s c n)) (entry c) (sampleCount c)
   where
     r : ℕ
     r = c .settings .r
@@ -72,9 +75,9 @@ trace-is c words e gains =
     sums : List ℤ
     sums = values (s c) (sampleCount c)
 
-    at : (i : ℕ) → i < sampleCount c → take 3 (wordBytes (sampleWords r sums) i) ≡ sampleBytes r (s c i)
+    at : (i : ℕ) → i < sampleCount c → take 3 (wordBytes (sampleWords r sums) i) ≡ sampleBytes (sample r (s c i)) (gain r (s c i))
     at i h =
         let l : i < length sums = omega (arith, values-length (s c) (sampleCount c)) in
         let g = each-at (Gainable r) sums i (pos 0) gains l in
         ap (λ (w : ℤ). take 3 (bytes 4 (natAbs w))) (map-at (λ (x : ℤ). pos (sampleWord r x)) sums i (pos 0) (pos 0) l)
-        ∙ sample-word r (getD sums i (pos 0)) g ∙ ap (sampleBytes r) (values-at (s c) (pos 0) (sampleCount c) i h)
+        ∙ sample-word r (getD sums i (pos 0)) g ∙ ap (λ (z : ℤ). sampleBytes (sample r z) (gain r z)) (values-at (s c) (pos 0) (sampleCount c) i h)

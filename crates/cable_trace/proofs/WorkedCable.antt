@@ -8,11 +8,13 @@ use Rattle.laws.specs.Sums.{dot}
 use Rattle.laws.specs.Values.{values, joined}
 use Rattle.words.specs.Words.{bytes}
 use Rattle.numbers.specs.Cut.{cut}
-use Rattle.state.specs.Sizes.{given, settingsNumber}
+use Rattle.steps.specs.Settings.{given}
+use Rattle.trace_layout.specs.Trace.{traceOf}
+use Rattle.state.specs.Sizes.{settingsNumber}
 use Rattle.cable_trace.specs.Cable.{Cable, s, greatest, gain, hasGain, sample, cableTrace, lengthCause, listCause, cause, cableNumber}
 
 steps : Unit {0}
-unfolding dot cut values settingsNumber bytes s greatest gain sample joined cableTrace lengthCause listCause cause cableNumber
+unfolding dot cut values joined bytes traceOf settingsNumber s greatest gain sample cableTrace lengthCause listCause cause cableNumber
 steps = tt
 
 -- p = q = 1, N = 2, r = 1, L = 0, M = 2^24; the response 16390, −32768, 16384, −5; six symbols, three of them training entries

@@ -15,7 +15,7 @@ use borrow.Rule.Slice.PartMut.{mid-len}
 use Rattle.laws.specs.Values.{values-length, values}
 use Rattle.words.specs.Words.{byteAt, numberAt}
 use Rattle.steps.specs.Settings.{Settings}
-use Rattle.trace_layout.specs.Trace.{traceLimit}
+use Rattle.trace_layout.specs.Trace.{traceLimit, settingsIn}
 use Rattle.state.specs.Sizes.{sizesFit, admits, settingsNumber}
 use Rattle.state.proofs.SizesLaws.{settings-refused, settings-number}
 use Rattle.trace_layout.specs.Trace as Trace
@@ -49,12 +49,10 @@ module _ (t : List ℕ) where
   unfolding cableIn
   samples-in = values-length _ (symbolsIn t)
 
-  pub cable-in : (m : ℕ) (h v : List ℤ) (n : ℕ) → m ≡ numberAt 4 t 8 → h ≡ cableIn t .response → v ≡ cableIn t .symbols → n ≡ trainingIn t →
-      cableOf (byteAt t 0) (byteAt t 1) (byteAt t 2) (byteAt t 3) (byteAt t 4) m h v n ≡ cableIn t
+  pub cable-in : (k : Settings) (h v : List ℤ) (n : ℕ) → k ≡ settingsIn t → h ≡ cableIn t .response → v ≡ cableIn t .symbols → n ≡ trainingIn t → cableOf k h v n ≡ cableIn t
   unfolding cableIn
-  cable-in m h v n a b c d =
-      ap₂ (λ (x : ℕ) (y : List ℤ). cableOf (byteAt t 0) (byteAt t 1) (byteAt t 2) (byteAt t 3) (byteAt t 4) x y v n) a b
-      ∙ ap₂ (λ (x : List ℤ) (y : ℕ). cableOf (byteAt t 0) (byteAt t 1) (byteAt t 2) (byteAt t 3) (byteAt t 4) (numberAt 4 t 8) (cableIn t .response) x y) c d
+  cable-in k h v n a b c d =
+      ap₂ (λ (x : Settings) (y : List ℤ). cableOf x y v n) a b ∙ ap₂ (λ (x : List ℤ) (y : ℕ). cableOf (settingsIn t) (cableIn t .response) x y) c d
 
 pub simulation-same : {c k : Cable} {before after : List ℕ} {a : Simulated} → c ≡ k → Simulation c before a after → Simulation k before a after
 simulation-same {before = before} {after = after} {a = a} e s = subst (λ (x : Cable). Simulation x before a after) e s

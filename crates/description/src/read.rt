@@ -15,29 +15,21 @@ pub fn response_count(t: &[u8]) -> usize
     requires { ⌜ descriptionHeaderLength ≤ length (now t) ⌝ }
     ensures { λ r. ⌜ r ≡ responseIn (now (t .entry)) ⌝ }
 {
-    image::bytes::unsigned16(t[6], t[7]) as usize
+    words::read::unsigned16(t[6], t[7]) as usize
 }
 
 pub fn symbol_count(t: &[u8]) -> usize
     requires { ⌜ descriptionHeaderLength ≤ length (now t) ⌝ }
     ensures { λ r. ⌜ r ≡ symbolsIn (now (t .entry)) ⌝ }
 {
-    image::bytes::unsigned32(t[12], t[13], t[14], t[15]) as usize
+    words::read::unsigned32(t[12], t[13], t[14], t[15]) as usize
 }
 
 pub fn training_count(t: &[u8]) -> usize
     requires { ⌜ descriptionHeaderLength ≤ length (now t) ⌝ }
     ensures { λ r. ⌜ r ≡ trainingIn (now (t .entry)) ⌝ }
 {
-    image::bytes::unsigned32(t[16], t[17], t[18], t[19]) as usize
-}
-
-// M.
-pub fn step(t: &[u8]) -> u32
-    requires { ⌜ descriptionHeaderLength ≤ length (now t) ⌝ }
-    ensures { λ r. ⌜ r ≡ numberAt 4 (now (t .entry)) 8 ⌝ }
-{
-    image::bytes::unsigned32(t[8], t[9], t[10], t[11])
+    words::read::unsigned32(t[16], t[17], t[18], t[19]) as usize
 }
 
 // Whether the length is right and byte 5 is 0.
@@ -61,7 +53,7 @@ pub fn response(t: &[u8], out: &mut [i16])
     let mut i: usize = 0;
     while i < out.len() {
         let at = DESCRIPTION_HEADER + 2 * i;
-        out[i] = image::bytes::signed16(t[at], t[at + 1]);
+        out[i] = words::read::signed16(t[at], t[at + 1]);
         i += 1;
     }
 }
@@ -73,7 +65,7 @@ pub fn symbols(t: &[u8], start: usize, out: &mut [i8])
 {
     let mut i: usize = 0;
     while i < out.len() {
-        out[i] = trace_text::read::signed8(t[start + i]);
+        out[i] = words::read::signed8(t[start + i]);
         i += 1;
     }
 }

@@ -13,6 +13,7 @@ use super::read;
 use cable_trace::Simulated;
 use trace_layout::limits::TRACE;
 use trace_layout::limits::TRACE_HEADER;
+use trace_layout::read::settings_in;
 
 fn response_room() -> [i16; RESPONSE]
     ensures { λ r. ⌜ length r ≡ responseRoom ⌝ }
@@ -55,15 +56,9 @@ fn simulated(t: &[u8], out: &mut [u8]) -> Simulated
     let n = read::symbol_count(t);
     let h = response(t, k);
     let sent = symbols(t, n);
-    let m = read::step(t);
     let training = read::training_count(t);
     cable_trace::simulate(
-        t[0],
-        t[1],
-        t[2],
-        t[3],
-        t[4],
-        m,
+        settings_in(t),
         &h[0..k],
         &sent[0..n],
         training,

@@ -1,4 +1,5 @@
 pub mod Thin
+pub mod Slices
 pub mod ByValue
 pub mod Called
 pub mod Trials

@@ -20,16 +20,16 @@ use types.Run.{Walks, Finds, stop, hop, fld, load, look, addr, and-then, no-more
 use types.Part.{Part, agg, whole, sub, look-in}
 use denote.Steps.{heard}
 use sound.WpLaws.{WpFn-mono}
-use denote.RattleType.{flat}
+use denote.RattleType.{Denots, flat}
 use denote.Laws.{Ises, Are, Spells, Tellss, valss}
 use denote.Signature.{Slot, typesAt}
 use denote.Slice.{sliceTy, sliceVal}
 use denote.Exit.{yes, left}
 use denote.Triple.Entry.{Args, onEntry}
-use denote.Triple.End.{all}
+use denote.Triple.End.{all, Fins}
 use denote.Triple.Spec.{Meets}
 use denote.Triple.Clauses.{Clauses, Ended, closing}
-use denote.Triple.Walked.{Stay, Stays, AllGo, walkOf, walked, walk-meets}
+use denote.Triple.Walked.{Stay, Stays, fitsOf, AllGo, walkOf, walked, walk-meets}
 
 -- ---- a parameter that is passed on: at exit there is what the callee said of it
 
@@ -44,33 +44,16 @@ pub all-go : {M : Type 1} (𝓤 : URA M) (H : Heap 𝓤) (A : Atoms 𝓤) (W : G
 all-go 𝓤 H A W n [] = tt
 all-go 𝓤 H A W n (s ∷ ss) = ((λ κs x f vs ok. W .laws .⇛-intro _), all-go 𝓤 H A W n ss)
 
+-- and nothing is left to fit
+pub all-fit : {n : ℕ} (κs : Lfts n) (ss : List (Slot n)) (a : Denots (typesAt ss κs)) (ws : Fins κs ss (all yes ss) a) → fitsOf κs ss (all yes ss) (all-handed ss) a ws
+all-fit κs [] a ws = tt
+all-fit κs (s ∷ ss) a ws = (tt, all-fit κs ss (a .1) (ws .1))
+
 abbrev pub rest : {n : ℕ} → List (Slot n) → List (Slot n)
 rest [] = []
 rest (s ∷ ss) = ss
 
--- ---- the code of a thin function
-
--- a slice of integers, and the reference to its first element
-abbrev pub pointer : Lifetime → Mutability → Width → Ty
-pointer ℓ m w = tyRef ℓ m (tyInt w)
-
-abbrev pub slice : Lifetime → Mutability → Width → Ty
-slice ℓ m w = sliceTy (pointer ℓ m w)
-
--- the `&mut` slice in local i is lent on: its pointer goes to j, the new slice to k
-abbrev pub lends : Width → ℕ → ℕ → ℕ → Body → Body
-lends w i j k next = seq (assign (place j []) (addrOf (place i (field 0 ∷ deref (tyInt w) ∷ [])))) (seq (assign (place k []) (aggregate (copy (place j []) ∷ copy (place i (field 1 ∷ [])) ∷ []))) next)
-
--- a slice's machine value is of its type, since its count fits a `usize`
-abbrev pub counted : {n : ℕ} → n < 2 ^ 64 → Unit {0} × (Unit {0} × (Fits w64 n × Unit {0}))
-counted fits = (tt, (tt, (record { fits = fits }, tt)))
-
 -- ---- locals
-
--- the n places from i on
-abbrev pub range : ℕ → ℕ → List ℕ
-range i zero = []
-range i (suc n) = i ∷ range (suc i) n
 
 abbrev pub locals : List Ty → List Local
 locals [] = []
@@ -123,6 +106,9 @@ module _ {M : Type 1} {𝓤 : URA M} {H : Heap 𝓤} {A : Atoms 𝓤} {K : Type 
       (via 𝓤 (sep 𝓤 (⋆ 𝓤 H A Δ′) (⋆ 𝓤 H A (Δ ++ Γ))) (monoR 𝓤 (⋆ 𝓤 H A Δ′) (++⊢ 𝓤 H A Δ Γ))
       (via 𝓤 (⋆ 𝓤 H A (Δ′ ++ (Δ ++ Γ))) (++⊢ 𝓤 H A Δ′ (Δ ++ Γ)) (s .prf))))))))
 
+  swapped : K → (Δ Γ : List (Item 𝓤)) {G : Goal 𝓤 H} → Seq K W (Γ ++ Δ) G → Seq K W (Δ ++ Γ) G
+  swapped t Δ Γ s = by t (via 𝓤 (sep 𝓤 (⋆ 𝓤 H A Δ) (⋆ 𝓤 H A Γ)) (⊢++ 𝓤 H A Δ Γ) (via 𝓤 (sep 𝓤 (⋆ 𝓤 H A Γ) (⋆ 𝓤 H A Δ)) (comm∗ 𝓤 (⋆ 𝓤 H A Δ) (⋆ 𝓤 H A Γ)) (via 𝓤 (⋆ 𝓤 H A (Γ ++ Δ)) (++⊢ 𝓤 H A Γ Δ) (s .prf))))
+
   allocated : K → (ls : List Local) (Γ : List (Item 𝓤)) (Kt : Env 𝓤 H → Goal 𝓤 H) → ((bs : Blocks ls) → Seq K W (cells (env ls bs) [] ++ Γ) (Kt (env ls bs))) → Seq K W Γ (allocs ls Kt)
   allocated t [] Γ Kt k = alloc0 t $ k tt
   allocated t (local τ h ∷ ls) Γ Kt k =
@@ -138,11 +124,11 @@ module _ {M : Type 1} {𝓤 : URA M} {H : Heap 𝓤} {A : Atoms 𝓤} {K : Type 
   taken t [] vs ok Γ s = absurd ok
   taken t (e ∷ E) vs ok Γ s = params1 t $ shifted t (cells (e ∷ []) []) (cells E []) Γ (stored t E vs ok _ (shifted t (cells E vs) (cells (e ∷ []) []) Γ s))
 
-  -- a function begins: its locals are allocated, and the arguments stand in those after the first
+  -- a function begins: its locals are allocated, and the arguments stand in those after the first. The locals are the last entries
   pub begins : K → (C : Calls 𝓤 H) (Λ : Loops 𝓤 H) (f : Fn) (vs : List Val) (Kf : Val → SProp 𝓤) {Γ : List (Item 𝓤)} → ((bs : Blocks (f .locals)) → Arguments (env (f .locals) bs) vs)
-      → ((bs : Blocks (f .locals)) → Seq K W (begun (env (f .locals) bs) vs ++ Γ) (runs C Λ (env (f .locals) bs) (f .body) (atRet (env (f .locals) bs) Kf))) → Seq K W Γ (prop (WpFn 𝓤 H C Λ f vs Kf))
+      → ((bs : Blocks (f .locals)) → Seq K W (Γ ++ begun (env (f .locals) bs) vs) (runs C Λ (env (f .locals) bs) (f .body) (atRet (env (f .locals) bs) Kf))) → Seq K W Γ (prop (WpFn 𝓤 H C Λ f vs Kf))
   begins t C Λ f vs Kf {Γ} ok k =
-      enter t C Λ f vs Kf $ allocated t (f .locals) Γ _ (λ bs. taken t (env (f .locals) bs) vs (ok bs) Γ (k bs))
+      enter t C Λ f vs Kf $ allocated t (f .locals) Γ _ (λ bs. taken t (env (f .locals) bs) vs (ok bs) Γ (swapped t (begun (env (f .locals) bs) vs) Γ (k bs)))
 
   freed : K → (E : List (Ty × ℕ)) (vs : List Val) {Γ : List (Item 𝓤)} {G : Goal 𝓤 H} → Seq K W Γ G → Seq K W (cells E vs ++ Γ) (frees E G)
   freed t [] vs s = free0 t $ s
@@ -150,28 +136,8 @@ module _ {M : Type 1} {𝓤 : URA M} {H : Heap 𝓤} {A : Atoms 𝓤} {K : Type 
   freed t (e ∷ E) (v ∷ vs) s = forget t 0 refl $ free1 t $ freed t E vs s
 
   -- it ends: its locals are freed
-  pub all-freed : (E : List (Ty × ℕ)) (vs : List Val) → K → {Γ : List (Item 𝓤)} {G : Goal 𝓤 H} → Step K W Γ G (cells E vs ++ Γ) (frees E G)
-  all-freed E vs t = step (λ s. freed t E vs s)
-
--- ---- a `&mut` slice that is lent on
-
-module _ {M : Type 1} {𝓤 : URA M} {H : Heap 𝓤} {A : Atoms 𝓤} {K : Type 0} {W : Given 𝓤 H A} {Γ : List (Item 𝓤)} {E : Env 𝓤 H} where
-  found : {i : ℕ} {st : List PStep} {sp sp′ : Spot 𝓤 H} → spotOf 𝓤 H E i ≡ sp → Walks K W Γ E sp st sp′ → Finds K W Γ E (place i st) sp′
-  found {i} {st} e w = record { go = λ Kt h. subst (λ (sp : Spot 𝓤 H). ent 𝓤 (⋆ 𝓤 H A Γ) (walk 𝓤 H E sp st Kt)) (sym e) (w .go Kt h) }
-
-part : {M : Type 1} {𝓤 : URA M} {H : Heap 𝓤} {A : Atoms 𝓤} {K : Type 0} {W : Given 𝓤 H A} → K → {i : Item 𝓤} {τ : Ty} {l : ℕ} {v : Val} → i ≡ ‵ (fat fullShare τ l zero v) → Part K W i fullShare τ l zero v (λ u. ‵ (fat fullShare τ l zero u))
-part {𝓤 = 𝓤} {K = K} {W = W} t {τ = τ} {l = l} {v = v} e = subst (λ (i : Item 𝓤). Part K W i fullShare τ l zero v (λ u. ‵ (fat fullShare τ l zero u))) (sym e) (whole t)
-
--- the slice is at entry p; there is room for its pointer at entry a, and for the new slice at entry c
-pub lent : {M : Type 1} {𝓤 : URA M} {H : Heap 𝓤} {A : Atoms 𝓤} {K : Type 0} {W : Given 𝓤 H A} {Γ : List (Item 𝓤)} {E : Env 𝓤 H} {C : Calls 𝓤 H} {Λ : Loops 𝓤 H} {Q : Post 𝓤 H} {ℓ : Lifetime} {w : Width} {i j k : ℕ} {next : Body} {l l₁ l₂ n : ℕ} {x : ℕ × ℕ}
-    → K → (p a c : ℕ) → let Γ′ = put 𝓤 H A a (‵ (fat fullShare (pointer erased mut w) l₁ zero (vptr (x .0) (x .1)))) Γ in
-    spotOf 𝓤 H E i ≡ (slice ℓ mut w, l, zero) → spotOf 𝓤 H E j ≡ (pointer erased mut w, l₁, zero) → spotOf 𝓤 H E k ≡ (slice erased mut w, l₂, zero)
-    → nth 𝓤 H A p Γ ≡ ‵ (fat fullShare (slice ℓ mut w) l zero (sliceVal x n)) → nth 𝓤 H A a Γ ≡ ‵ (froom (pointer erased mut w) l₁ zero)
-    → nth 𝓤 H A p Γ′ ≡ ‵ (fat fullShare (slice ℓ mut w) l zero (sliceVal x n)) → nth 𝓤 H A a Γ′ ≡ ‵ (fat fullShare (pointer erased mut w) l₁ zero (vptr (x .0) (x .1))) → nth 𝓤 H A c Γ′ ≡ ‵ (froom (slice erased mut w) l₂ zero)
-    → n < 2 ^ 64 → Step K W (put 𝓤 H A c (‵ (fat fullShare (slice erased mut w) l₂ zero (sliceVal x n))) Γ′) (runs C Λ E next Q) Γ (runs C Λ E (lends w i j k next) Q)
-lent t p a c slot-i slot-j slot-k at-p at-a then-p then-a at-c fits = step (λ s.
-    assigns t (addr t (found slot-i (fld t refl (hop t (look-in t p (sub t 0 refl (part t at-p))) (stop t))))) (found slot-j (stop t)) (init t a at-a (tt, tt)) $
-    assigns t (agg t (and-then t (load t (found slot-j (stop t)) (look t a then-a)) (and-then t (load t (found slot-i (fld t refl (stop t))) (look-in t p (sub t 1 refl (part t then-p)))) (no-more t)))) (found slot-k (stop t)) (init t c at-c (counted fits)) $ s)
+  pub all-freed : (Γ : List (Item 𝓤)) (E : List (Ty × ℕ)) (vs : List Val) → K → {G : Goal 𝓤 H} → Step K W Γ G (Γ ++ cells E vs) (frees E G)
+  all-freed Γ E vs t = step (λ s. swapped t Γ (cells E vs) (freed t E vs s))
 
 -- ---- a call that has returned
 

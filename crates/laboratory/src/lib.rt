@@ -1,11 +1,13 @@
 // The operations of the surface laboratory for C.
 ghost use mathlib.Core.Path.{_≡_};
+ghost use Rattle.steps.specs.Settings.{given};
 ghost use Rattle.cable_trace.specs.Answers.{cableOf, Output};
 ghost use Rattle.readings.specs.Readings.{listsOf};
 ghost use Rattle.laboratory.specs.Calls.{answered};
 ghost use Rattle.laboratory.specs.Readings.{ReadOut};
 use readings::Power;
 use readings::ReadAnswer;
+use steps::settings::Settings;
 
 // The trace that a station receives over a cable, or the number of the refusal and the output as it was.
 #[no_mangle]
@@ -21,9 +23,17 @@ pub extern "C" fn tigbulode_cable(
     training: usize,
     out: &mut [u8],
 ) -> u8
-    ensures { λ number. ⌜ Output (cableOf p q n r l m (now (response .entry)) (now (symbols .entry)) training) (now (out .entry)) number (now (out .exit)) ⌝ }
+    ensures { λ number. ⌜ Output (cableOf (given p q n r l m) (now (response .entry)) (now (symbols .entry)) training) (now (out .entry)) number (now (out .exit)) ⌝ }
 {
-    cable_trace::cable(p, q, n, r, l, m, response, symbols, training, out)
+    let k = Settings {
+        p: p,
+        q: q,
+        N: n,
+        r: r,
+        L: l,
+        M: m,
+    };
+    cable_trace::cable(k, response, symbols, training, out)
 }
 
 // The error power of a block: 0 or 11, whether it is only a floor, and the power.

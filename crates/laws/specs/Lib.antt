@@ -9,8 +9,6 @@ pub mod Loops
 pub mod Sums
 pub mod Machine
 pub mod Tests
-pub mod Comparisons
 pub mod Values
 pub mod Lent
-pub mod Fills
 pub mod Negated

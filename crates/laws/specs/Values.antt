@@ -7,8 +7,8 @@ use Prim.Native.Nat.{ℕ, zero, suc, _+_, _*_, _≤_, _<_}
 use native.Mathlib.Omega.{arith}
 use native.Mathlib.Nat.{eq-or-lt-of-le, suc-inj, mul-le-mul-left}
 use native.Mathlib.Numerals.{add-one}
-use lib.ListN.{length, getD, take, set, length-append, List·getD-append}
-use lib.Seq.{getD-at, getD-append-add, ext-getD, take-all, take-append-le}
+use lib.ListN.{length, getD, set, length-append, List·getD-append}
+use lib.Seq.{getD-at, getD-append-add, ext-getD}
 use Rattle.laws.specs.Lists.{all}
 use Rattle.laws.specs.Loops.{Written, written-next, written-all}
 use Rattle.laws.specs.Sums.{Each, each-of}
@@ -31,17 +31,6 @@ values-at f d (suc n) i h = go (eq-or-lt-of-le h) (λ l. values-at f d n i l)
     go : (suc i ≡ suc n) ⊎ (suc i < suc n) → (i < n → getD (values f n) i d ≡ f i) → getD (values f n ++ (f n ∷ [])) i d ≡ f i
     go (inl q) rest = getD-at (values f n) (f n) [] d i (values-length f n ∙ sym (suc-inj q)) ∙ ap f (sym (suc-inj q))
     go (inr l) rest = List·getD-append (values f n) (f n ∷ []) d i (omega (arith, values-length f n)) ∙ rest (omega arith)
-
--- the front of more values
-pub take-values : {A : Type 0} (f : ℕ → A) (n k : ℕ) → n ≤ k → take n (values f k) ≡ values f n
-unfolding values
-take-values f zero zero h = refl
-take-values f (suc n) zero h = absurd (omega arith)
-take-values f n (suc k) h = go (eq-or-lt-of-le h) (λ l. take-values f n k l)
-  where
-    go : (n ≡ suc k) ⊎ (n < suc k) → (n ≤ k → take n (values f k) ≡ values f n) → take n (values f k ++ (f k ∷ [])) ≡ values f n
-    go (inl q) rest = take-all n (values f (suc k)) (omega (arith, values-length f (suc k))) ∙ ap (values f) (sym q)
-    go (inr l) rest = take-append-le n (values f k) (f k ∷ []) (omega (arith, values-length f k)) ∙ rest (omega arith)
 
 module _ {A : Type 0} (d : A) where
   -- those of equal functions

@@ -2,9 +2,10 @@
 use libc::STDOUT_FILENO;
 use numbers::bit_length::magnitude;
 use numbers::scale_count::scale_count;
+use one_sample::IMAGE;
+use one_sample::run_sample;
 use state::equaliser::Equaliser;
-use vectors::sample::IMAGE;
-use vectors::sample::run_sample;
+use steps::settings::Settings;
 
 fn text(s: &[u8]) {
     io::write_all(STDOUT_FILENO, s);
@@ -40,7 +41,15 @@ fn signed_long(before: &[u8], z: i32) {
 }
 
 fn set_up(p: u8, q: u8, n: u8, r: u8, l: u8, m: u32) {
-    let a = Equaliser::set_up(p, q, n, r, l, m);
+    let k = Settings {
+        p: p,
+        q: q,
+        N: n,
+        r: r,
+        L: l,
+        M: m,
+    };
+    let a = Equaliser::set_up(k);
     byte(b"set-up p ", p);
     byte(b" q ", q);
     byte(b" N ", n);

@@ -2,7 +2,7 @@
 use mathlib.Core.Path.{_≡_, refl, sym, ap, ap₂, _∙_, subst}
 use mathlib.Core.Bool.{Bool, true, false}
 use mathlib.Core.List.{List, [], _∷_}
-use Prim.Native.Nat.{zero, suc, _^_}
+use Prim.Native.Nat.{ℕ, zero, suc, _^_}
 use lib.Dec.{eqb, leb}
 use lib.ListN.{length, length-map}
 use native.Mathlib.Omega.{arith}
@@ -10,6 +10,7 @@ use lib.IntN.{ℤ, pos, negsuc, negℤ}
 use mir.Syntax.{w16}
 use mir.Val.{SFits}
 use borrow.Author.Tests.{eqb-true, eqb-false, leb-true, leb-false}
+use Rattle.laws.specs.Lists.{all}
 use Rattle.laws.specs.Negated.{negated, negated-negated}
 use Rattle.laws.specs.Sums.{Each}
 use Rattle.steps.specs.Settings.{Settings}
@@ -45,15 +46,20 @@ module _ (s s′ : Equaliser) (p : SwappedPair s s′) (l l′ : Buffers) (b : S
   on-both : {A : Type 0} (f : Settings → Memory → Block → A) → f (settings s′) (memory s′) (l′ .block) ≡ f (settings s) (swapped (memory s)) (swappedBlock (l .block))
   on-both f = ap₂ (λ (k : Settings) (o : Memory). f k o (l′ .block)) (p .settings-same) (p .memory-swapped) ∙ ap (f (settings s) (swapped (memory s))) (b .block-swapped)
 
+  -- whatever is said of a block
+  of-block : {A : Type 0} (f : Block → A) → f (l′ .block) ≡ f (swappedBlock (l .block))
+  of-block f = ap f (b .block-swapped)
+
   -- ---- the number
 
   lengths-same : lengthsFit (s .n) l′ ≡ lengthsFit (s .n) l
   lengths-same =
-      rw (b .block-swapped, length-map (l .block .samples) negℤ, b .lengths-same)
+      ap (all (λ (n : ℕ). eqb n (s .n))) (ap₂ _∷_ (of-block (λ (i : Block). length (i .samples)) ∙ length-map (l .block .samples) negℤ)
+      (ap₂ _∷_ (of-block (λ (i : Block). length (i .gains))) (ap₂ _∷_ (of-block (λ (i : Block). length (i .entries))) (b .lengths-same))))
 
   checks-same : checkNumber s′ l′ ≡ checkNumber s l
   checks-same =
-      check-same s s′ l l′ (p .settings-same) (examined-same s s′ (p .settings-same) (p .state .sound) (p .state′ .sound)) lengths-same (ap (λ (i : Block). i .gains) (b .block-swapped)) (ap (λ (i : Block). i .entries) (b .block-swapped))
+      check-same s s′ l l′ (p .settings-same) (examined-same s s′ (p .settings-same) (p .state .sound) (p .state′ .sound)) lengths-same (of-block (λ (i : Block). i .gains)) (of-block (λ (i : Block). i .entries))
 
   going-same : ψFits (settings s′) (memory s′) (l′ .block) (s′ .n) ≡ ψFits (settings s) (memory s) (l .block) (s .n)
   going-same = on-both (λ k o i. ψFits k o i (k .N)) ∙ ψ-fits-same (settings s) (memory s) (l .block) (s .n)
@@ -118,7 +124,7 @@ none-lowest (x ∷ m) h = ((λ e. absurd (omega (arith, subst (SFits w16) (ap ne
 
 pub not-lowest : (b : BuffersOfBoth) → Each NotLowest (b .l .block .samples) × Each NotLowest (b .l′ .block .samples)
 not-lowest b =
-    (none-lowest _ (subst (Each (SFits w16)) there (b .typed′ .samples)), none-lowest _ (subst (Each (SFits w16)) (sym back) (b .typed .samples)))
+    (none-lowest (b .l .block .samples) (subst (Each (SFits w16)) there (b .typed′ .samples)), none-lowest (b .l′ .block .samples) (subst (Each (SFits w16)) (sym back) (b .typed .samples)))
   where
     there : b .l′ .block .samples ≡ negated (b .l .block .samples)
     there = ap (λ (i : Block). i .samples) (b .lists .block-swapped)

@@ -60,7 +60,7 @@ partner s = stateOf (settings s) (swapped (memory s))
 pub record SameAnswers (l : Buffers) (n : ℕ) (h : Outputs) (l′ : Buffers) (n′ : ℕ) (h′ : Outputs) : Type 0 where
   pub number-same : n′ ≡ n
   pub outputs-same : n ≡ 0 → h′ ≡ h
-  pub outputs-kept : (n ≡ 0 → ⊥) → (h ≡ l .outputs) × (h′ ≡ l .outputs′)
+  pub outputs-kept : (n ≡ 0 → ⊥) → (h ≡ l .outputs) × (h′ ≡ l′ .outputs)
 
 abbrev pub SameRuns : Equaliser → Buffers → Equaliser → Buffers → Type 0
 SameRuns s l s′ l′ = SameAnswers l (runNumber s l) (runOutputs s l) l′ (runNumber s′ l′) (runOutputs s′ l′)

@@ -61,6 +61,10 @@ module _ (k : Settings) (count : ℕ) (m : ℕ → ℤ) (g : ℕ → ℕ) (e : �
   abbrev rest : List ℕ
   rest = samplePart m g n ++ entryPart e n
 
+  pub trace-parts : traceHeader k count ++ rest ≡ t
+  unfolding traceOf
+  trace-parts = refl
+
   -- the count and M, and what comes after them
   abbrev ends : List ℕ
   ends = bytes 2 count ++ (bytes 4 (k .M) ++ rest)

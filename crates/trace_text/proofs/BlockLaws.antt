@@ -20,13 +20,13 @@ use Rattle.trace_layout.specs.Trace.{traceLimit, settingsIn, countIn, samplesIn
 use Rattle.trace_layout.proofs.ReadLaws.{well-long, well-most}
 use Rattle.trace_layout.specs.Calls.{Read-is}
 use Rattle.filter.proofs.DecisionSize.{decision-most}
-use Rattle.block.specs.Block.{Outputs, Γ, at, entryAt, blockY, blockξ, blockDecision}
+use Rattle.block.specs.Block.{Outputs, outputsOf, Γ, at, entryAt, blockOutputs}
 use Rattle.block.proofs.BlockMemory as Left
 use Rattle.block.proofs.BlockHolds.{at-sample, output-at}
 use Rattle.state.specs.State.{settings, memory}
 use Rattle.state.specs.declared.equaliser.Equaliser.{Equaliser}
 use Rattle.state.specs.declared.equaliser.Answer.{Answer}
-use Rattle.checks.specs.Checks.{Buffers, block, buffersOf}
+use Rattle.checks.specs.Checks.{Buffers, buffersOf}
 use Rattle.checks.specs.Calls.{Sampled, Checked}
 use Rattle.checks.proofs.CheckLaws.{checked-is}
 use Rattle.station.specs.Answers.{runNumber, Run}
@@ -76,13 +76,13 @@ buffers-is t n first m gains entries y xi decision z theta h r a b = rw (r .m-is
 
 -- what a run answers, without Z and θ
 pub ran-is : {e : Equaliser} {given l : Buffers} {a : Answer} {y : List ℤ} {xi : List ℕ} {decision z : List ℤ} {theta : List ℕ} →
-    given ≡ l → Run e given a y xi decision z theta → Ran-is e l a y xi decision
+    given ≡ l → Run e given a (outputsOf y xi decision z theta) → Ran-is e l a y xi decision
 ran-is {e} {given} {l} {a} {y} {xi} {decision} same r =
     subst (λ (k : Buffers). Ran-is e k a y xi decision) same
-    (record { number = r .number; state = r .state; y-is = r .y-is; xi-is = r .xi-is; decision-is = r .decision-is })
+    (record { number = r .number; state = r .state; y-is = ap (λ (o : Outputs). o .y) (r .outputs); xi-is = ap (λ (o : Outputs). o .xi) (r .outputs); decision-is = ap (λ (o : Outputs). o .decision) (r .outputs) })
 
 -- the samples of a trace have 16 bits
-pub sampled : (t : List ℕ) (first : ℕ) (y : List ℤ) (xi : List ℕ) (decision : List ℤ) → ((i : ℕ) → byteAt t i < 256) → Sampled (buffersWith t first y xi decision .m)
+pub sampled : (t : List ℕ) (first : ℕ) (y : List ℤ) (xi : List ℕ) (decision : List ℤ) → ((i : ℕ) → byteAt t i < 256) → Sampled (buffersWith t first y xi decision .block .samples)
 unfolding buffersWith
 sampled t first y xi decision h =
     each-of (λ (z : ℤ). natAbs z ≤ 2 ^ 15) (pos 0) (samplesFrom t first (settingsIn t .N)) (λ i k.
@@ -95,28 +95,28 @@ sampled t first y xi decision h =
 -- ---- what an accepted block hands out can be printed
 
 module _ (e : Equaliser) (l : Buffers) (place : ℕ) (run : runNumber e l ≡ 0) (w : length (e .weights) ≡ slots) (d : length (e .past) ≡ slots)
-    (m : Sampled (l .m)) (room : place + e .n ≤ traceLimit) where
-  c : Checked e (block l)
+    (m : Sampled (l .block .samples)) (room : place + e .n ≤ traceLimit) where
+  c : Checked e (l .block)
   c = checked-is e l (run-tests e l run .0) w d m
 
   each : (i : ℕ) → i < e .n →
-      Printable (place + i) (getD (blockY (settings e) (memory e) (block l)) i (pos 0)) (getD (blockξ (settings e) (memory e) (block l)) i 0)
-      (getD (blockDecision (settings e) (memory e) (block l)) i (pos 0))
+      Printable (place + i) (getD (blockOutputs (settings e) (memory e) (l .block) .y) i (pos 0)) (getD (blockOutputs (settings e) (memory e) (l .block) .xi) i 0)
+      (getD (blockOutputs (settings e) (memory e) (l .block) .decision) i (pos 0))
   each i h =
-      let s = at-sample (settings e) (memory e) (block l) (c .sound) (c .acceptable) (run-tests e l run .1) i h in
-      let o = output-at (settings e) (memory e) (block l) i h in
-      let entry = entryAt (settings e) (memory e) (block l) i in
+      let s = at-sample (settings e) (memory e) (l .block) (c .sound) (c .acceptable) (run-tests e l run .1) i h in
+      let o = output-at (settings e) (memory e) (l .block) i h in
+      let entry = entryAt (settings e) (memory e) (l .block) i in
       rw (o .Y-is, o .ξ-is, o .decision-is)
       (record {
         place-below = omega (arith, room);
         Y-below = s .bounded .Y-small;
         ξ-most = s .bounded .ξ-most;
-        decision-below = decision-most (settings e) (Γ (settings e) (memory e) (block l)) (at (settings e) (memory e) (block l) i) entry (c .sound .within .r-most);
+        decision-below = decision-most (settings e) (Γ (settings e) (memory e) (l .block)) (at (settings e) (memory e) (l .block) i) entry (c .sound .within .r-most);
       })
 
-  pub printable : AllPrintable place (blockY (settings e) (memory e) (block l)) (blockξ (settings e) (memory e) (block l)) (blockDecision (settings e) (memory e) (block l))
+  pub printable : AllPrintable place (blockOutputs (settings e) (memory e) (l .block) .y) (blockOutputs (settings e) (memory e) (l .block) .xi) (blockOutputs (settings e) (memory e) (l .block) .decision)
   printable =
-      let long = Left.block-long (settings e) (memory e) (block l) in
+      let long = Left.block-long (settings e) (memory e) (l .block) in
       record {
         short = omega (arith, long .y-long, c .sound .within .N-most);
         ξ-long = long .xi-long ∙ sym (long .y-long);
@@ -126,7 +126,7 @@ module _ (e : Equaliser) (l : Buffers) (place : ℕ) (run : runNumber e l ≡ 0)
 
   pub block-short : length (blockLines place e l) ≤ lineLimit * e .n
   unfolding blockLines
-  block-short = lines-short place _ _ _ (e .n) printable (omega (arith, Left.block-long (settings e) (memory e) (block l) .y-long))
+  block-short = lines-short place _ _ _ (e .n) printable (omega (arith, Left.block-long (settings e) (memory e) (l .block) .y-long))
 
 -- ---- what an accepted block handed out, at the front of work areas
 
@@ -134,31 +134,31 @@ module _ {e : Equaliser} {l : Buffers} {a : Answer} {y : List ℤ} {xi : List �
   pub accepts : runNumber e l ≡ 0
   accepts = sym (r .number) ∙ z
 
-  Y-is : y ≡ blockY (settings e) (memory e) (block l)
+  Y-is : y ≡ blockOutputs (settings e) (memory e) (l .block) .y
   Y-is = r .y-is ∙ ap (λ (t : Outputs). t .y) (outputs-new e l accepts)
 
-  ξ-is : xi ≡ blockξ (settings e) (memory e) (block l)
+  ξ-is : xi ≡ blockOutputs (settings e) (memory e) (l .block) .xi
   ξ-is = r .xi-is ∙ ap (λ (t : Outputs). t .xi) (outputs-new e l accepts)
 
-  decision-is : decision ≡ blockDecision (settings e) (memory e) (block l)
+  decision-is : decision ≡ blockOutputs (settings e) (memory e) (l .block) .decision
   decision-is = r .decision-is ∙ ap (λ (t : Outputs). t .decision) (outputs-new e l accepts)
 
   pub block-long : (length y ≡ e .n) × (length xi ≡ e .n) × (length decision ≡ e .n)
   block-long =
-      let long = Left.block-long (settings e) (memory e) (block l) in
+      let long = Left.block-long (settings e) (memory e) (l .block) in
       (ap length Y-is ∙ long .y-long, ap length ξ-is ∙ long .xi-long, ap length decision-is ∙ long .decision-long)
 
   module _ (place : ℕ) (ry : List ℤ) (rx : List ℕ) (rd : List ℤ) where
-    front-Y : take (e .n) (y ++ ry) ≡ blockY (settings e) (memory e) (block l)
+    front-Y : take (e .n) (y ++ ry) ≡ blockOutputs (settings e) (memory e) (l .block) .y
     front-Y = front-is y ry (e .n) (block-long .0) ∙ Y-is
 
-    front-ξ : take (e .n) (xi ++ rx) ≡ blockξ (settings e) (memory e) (block l)
+    front-ξ : take (e .n) (xi ++ rx) ≡ blockOutputs (settings e) (memory e) (l .block) .xi
     front-ξ = front-is xi rx (e .n) (block-long .1) ∙ ξ-is
 
-    front-decision : take (e .n) (decision ++ rd) ≡ blockDecision (settings e) (memory e) (block l)
+    front-decision : take (e .n) (decision ++ rd) ≡ blockOutputs (settings e) (memory e) (l .block) .decision
     front-decision = front-is decision rd (e .n) (block-long .2) ∙ decision-is
 
-    pub front-printable : length (e .weights) ≡ slots → length (e .past) ≡ slots → Sampled (l .m) → place + e .n ≤ traceLimit →
+    pub front-printable : length (e .weights) ≡ slots → length (e .past) ≡ slots → Sampled (l .block .samples) → place + e .n ≤ traceLimit →
         AllPrintable place (take (e .n) (y ++ ry)) (take (e .n) (xi ++ rx)) (take (e .n) (decision ++ rd))
     front-printable w d m room = rw (front-Y, front-ξ, front-decision) (printable e l place accepts w d m room)
 

@@ -27,14 +27,14 @@ module _ (t : List ℕ) (first : ℕ) where
         eq-eqb _ N (length-replicate {A = ℕ} N 0),
       )
 
-  pub buffers-samples : (P : ℤ → Type 0) → ((j : ℕ) → j < settingsIn t .N → P (traceSample t (first + j))) → Each P (buffersAt t first .m)
+  pub buffers-samples : (P : ℤ → Type 0) → ((j : ℕ) → j < settingsIn t .N → P (traceSample t (first + j))) → Each P (buffersAt t first .block .samples)
   unfolding buffersWith
   buffers-samples P h = values-each (pos 0) P (λ j. traceSample t (first + j)) (settingsIn t .N) h
 
-  pub buffers-gains : (p : ℕ → Bool) → ((j : ℕ) → j < settingsIn t .N → p (traceGain t (first + j)) ≡ true) → all p (buffersAt t first .gains) ≡ true
+  pub buffers-gains : (p : ℕ → Bool) → ((j : ℕ) → j < settingsIn t .N → p (traceGain t (first + j)) ≡ true) → all p (buffersAt t first .block .gains) ≡ true
   unfolding buffersWith
   buffers-gains p h = values-tested 0 p (λ j. traceGain t (first + j)) (settingsIn t .N) h
 
-  pub buffers-entries : (p : ℤ → Bool) → ((j : ℕ) → j < settingsIn t .N → p (traceEntry t (first + j)) ≡ true) → all p (buffersAt t first .entries) ≡ true
+  pub buffers-entries : (p : ℤ → Bool) → ((j : ℕ) → j < settingsIn t .N → p (traceEntry t (first + j)) ≡ true) → all p (buffersAt t first .block .entries) ≡ true
   unfolding buffersWith
   buffers-entries p h = values-tested (pos 0) p (λ j. traceEntry t (first + j)) (settingsIn t .N) h

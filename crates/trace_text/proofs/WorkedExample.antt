@@ -14,7 +14,7 @@ use Rattle.steps.specs.Decision.{decide}
 use Rattle.steps.specs.Error.{error, errorExponent}
 use Rattle.trace_layout.specs.Trace.{wellFormed}
 use Rattle.filter.specs.Sample.{ν, F, H, Y, ξ, decision, v, κ, Z, θ, J, outcomeOf, newForward, newBack, outcome, next}
-use Rattle.block.specs.Block.{receivedAll, newb, newB, Γ, stored, old, start, after, at, ψFits, blockY, blockξ, blockDecision, nextMemory}
+use Rattle.block.specs.Block.{receivedAll, newb, newB, Γ, stored, old, start, after, at, ψFits, blockOutputs, nextMemory}
 use Rattle.state.specs.Sizes.{settingsNumber}
 use Rattle.state.specs.State.{isSound, stateOf, fresh}
 use Rattle.station.specs.Answers.{runNumber, runState}
@@ -27,7 +27,7 @@ use Rattle.trace_text.proofs.DecimalLaws.{decimal-one, decimal-steps}
 
 -- all definitions but those of the digits, opened
 steps : Unit {0}
-unfolding scaleCount bitLength cut dot largest adapt largestBits output outputExponent decide error errorExponent ν F H Y ξ decision v κ Z θ J outcomeOf newForward newBack outcome next receivedAll values newb newB Γ stored old start after at ψFits blockY blockξ blockDecision nextMemory settingsNumber isSound stateOf fresh examined checkNumber runNumber runState signedDecimal wellFormed buffersWith field line stopLine lines blockLines blockText textFrom traceText
+unfolding scaleCount bitLength cut dot largest adapt largestBits output outputExponent decide error errorExponent ν F H Y ξ decision v κ Z θ J outcomeOf newForward newBack outcome next receivedAll values newb newB Γ stored old start after at ψFits blockOutputs nextMemory settingsNumber isSound stateOf fresh examined checkNumber runNumber runState signedDecimal wellFormed buffersWith field line stopLine lines blockLines blockText textFrom traceText
 steps = tt
 
 -- p = q = N = 1, r = L = 0, two blocks, M = 67108864; m = 16384 with gain 0 twice; trained on 1, then decided

@@ -6,11 +6,11 @@ use lib.Dec.{eqb}
 use lib.ListN.{getD}
 use lib.IntN.{ℤ, pos}
 use Rattle.trace_layout.specs.Trace.{settingsIn, countIn, wellFormed}
-use Rattle.block.specs.Block.{blockY, blockξ, blockDecision}
+use Rattle.block.specs.Block.{blockOutputs}
 use Rattle.state.specs.Sizes.{settingsNumber}
 use Rattle.state.specs.State.{settings, memory, fresh}
 use Rattle.station.specs.Answers.{runNumber, runState}
-use Rattle.checks.specs.Checks.{Buffers, block}
+use Rattle.checks.specs.Checks.{Buffers}
 use Rattle.state.specs.declared.equaliser.Equaliser.{Equaliser}
 use Rattle.trace_text.specs.Decimal.{signedDecimal}
 use Rattle.trace_text.specs.Trace.{buffersAt}
@@ -41,7 +41,8 @@ lines place Y ξ d (suc n) = lines place Y ξ d n ++ line (place + n) (getD Y n 
 -- the lines of an accepted block
 unfoldable pub blockLines : ℕ → Equaliser → Buffers → List ℕ
 blockLines place e l =
-    lines place (blockY (settings e) (memory e) (block l)) (blockξ (settings e) (memory e) (block l)) (blockDecision (settings e) (memory e) (block l)) (e .n)
+    let o = blockOutputs (settings e) (memory e) (l .block) in
+    lines place (o .y) (o .xi) (o .decision) (e .n)
 
 -- what the block i adds to the text: its lines, or the line of its refusal
 unfoldable pub blockText : List ℕ → Equaliser → ℕ → List ℕ

@@ -4,6 +4,7 @@ use Prim.Native.Nat.{ℕ}
 use lib.ListN.{replicate}
 use lib.IntN.{ℤ, pos}
 use Rattle.trace_layout.specs.Trace.{settingsIn, samplesFrom, gainsFrom, entriesFrom}
+use Rattle.block.specs.Block.{blockOf, outputsOf}
 use Rattle.checks.specs.Checks.{Buffers}
 
 -- the lists of a block whose first sample has this place, with lists for Y, ξ and decision
@@ -11,14 +12,8 @@ unfoldable pub buffersWith : List ℕ → ℕ → List ℤ → List ℕ → List
 buffersWith t first y xi decision =
     let N = settingsIn t .N in
     record {
-      m = samplesFrom t first N;
-      gains = gainsFrom t first N;
-      entries = entriesFrom t first N;
-      y = y;
-      xi = xi;
-      decision = decision;
-      z = replicate N (pos 0);
-      theta = replicate N 0;
+      block = blockOf (samplesFrom t first N) (gainsFrom t first N) (entriesFrom t first N);
+      outputs = outputsOf y xi decision (replicate N (pos 0)) (replicate N 0);
     }
 
 -- all lists for what it hands out are zeros

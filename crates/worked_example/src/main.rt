@@ -1,9 +1,10 @@
 // Sets a station up, runs two blocks and writes the image of the state in hexadecimal.
 ghost use Prim.Native.Nat.{_<_};
 use libc::STDOUT_FILENO;
+use one_sample::IMAGE;
+use one_sample::run_sample;
 use state::equaliser::Equaliser;
-use vectors::sample::IMAGE;
-use vectors::sample::run_sample;
+use steps::settings::Settings;
 
 const LAST: usize = IMAGE - 1;
 
@@ -36,7 +37,15 @@ fn put_all(image: &[u8; IMAGE]) {
 }
 
 fn run() {
-    let fresh = Equaliser::set_up(1, 1, 1, 0, 0, 67108864);
+    let k = Settings {
+        p: 1,
+        q: 1,
+        N: 1,
+        r: 0,
+        L: 0,
+        M: 67108864,
+    };
+    let fresh = Equaliser::set_up(k);
     let first = block(fresh.state, 1);
     let second = block(first, 0);
     let mut image = [0u8; IMAGE];

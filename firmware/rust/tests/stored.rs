@@ -1,8 +1,8 @@
 //! The stored outputs are the second implementation's, the records are laid
 //! out as the header has them, and the README shows what is stored.
 
-use reference::vectors::image_vectors;
-use reference::Settings;
+use reference::vectors::{block_vectors, image_vectors, BlockVector};
+use reference::{image_length, Settings};
 use std::mem::{offset_of, size_of};
 use tigbulode::compare::{text, text_changed, CHANGED_COUNT, COUNT, SEED};
 use tigbulode::sides::{Operations, Second};
@@ -31,6 +31,36 @@ fn the_images() {
     text += &format!("changed expectations told apart: {changes} of {changes}\n");
     text += "no difference\n";
     assert_eq!(text, include_str!("../../images.out"));
+}
+
+/// How many changed expectations blocks.c has for a call with a vector: nine
+/// other answers, each byte of the state, of the record, of the eight lists with
+/// four values on either side, and where it is accepted of the image and of what
+/// the file says of it.
+fn changes_of_block(vector: &BlockVector) -> usize {
+    let [y, xi, decision, z, theta] = vector.output_lengths;
+    let (samples, gains, entries) = (&vector.samples, &vector.gains, &vector.training);
+    let read = 2 * samples.len() + gains.len() + entries.len();
+    let lists = read + 4 * (y + z) + xi + decision + theta;
+    let around = (2 + 1 + 1 + 4 + 1 + 1 + 4 + 1) * 2 * 4;
+    let accepted = image_length(&vector.after.settings) + 11 * samples.len() + 140;
+    9 + 2 * 140 + lists + around + [0, accepted][usize::from(vector.number == 0)]
+}
+
+#[test]
+fn the_blocks() {
+    let blocks = block_vectors();
+    let count = |number: u8| blocks.iter().filter(|b| b.number == number).count();
+    let (all, good) = (blocks.len(), count(0));
+    let other = all - good;
+    let mut text = format!("blocks {all}, run and tried: accepted {good}, turned down {other}\n");
+    for number in [0, 1, 2, 3, 4, 5, 6, 9] {
+        text += &format!("answer {number}: {}\n", count(number));
+    }
+    let changes = 2 * blocks.iter().map(changes_of_block).sum::<usize>();
+    text += &format!("changed expectations told apart: {changes} of {changes}\n");
+    text += "no difference\n";
+    assert_eq!(text, include_str!("../../blocks.out"));
 }
 
 #[test]

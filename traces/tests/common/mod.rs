@@ -1,8 +1,10 @@
-//! Any trace of the right length, and the traces that the second implementation
-//! made.
+//! Any trace of the right length, the traces that the second implementation
+//! made, and programs that are run on an input.
 #![allow(dead_code)]
 
 use reference::random::Random;
+use std::io::Write;
+use std::process::{Command, Stdio};
 use traces::trace::{Sample, Settings, Trace};
 
 /// The specification's worked example.
@@ -66,10 +68,7 @@ fn bend(random: &mut Random, s: &mut Settings) {
 
 /// The second implementation's traces with their texts.
 pub fn stored() -> Vec<(Vec<u8>, String)> {
-    let path = concat!(
-        env!("CARGO_MANIFEST_DIR"),
-        "/../crates/trace_vectors/data/traces.bin"
-    );
+    let path = concat!(env!("CARGO_MANIFEST_DIR"), "/traces.bin");
     let bytes = std::fs::read(path).unwrap();
     let mut rest = &bytes[..];
     let mut take = || {
@@ -86,6 +85,32 @@ pub fn stored() -> Vec<(Vec<u8>, String)> {
         stored.push((trace, String::from_utf8(text).unwrap()));
         if ended {
             return stored;
+        }
+    }
+}
+
+/// What a program ended with and wrote.
+pub struct Ended {
+    pub status: Option<i32>,
+    pub out: Vec<u8>,
+    pub err: String,
+}
+
+impl Ended {
+    pub fn on(command: &mut Command, input: &[u8]) -> Ended {
+        let mut child = command
+            .stdin(Stdio::piped())
+            .stdout(Stdio::piped())
+            .stderr(Stdio::piped())
+            .spawn()
+            .unwrap();
+        // a program that turns its words down reads nothing
+        let _ = child.stdin.take().unwrap().write_all(input);
+        let ended = child.wait_with_output().unwrap();
+        Ended {
+            status: ended.status.code(),
+            out: ended.stdout,
+            err: String::from_utf8(ended.stderr).unwrap(),
         }
     }
 }

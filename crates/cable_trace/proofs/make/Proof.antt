@@ -29,7 +29,7 @@ use Rattle.cable_trace.proofs.make.Statement.{statement}
 use Rattle.cable_trace.proofs.make.Tie as tie
 
 abbrev cable : tie.Start → Cable
-cable c = let a = c .args in cableOf (a .p) (a .q) (a .n) (a .r) (a .l) (a .m) (a .response .now) (a .symbols .now) (a .training)
+cable c = let a = c .args in cableOf (a .k) (a .response .now) (a .symbols .now) (a .training)
 
 fitting : (c : tie.Start) → Listed (cable c) (length (c .args .out .now))
 fitting c = listed (cable c) (length (c .args .out .now)) (c .pre .lists)

@@ -11,7 +11,7 @@ use Rattle.cable_trace.proofs.causes.length_cause.Statement.{statement}
 use Rattle.cable_trace.proofs.causes.length_cause.Tie as tie
 
 abbrev cable : tie.Start → Cable
-cable c = cableOf 1 1 (c .args .n) 0 0 0 (c .args .response .now) (c .args .symbols .now) (c .args .training)
+cable c = cableOf (c .args .k) (c .args .response .now) (c .args .symbols .now) (c .args .training)
 
 abbrev start : tie.After-blocks-fit → tie.Start
 start c = c .before .before .before

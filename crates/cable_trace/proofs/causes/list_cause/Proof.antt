@@ -10,20 +10,15 @@ use Rattle.steps.specs.Settings.{isSymbol}
 use Rattle.cable_trace.specs.Calls.{sentLimit}
 use Rattle.cable_trace.specs.Cable.{Cable, lengthCause, sampleCount}
 use Rattle.cable_trace.specs.Answers.{cableOf}
-use Rattle.cable_trace.proofs.CauseLaws.{length-cause-same, lengths-few, length-off, symbols-off, room-off, lists-fit}
+use Rattle.cable_trace.proofs.CauseLaws.{lengths-few, length-off, symbols-off, room-off, lists-fit}
 use Rattle.cable_trace.proofs.causes.list_cause.Statement.{statement}
 use Rattle.cable_trace.proofs.causes.list_cause.Tie as tie
 
 abbrev cable : tie.Start → Cable
-cable c = cableOf 1 1 (c .args .n) (c .args .r) 0 0 (c .args .response .now) (c .args .symbols .now) (c .args .training)
-
-gave : (c : tie.After-length-cause) → c .length-cause .result ≡ lengthCause (cable (c .before))
-gave c =
-    let a = c .before .args in
-    c .length-cause .ensures ∙ length-cause-same 1 1 (a .n) (a .r) 0 0 (a .response .now) (a .symbols .now) (a .training)
+cable c = cableOf (c .args .k) (c .args .response .now) (c .args .symbols .now) (c .args .training)
 
 none : (c : tie.Else1) → lengthCause (cable (c .before .before)) ≡ 0
-none c = sym (gave (c .before)) ∙ c .if1 .left
+none c = sym (c .before .length-cause .ensures) ∙ c .if1 .left
 
 few : (c : tie.Else1) → sampleCount (cable (c .before .before)) ≤ sentLimit
 few c = lengths-few (cable (c .before .before)) (none c)
@@ -32,7 +27,7 @@ symbols : (c : tie.Else2) → let k = cable (c .before .before .before .before) 
 symbols c = sym (c .before .all-symbols .ensures) ∙ not-false _ (c .if2 .left)
 
 returns : tie.Need-returns
-returns c = let s = c .before .before in length-off (cable s) (s .args .room) _ (gave (c .before)) (c .if1 .taken)
+returns c = let s = c .before .before in length-off (cable s) (s .args .room) _ (c .before .length-cause .ensures) (c .if1 .taken)
 
 returns-2 : tie.Need-returns-2
 returns-2 c =

@@ -30,26 +30,11 @@ response-count-requires c κs = long (c .before .before)
 symbol-count-requires : tie.Need-symbol-count-requires
 symbol-count-requires c κs = long (c .before .before .before)
 
-step-requires : tie.Need-step-requires
-step-requires c κs = long (start c)
-
 training-count-requires : tie.Need-training-count-requires
 training-count-requires c κs = long (start (c .before))
 
-shared-slice-read-simulate : tie.Need-shared-slice-read-simulate
-shared-slice-read-simulate c = omega (arith, long (start (listed (c .before))))
-
-shared-slice-read-simulate-2 : tie.Need-shared-slice-read-simulate-2
-shared-slice-read-simulate-2 c = omega (arith, long (start (listed (c .before .before))))
-
-shared-slice-read-simulate-3 : tie.Need-shared-slice-read-simulate-3
-shared-slice-read-simulate-3 c = omega (arith, long (start (listed (c .before .before .before))))
-
-shared-slice-read-simulate-4 : tie.Need-shared-slice-read-simulate-4
-shared-slice-read-simulate-4 c = omega (arith, long (start (listed (c .before .before .before .before))))
-
-shared-slice-read-simulate-5 : tie.Need-shared-slice-read-simulate-5
-shared-slice-read-simulate-5 c = omega (arith, long (start (listed (c .before .before .before .before .before))))
+settings-in-requires : tie.Need-settings-in-requires
+settings-in-requires c κs = omega (arith, long (start (listed c)))
 
 -- ---- the lists
 

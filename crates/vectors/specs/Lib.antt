@@ -1,6 +1,0 @@
-pub mod Compare
-pub mod Trace
-pub mod Record
-pub mod Block
-pub mod Kind
-pub mod Sample
