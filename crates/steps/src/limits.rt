@@ -36,7 +36,7 @@ pub const DOUBLING: u16 = 1 << (WEIGHT_UNIT - 3);
 // X means X·2^(r − RECEIVED_UNIT); Γ is γ + RECEIVED_UNIT.
 pub const RECEIVED_UNIT: u32 = DATA_UNIT + GAIN;
 
-// A datum of the exponent x means a·2^(x − MANTISSA_UNIT).
+// A datum a of the exponent x means a·2^(x − MANTISSA_UNIT).
 pub const MANTISSA_UNIT: u32 = DATA_UNIT + RECEIVED_UNIT;
 
 // J·A·2^S is cut by so many bits to a weight's unit.

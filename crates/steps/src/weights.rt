@@ -149,14 +149,14 @@ pub fn all_zero(w: &[i16]) -> bool
 fn half(w: i16) -> i16
     ensures { λ r. ⌜ r ≡ cut w 1 ⌝ }
 {
-    w / 2
+    numbers::cut::cut(w as i64, 1) as i16
 }
 
 fn twice(w: i16) -> i16
     requires { ⌜ Small w ⌝ }
     ensures { λ r. ⌜ r ≡ raise w 1 ⌝ }
 {
-    w * 2
+    numbers::cut::raise(w as i64, 1) as i16
 }
 
 // Step 7: half of each weight.
