@@ -62,13 +62,7 @@ fn length_cause(k: Settings, response: &[i16], symbols: &[i8], training: usize) 
 }
 
 // 1 to 6: the first of them, or 0.
-pub fn list_cause(
-    k: Settings,
-    response: &[i16],
-    symbols: &[i8],
-    training: usize,
-    room: usize,
-) -> u8
+pub fn list_cause(k: Settings, response: &[i16], symbols: &[i8], training: usize, room: usize) -> u8
     requires { ⌜ (1 ≤ k .N) × (k .r ≤ symbolLimit) ⌝ }
     ensures { λ f. ⌜ f ≡ listCause (cableOf k (now (response .entry)) (now (symbols .entry)) training) room ⌝ }
 {

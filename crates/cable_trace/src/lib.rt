@@ -18,13 +18,7 @@ pub struct Simulated {
 }
 
 // The trace of a cable whose settings and lists fit. Whether its gains fit too: where they don't, the output is as it was.
-fn make(
-    k: Settings,
-    response: &[i16],
-    symbols: &[i8],
-    training: usize,
-    out: &mut [u8],
-) -> bool
+fn make(k: Settings, response: &[i16], symbols: &[i8], training: usize, out: &mut [u8]) -> bool
     requires { ⌜ Makeable (cableOf k (now response) (now symbols) training) (length (now out)) ⌝ }
     ensures { λ f. ⌜ Made (cableOf k (now (response .entry)) (now (symbols .entry)) training) (now (out .entry)) f (now (out .exit)) ⌝ }
 {
@@ -79,13 +73,7 @@ pub fn simulate(
 }
 
 // The same, without the cause.
-pub fn cable(
-    k: Settings,
-    response: &[i16],
-    symbols: &[i8],
-    training: usize,
-    out: &mut [u8],
-) -> u8
+pub fn cable(k: Settings, response: &[i16], symbols: &[i8], training: usize, out: &mut [u8]) -> u8
     ensures { λ number. ⌜ Output (cableOf k (now (response .entry)) (now (symbols .entry)) training) (now (out .entry)) number (now (out .exit)) ⌝ }
 {
     simulate(k, response, symbols, training, out).number

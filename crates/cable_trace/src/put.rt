@@ -61,13 +61,7 @@ pub fn entries(symbols: &[i8], training: usize, out: &mut [u8])
 }
 
 // The whole trace, from the word of each sample.
-fn word_trace(
-    k: Settings,
-    symbols: &[i8],
-    training: usize,
-    words: &[i32],
-    out: &mut [u8],
-)
+fn word_trace(k: Settings, symbols: &[i8], training: usize, words: &[i32], out: &mut [u8])
     requires { ⌜ Puttable k (now symbols) training (now words) (now out) ⌝ }
     ensures { λ _. ⌜ now (out .exit) ≡ traceBytes k (now (symbols .entry)) training (now (words .entry)) ⌝ }
 {
@@ -80,13 +74,7 @@ fn word_trace(
 }
 
 // The same from s of each symbol, which is replaced by the word of its sample.
-pub fn trace(
-    k: Settings,
-    symbols: &[i8],
-    training: usize,
-    sums: &mut [i32],
-    out: &mut [u8],
-)
+pub fn trace(k: Settings, symbols: &[i8], training: usize, sums: &mut [i32], out: &mut [u8])
     requires { ⌜ (Each (Gainable (k .r)) (now sums)) × (Puttable k (now symbols) training (sampleWords (k .r) (now sums)) (now out)) ⌝ }
     ensures { λ _. ⌜ (now (sums .exit) ≡ sampleWords (k .r) (now (sums .entry))) × (now (out .exit) ≡ traceBytes k (now (symbols .entry)) training (now (sums .exit))) ⌝ }
 {

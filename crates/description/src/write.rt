@@ -57,13 +57,7 @@ fn simulated(t: &[u8], out: &mut [u8]) -> Simulated
     let h = response(t, k);
     let sent = symbols(t, n);
     let training = read::training_count(t);
-    cable_trace::simulate(
-        settings_in(t),
-        &h[0..k],
-        &sent[0..n],
-        training,
-        out,
-    )
+    cable_trace::simulate(settings_in(t), &h[0..k], &sent[0..n], training, out)
 }
 
 // Where the trace of n symbols ends; 0 where it would be too long.

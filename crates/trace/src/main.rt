@@ -1,6 +1,6 @@
 // Reads a trace from standard input and writes its text to standard output.
-use trace_text::limits::TEXT;
 use trace_layout::limits::TRACE;
+use trace_text::limits::TEXT;
 
 // One byte more than a trace may have, so that an oversize one is seen, and room for the longest text.
 fn run() {

@@ -11,7 +11,7 @@ use lib.Dec.{T}
 use lib.Signed.{nonNeg}
 use mir.Val.{Fits, toZ, ofZ}
 use mir.Facts.{fits-natAbs}
-use borrow.Author.Needs.{needs, sfits-of}
+use borrow.Author.Needs.{sfits-of}
 use Rattle.laws.specs.Machine.{kept}
 use Rattle.laws.specs.Sums.{each-at}
 use Rattle.words.specs.Words.{bytes}

@@ -1,13 +1,10 @@
 -- Each test that fails decides the number, and the length decides it where the others pass.
 use mathlib.Core.Path.{_≡_, sym, ap, ap₂, _∙_}
-use mathlib.Core.Bool.{Bool}
 use mathlib.Core.List.{List}
 use Prim.Native.Nat.{ℕ, _+_, _≤_}
 use native.Mathlib.Omega.{arith}
-use lib.ListN.{length}
 use borrow.Author.Needs.{needs}
 use borrow.Author.Tests.{not-true, not-false}
-use Rattle.steps.specs.Settings.{Settings}
 use Rattle.state.specs.Sizes.{sizesFit}
 use Rattle.state.specs.State.{settings}
 use Rattle.image.specs.Layout.{endPlace, tapsIn, layoutOf}

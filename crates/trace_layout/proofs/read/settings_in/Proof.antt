@@ -1,6 +1,5 @@
 -- The bytes one by one, and the four of M.
 use mathlib.Core.Path.{ap}
-use Prim.Native.Nat.{ℕ}
 use borrow.Author.Needs.{needs}
 use Rattle.words.specs.Words.{byteAt}
 use Rattle.steps.specs.Settings.{given}
