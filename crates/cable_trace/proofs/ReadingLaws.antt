@@ -37,7 +37,7 @@ use Rattle.station.specs.Answers.{runNumber, runState}
 use Rattle.station.specs.Calls.{ψFitsBlock}
 use Rattle.station.proofs.AnswerLaws.{number-is}
 use Rattle.station.proofs.NumberLaws.{run-settings, run-accepted}
-use Rattle.trace_text.specs.Trace.{buffersAt}
+use Rattle.trace_text.specs.Buffers.{buffersAt}
 use Rattle.trace_text.specs.Text.{textFrom, traceText}
 use Rattle.trace_text.proofs.BufferLaws.{buffers-long, buffers-samples, buffers-gains, buffers-entries}
 use Rattle.trace_text.proofs.TraceLaws.{state-is, accepted-text}

@@ -13,7 +13,7 @@ use Rattle.state.specs.Sizes.{settingsNumber}
 use Rattle.state.specs.State.{fresh}
 use Rattle.state.specs.declared.equaliser.Equaliser.{Equaliser}
 use Rattle.station.specs.Answers.{runNumber, runState}
-use Rattle.trace_text.specs.Trace.{buffersAt}
+use Rattle.trace_text.specs.Buffers.{buffersAt}
 use Rattle.trace_text.specs.Text.{textFrom, traceText}
 use Rattle.cable_trace.specs.Cable.{Cable, s, gain, sample, entry, sampleCount, blockCount}
 

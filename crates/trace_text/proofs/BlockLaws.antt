@@ -31,7 +31,7 @@ use Rattle.checks.specs.Calls.{Sampled, Checked}
 use Rattle.checks.proofs.CheckLaws.{checked-is}
 use Rattle.station.specs.Answers.{runNumber, Run}
 use Rattle.station.proofs.AnswerLaws.{outputs-new, run-tests}
-use Rattle.trace_text.specs.Trace.{buffersWith, buffersAt}
+use Rattle.trace_text.specs.Buffers.{buffersWith, buffersAt}
 use Rattle.trace_text.specs.Text.{lines, blockLines, stopLine, blockText}
 use Rattle.trace_text.specs.Calls.{lineLimit, Printable, AllPrintable, Ran-is, OfTrace}
 use Rattle.trace_text.proofs.LineLaws.{lines-short}

@@ -11,7 +11,7 @@ use Rattle.laws.specs.Sums.{Each}
 use Rattle.laws.specs.Values.{values-length, values-each, values-tested}
 use Rattle.trace_layout.specs.Trace.{settingsIn, traceSample, traceGain, traceEntry}
 use Rattle.checks.specs.Checks.{lengthsFit}
-use Rattle.trace_text.specs.Trace.{buffersWith, buffersAt}
+use Rattle.trace_text.specs.Buffers.{buffersWith, buffersAt}
 
 module _ (t : List ℕ) (first : ℕ) where
   pub buffers-long : lengthsFit (settingsIn t .N) (buffersAt t first) ≡ true

@@ -16,7 +16,7 @@ use Rattle.trace_layout.proofs.ReadLaws.{well-long, well-most}
 use Rattle.state.specs.declared.equaliser.Equaliser.{Equaliser}
 use Rattle.station.specs.Answers.{runNumber, runState}
 use Rattle.station.proofs.NumberLaws.{run-settings, run-long}
-use Rattle.trace_text.specs.Trace.{buffersAt}
+use Rattle.trace_text.specs.Buffers.{buffersAt}
 use Rattle.trace_text.specs.Text.{blockText, textFrom}
 use Rattle.trace_text.specs.Calls.{lineLimit, textLimit, TextAt, OfTrace, Added-is}
 use Rattle.trace_text.specs.declared.blocks.Added.{Added}

@@ -21,7 +21,7 @@ use Rattle.station.specs.Answers.{runNumber, runState}
 use Rattle.checks.specs.Checks.{checkNumber}
 use Rattle.state.specs.Answers.{examined}
 use Rattle.trace_text.specs.Decimal.{decimalDigits, decimal, signedDecimal}
-use Rattle.trace_text.specs.Trace.{buffersWith}
+use Rattle.trace_text.specs.Buffers.{buffersWith}
 use Rattle.trace_text.specs.Text.{field, line, stopLine, lines, blockLines, blockText, textFrom, traceText}
 use Rattle.trace_text.proofs.DecimalLaws.{decimal-one, decimal-steps}
 

@@ -11,7 +11,7 @@ use Rattle.state.specs.declared.equaliser.Equaliser.{Equaliser}
 use Rattle.state.specs.declared.equaliser.Answer.{Answer}
 use Rattle.checks.specs.Checks.{Buffers}
 use Rattle.station.specs.Answers.{runNumber, runState, runOutputs}
-use Rattle.trace_text.specs.Trace.{buffersAt}
+use Rattle.trace_text.specs.Buffers.{buffersAt}
 use Rattle.trace_text.specs.Text.{blockText}
 use Rattle.trace_text.specs.declared.blocks.Added.{Added}
 

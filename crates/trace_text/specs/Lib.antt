@@ -1,5 +1,5 @@
 pub mod Decimal
-pub mod Trace
+pub mod Buffers
 pub mod Text
 pub mod TextFront
 pub mod Calls

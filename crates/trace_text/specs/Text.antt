@@ -13,7 +13,7 @@ use Rattle.station.specs.Answers.{runNumber, runState}
 use Rattle.checks.specs.Checks.{Buffers}
 use Rattle.state.specs.declared.equaliser.Equaliser.{Equaliser}
 use Rattle.trace_text.specs.Decimal.{signedDecimal}
-use Rattle.trace_text.specs.Trace.{buffersAt}
+use Rattle.trace_text.specs.Buffers.{buffersAt}
 
 abbrev pub space : ℕ
 space = 32

@@ -1,7 +1,7 @@
 // The text of the blocks of a trace.
 ghost use Rattle.trace_layout.specs.Trace.{countIn};
 ghost use Rattle.trace_text.specs.Text.{textFrom};
-ghost use Rattle.trace_text.specs.Trace.{buffersWith};
+ghost use Rattle.trace_text.specs.Buffers.{buffersWith};
 ghost use Rattle.trace_text.specs.Calls.{TextAt, BlockRunnable, Ran-is, Blockable, Added-is, Traceable};
 use state::equaliser::Answer;
 use state::equaliser::Equaliser;

@@ -11,7 +11,7 @@ use Rattle.steps.specs.Limits.{blockLimit, slots}
 use Rattle.trace_layout.specs.Trace.{traceLimit}
 use Rattle.checks.specs.Checks.{Buffers}
 use Rattle.station.proofs.NumberLaws.{run-most}
-use Rattle.trace_text.specs.Trace.{buffersAt}
+use Rattle.trace_text.specs.Buffers.{buffersAt}
 use Rattle.trace_text.specs.Text.{stopLine}
 use Rattle.trace_text.specs.Calls.{OfTrace, Ran-is}
 use Rattle.trace_text.proofs.TextAtLaws.{text-same}
