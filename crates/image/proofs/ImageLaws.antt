@@ -47,16 +47,15 @@ image-length e w d =
     ∙ ap₂ (λ (a b : ℕ). a + b) (header-length e) (length-append (words weightWord (take (taps e) (e .weights))) (words datumWord (take (taps e) (e .past))))
     ∙ omega (arith, words-long weightWord (taps e) (e .weights) w, words-long datumWord (taps e) (e .past) d)
 
--- the header and both lists of words at the front of a buffer
-pub image-put : (e : Equaliser) (before h u v : List ℕ) → taps e ≤ length (e .weights) → taps e ≤ length (e .past) → h ≡ header e → u ≡ words weightWord (take (taps e) (e .weights)) → v ≡ words datumWord (take (taps e) (e .past)) →
-    putMid (dataPlace current (taps e)) (imageLength e - dataPlace current (taps e)) (putMid (current .header) (dataPlace current (taps e) - current .header) (h ++ drop (current .header) before) u) v
-    ≡ image e ++ drop (imageLength e) before
+-- the header and both lists of words at the front of a buffer, up to places that were worked out
+pub image-put : (e : Equaliser) (before h u v : List ℕ) (start mid end : ℕ) → start ≡ current .header → mid ≡ dataPlace current (taps e) → end ≡ imageLength e →
+    taps e ≤ length (e .weights) → taps e ≤ length (e .past) → h ≡ header e → u ≡ words weightWord (take (taps e) (e .weights)) → v ≡ words datumWord (take (taps e) (e .past)) →
+    putMid mid (end - mid) (putMid start (mid - start) (h ++ drop start before) u) v ≡ image e ++ drop (imageLength e) before
 unfolding image
-image-put e before h u v w d hs us vs =
-    let mid = dataPlace current (taps e) in
-    ap (λ (l : List ℕ). putMid mid (imageLength e - mid) l v) (next-part h u before (current .header) mid long-h (omega (arith, long-u)))
-    ∙ next-part (h ++ u) v before mid (imageLength e) (length-append h u ∙ omega (arith, long-h, long-u)) (omega (arith, long-v))
-    ∙ ap (λ (l : List ℕ). l ++ drop (imageLength e) before) (append-assoc h u v ∙ all-is)
+image-put e before h u v start mid end es em ee w d hs us vs =
+    ap (λ (l : List ℕ). putMid mid (end - mid) l v) (next-part h u before start mid (long-h ∙ sym es) (omega (arith, long-u, es, em)))
+    ∙ next-part (h ++ u) v before mid end (length-append h u ∙ omega (arith, long-h, long-u, em)) (omega (arith, long-v, em, ee))
+    ∙ ap₂ (λ (l : List ℕ) (n : ℕ). l ++ drop n before) (append-assoc h u v ∙ all-is) ee
   where
     long-h : length h ≡ current .header
     long-h = ap length hs ∙ header-length e

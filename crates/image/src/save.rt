@@ -3,6 +3,9 @@ ghost use mathlib.Core.Path.{_≡_};
 ghost use lib.ListN.{length};
 ghost use Rattle.image.specs.Image.{header, Save};
 ghost use Rattle.image.specs.Layout.{current};
+use super::layout::current;
+use super::layout::data_place;
+use super::layout::end_place;
 use state::equaliser::Equaliser;
 use words::write::put_words;
 use words::write::put32;
@@ -42,9 +45,10 @@ pub fn save(e: Equaliser, buffer: &mut [u8]) -> Saved
         };
     }
     let taps = (e.p as usize) + (e.q as usize);
-    let start = Equaliser::HEADER;
-    let mid = start + Equaliser::WEIGHT * taps;
-    let end = mid + Equaliser::DATUM * taps;
+    let y = current();
+    let start = y.header;
+    let mid = data_place(y, taps);
+    let end = end_place(y, taps);
     if buffer.len() < end {
         return Saved {
             number: 7,
