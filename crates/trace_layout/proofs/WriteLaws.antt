@@ -2,7 +2,7 @@
 use mathlib.Core.Path.{_≡_, refl, sym, ap, ap₂, _∙_}
 use mathlib.Core.Bool.{true}
 use mathlib.Core.List.{List, [], _∷_, _++_, append-assoc, append-nil}
-use Prim.Native.Nat.{ℕ, _+_, _*_, _^_, _≤_, _<_}
+use Prim.Native.Nat.{ℕ, suc, _+_, _*_, _^_, _≤_, _<_}
 use native.Mathlib.Omega.{arith}
 use lib.Dec.{eqb}
 use lib.ListN.{length, getD, take, length-append, drop-of-length-le, List·getD-append}
@@ -24,8 +24,12 @@ use Rattle.trace_layout.proofs.ReadLaws.{well-tested}
 
 -- ---- the header as it is stored
 
+-- with any count
+counts-length : (n m : ℕ) → length (bytes 2 n ++ bytes 4 m) ≡ 6
+counts-length n m = length-append (bytes 2 n) (bytes 4 m) ∙ omega (arith, bytes-length 2 n, bytes-length 4 m)
+
 pub header-length : (k : Settings) (count : ℕ) → length (traceHeader k count) ≡ traceHeaderLength
-header-length k count = omega (arith, length-append (bytes 2 count) (bytes 4 (k .M)), bytes-length 2 count, bytes-length 4 (k .M))
+header-length k count = ap (λ (n : ℕ). suc (suc (suc (suc (suc (suc n)))))) (counts-length _ (k .M))
 
 module _ (k : Settings) (count : ℕ) (out : List ℕ) (h : length out ≡ traceHeaderLength) where
   -- a place while the bytes before it are stored
