@@ -11,16 +11,16 @@ use base.Logic.{SProp, ent, sep}
 use base.Fml.{GName, Lft, Share, flft, fobs, fbor}
 use prog.Memory.{Memory}
 use prog.Routine.{Routine}
-use prog.Wp.{Heap, Calls, Loops, WpFn, Tables}
+use prog.Wp.{Heap, Calls, Loops, WpFn}
 use ghost.Atoms.{Atoms, sem}
 use contract.Lifetimes.{Lfts, Shares, toks}
 use contract.Monad.{Fun}
-use contract.Running.{givenOf, tables, tablesOf}
+use contract.Running.{givenOf}
 use types.Kit.{Given, ‵, raw, _⊛_, _$_, _∵_, !, qed, by, move, keep, drop, split, join, fsplit, fsplit3, fjoin, fjoin3, feqI, suffices, frame, done}
 use types.Run.{look, init, store-raw, stop, hop, fld, from, load, of-opd, assigns, returns}
 use types.Part.{whole, sub, look-in}
 use types.SemTy.{Body}
-use sound.WpLaws.{FmC, fmOf}
+use sound.WpLaws.{FmC}
 use denote.RattleType.{Denots, owns, flat}
 use denote.Laws.{Is, shows}
 use denote.Memory.{mem as in-memory}
@@ -32,10 +32,9 @@ use denote.Steps.{opens, closes, owned}
 use denote.Struct.Steps.{spelt}
 use denote.Struct.Laws as LL
 use denote.Triple.Entry.{Args, Vals, onEntry}
-use denote.Triple.Spec.{Meets, tripleOf}
 use denote.Triple.Statement.{Triple}
 use denote.Triple.Clauses.{Lasts}
-use denote.Triple.Table.{entered, cited}
+use denote.Triple.Table.{cited}
 use denote.Triple.Walked.{says, Stays, stay-ref, walkOf, goes-ref, ends-at}
 use Rattle.state.specs.declared.equaliser.Equaliser.{Equaliser}
 use Rattle.state.specs.declared.equaliser.Answer.{Answer}
@@ -101,16 +100,10 @@ module _ {M : Type 1} (𝓤 : URA M) (H : Heap 𝓤) (A : Atoms 𝓤) (W : Given
         returns ! (look ! 6 refl) $ all-freed (_ ∷ _ ∷ _ ∷ _ ∷ _ ∷ _ ∷ []) (env (code.function .locals) bs) (vint w8 (r .number) ∷ held κs h ss ok b o r) ! $
         keep ! (0 ∷ 1 ∷ 2 ∷ 4 ∷ 5 ∷ []) $ by ! (exits r ws e (number-fits r is)))))
 
-run-meets : {M : Type 1} (𝓤 : URA M) (H : Heap 𝓤) (A : Atoms 𝓤) → Given 𝓤 H A → (mem : Memory → SProp 𝓤) (run : Routine → Fun 𝓤) (𝓣 : Tables 𝓤 H) → Triple 𝓤 (𝓣 .C #run·run) (Run 𝓤 H A mem run)
-    → Meets 𝓤 H A f.signature (WpFn 𝓤 H (𝓣 .C) (𝓣 .Λ) code.function) (f.spec 𝓤 H A mem run)
-run-meets 𝓤 H A W mem run 𝓣 known =
-    meets 𝓤 H A W f.ended stayed (goes-ref 𝓤 H A W (f.signature .lifetimes) 0 tt (plain (λ _. T.the-row)), all-go 𝓤 H A W (f.signature .lifetimes) (rest (f.signature .params))) (f.clauses 𝓤 H A mem run) code.function 𝓣 (λ κs. (ptr-vals, spelled 1 rows (κs .1))) (λ κs. (mut-tells (named 0) (κs .0) T.the-row, tells 1 rows (κs .1)))
-    (λ κs qs bounds a g are. walk 𝓤 H A W mem run (κs .0) (κs .1) (qs .0) (qs .1) (a .0 .ptr .0) (a .0 .ptr .1) (a .0 .name) (a .0 .now) (a .1) (𝓣 .C) (𝓣 .Λ) (fmOf 𝓤 H (W .laws) 𝓣) known (are .1))
-
 pub tigbulode-run-spec : {M : Type 1} → stated.statement M
-unfolding code.routine tablesOf
+unfolding code.routine
 tigbulode-run-spec 𝓤 H 𝓜 𝓖 𝓡 =
-    entered 𝓤 H (tripleOf 𝓤 H (𝓖 .A) f.signature (f.spec 𝓤 H (𝓖 .A) (𝓜 .mem) (𝓡 .run)))
-    (tables 𝓤 H 𝓜 𝓡 code.env .C) (tables 𝓤 H 𝓜 𝓡 code.env .Λ) #tigbulode-run code.function (code.unfolded 𝓤 H 𝓜 𝓡)
-    (run-meets 𝓤 H (𝓖 .A) (givenOf 𝓤 H 𝓜 𝓖) (𝓜 .mem) (𝓡 .run) (tablesOf 𝓤 H 𝓜 (tables 𝓤 H 𝓜 𝓡 code.env))
-    (cited 𝓤 H (Run 𝓤 H (𝓖 .A) (𝓜 .mem) (𝓡 .run)) 𝓜 𝓡 code.env #run·run run-def.routine code.calls-station·run·run (run-thm.met 𝓤 H 𝓜 𝓖 𝓡)))
+    meets 𝓤 H 𝓜 𝓖 𝓡 code.env f.ended stayed (f.clauses 𝓤 H (𝓖 .A) (𝓜 .mem) (𝓡 .run)) (goes-ref 𝓤 H (𝓖 .A) (givenOf 𝓤 H 𝓜 𝓖) (f.signature .lifetimes) 0 tt (plain (λ _. T.the-row)), all-go 𝓤 H (𝓖 .A) (givenOf 𝓤 H 𝓜 𝓖) (f.signature .lifetimes) (rest (f.signature .params)))
+    #tigbulode-run code.function (code.unfolded 𝓤 H 𝓜 𝓡) (λ κs. (ptr-vals, spelled 1 rows (κs .1))) (λ κs. (mut-tells (named 0) (κs .0) T.the-row, tells 1 rows (κs .1)))
+    (λ fm κs qs bounds a g are. walk 𝓤 H (𝓖 .A) (givenOf 𝓤 H 𝓜 𝓖) (𝓜 .mem) (𝓡 .run) (κs .0) (κs .1) (qs .0) (qs .1) (a .0 .ptr .0) (a .0 .ptr .1) (a .0 .name) (a .0 .now) (a .1) _ _ fm
+    (cited 𝓤 H (Run 𝓤 H (𝓖 .A) (𝓜 .mem) (𝓡 .run)) 𝓜 𝓡 code.env #run·run run-def.routine code.calls-station·run·run (run-thm.met 𝓤 H 𝓜 𝓖 𝓡)) (are .1))
