@@ -1,5 +1,5 @@
 -- What the walks of the thin functions share: a function of C lends its record and its slices to a function that takes the record by value.
--- Its locals are allocated and its arguments stored in one step, a `&mut` slice is passed on in one step, and its locals are freed in one step.
+-- Its locals are allocated and its arguments stored in one step, a call that has returned is one step, and its locals are freed in one step.
 -- Assumes nothing.
 use mathlib.Core.Path.{refl}
 use Prim.Native.Nat.{ℕ, zero, _+_, _*_}
