@@ -18,7 +18,7 @@ use Rattle.numbers.specs.BitLength.{bitLength}
 use Rattle.numbers.specs.Cut.{raise, rescale}
 use Rattle.numbers.proofs.BitLengthLaws.{bit-length-above, bit-length-zero, bit-length-le, bit-length-lt}
 use Rattle.numbers.proofs.CutLaws.{rescale-most, rescale-up, rescale-shifts}
-use Rattle.steps.specs.Limits.{symbolLimit, gainLimit}
+use Rattle.steps.specs.Limits.{dataUnit, symbolLimit, gainLimit}
 use Rattle.steps.specs.Settings.{Settings}
 use Rattle.steps.specs.Fir.{magnitudes}
 use Rattle.steps.specs.Sound.{orAll}
@@ -82,42 +82,42 @@ module _ (r : ℕ) (s : ℤ) where
       go true f = absurd (both-ways (sym (gain-largest g h f .0) ∙ e))
       go false f = refl
 
-  gain-is : (g : ℕ) → g ≤ gainLimit → natAbs s * 2 ^ g < 2 ^ (15 + r) → ((j : ℕ) → g < j → j ≤ gainLimit → 2 ^ (15 + r) ≤ natAbs s * 2 ^ j) → gain r s ≡ g
+  gain-is : (g : ℕ) → g ≤ gainLimit → natAbs s * 2 ^ g < 2 ^ (dataUnit + r) → ((j : ℕ) → g < j → j ≤ gainLimit → 2 ^ (dataUnit + r) ≤ natAbs s * 2 ^ j) → gain r s ≡ g
   unfolding gain
   gain-is g h e none = greatest-is (takesGain r s) gainLimit g h (lt-ltb _ _ e) (λ j l m. le-ltb _ _ (none j l m))
 
   -- no more digits than r: the largest there is
-  pub gain-few : bitLength (natAbs s) ≤ r → 15 ≡ gain r s
-  gain-few h = sym (gain-is 15 (omega arith) (Powers.raise (natAbs s) (15 + r) r 15 (omega arith) below) (λ j l m. absurd (omega arith)))
+  pub gain-few : bitLength (natAbs s) ≤ r → gainLimit ≡ gain r s
+  gain-few h = sym (gain-is gainLimit (omega arith) (Powers.raise (natAbs s) (dataUnit + r) r gainLimit (omega arith) below) (λ j l m. absurd (omega arith)))
     where
       below : natAbs s < 2 ^ r
       below = omega (arith, bit-length-above (natAbs s), rises h)
 
   -- a bit length is the least power that s is below
-  pub gain-many : r < bitLength (natAbs s) → bitLength (natAbs s) ≤ 15 + r → 15 + r - bitLength (natAbs s) ≡ gain r s
-  gain-many h k = sym (gain-is (15 + r - n) (omega arith) (Powers.raise (natAbs s) (15 + r) n (15 + r - n) (omega arith) (bit-length-above (natAbs s))) larger)
+  pub gain-many : r < bitLength (natAbs s) → bitLength (natAbs s) ≤ dataUnit + r → dataUnit + r - bitLength (natAbs s) ≡ gain r s
+  gain-many h k = sym (gain-is (dataUnit + r - n) (omega arith) (Powers.raise (natAbs s) (dataUnit + r) n (dataUnit + r - n) (omega arith) (bit-length-above (natAbs s))) larger)
     where
       n : ℕ
       n = bitLength (natAbs s)
 
-      larger : (j : ℕ) → 15 + r - n < j → j ≤ gainLimit → 2 ^ (15 + r) ≤ natAbs s * 2 ^ j
-      larger j l m = go (ltb (natAbs s * 2 ^ j) (2 ^ (15 + r))) refl
+      larger : (j : ℕ) → dataUnit + r - n < j → j ≤ gainLimit → 2 ^ (dataUnit + r) ≤ natAbs s * 2 ^ j
+      larger j l m = go (ltb (natAbs s * 2 ^ j) (2 ^ (dataUnit + r))) refl
         where
-          go : (b : Bool) → ltb (natAbs s * 2 ^ j) (2 ^ (15 + r)) ≡ b → 2 ^ (15 + r) ≤ natAbs s * 2 ^ j
-          go true e = absurd (omega (arith, l, k, bit-length-le (natAbs s) (15 + r - j) (lower (natAbs s) (15 + r) (15 + r - j) j (omega arith) (ltb-true _ _ e))))
+          go : (b : Bool) → ltb (natAbs s * 2 ^ j) (2 ^ (dataUnit + r)) ≡ b → 2 ^ (dataUnit + r) ≤ natAbs s * 2 ^ j
+          go true e = absurd (omega (arith, l, k, bit-length-le (natAbs s) (dataUnit + r - j) (lower (natAbs s) (dataUnit + r) (dataUnit + r - j) j (omega arith) (ltb-true _ _ e))))
           go false e = ltb-false _ _ e
 
   -- with a gain, |s| < 2^(15+r)
-  pub gain-bits : hasGain r s ≡ true → bitLength (natAbs s) ≤ 15 + r
+  pub gain-bits : hasGain r s ≡ true → bitLength (natAbs s) ≤ dataUnit + r
   gain-bits e =
-      bit-length-le (natAbs s) (15 + r)
-      (omega (arith, ltb-true (natAbs s * 2 ^ gain r s) (2 ^ (15 + r)) e, mul-le-mul-left (natAbs s) (rises {a = 0} {b = gain r s} (omega arith))))
+      bit-length-le (natAbs s) (dataUnit + r)
+      (omega (arith, ltb-true (natAbs s * 2 ^ gain r s) (2 ^ (dataUnit + r)) e, mul-le-mul-left (natAbs s) (rises {a = 0} {b = gain r s} (omega arith))))
 
   -- |m| < 2^15
-  pub sample-small : hasGain r s ≡ true → natAbs (sample r s) < 2 ^ 15
+  pub sample-small : hasGain r s ≡ true → natAbs (sample r s) < 2 ^ dataUnit
   unfolding sample
   sample-small e =
-      lower (natAbs (rescale s (gain r s) r)) (15 + r) 15 r (omega arith) (lt-of-le-of-lt (rescale-most s (gain r s) r) (ltb-true _ _ e))
+      lower (natAbs (rescale s (gain r s) r)) (dataUnit + r) dataUnit r (omega arith) (lt-of-le-of-lt (rescale-most s (gain r s) r) (ltb-true _ _ e))
 
 -- ---- by the bit length of |s|
 
@@ -135,48 +135,48 @@ module _ (r : ℕ) (s : ℤ) (h : Gainable r s) where
   pub small : natAbs s < 2 ^ floatDigits
   small = omega (arith, bit-length-lt (natAbs s) 18 bits-most)
 
-  pub few-small : bitLength (natAbs s) ≤ r → natAbs s * 2 ^ (15 - r) < 2 ^ 31
-  few-small few = omega (arith, Powers.raise (natAbs s) 15 r (15 - r) (omega (arith, h .r-most)) (bit-length-lt (natAbs s) r few))
+  pub few-small : bitLength (natAbs s) ≤ r → natAbs s * 2 ^ (gainLimit - r) < 2 ^ 31
+  few-small few = omega (arith, Powers.raise (natAbs s) gainLimit r (gainLimit - r) (omega (arith, h .r-most)) (bit-length-lt (natAbs s) r few))
 
   pub gain-of : gainOf r (bitLength (natAbs s)) ≡ gain r s
   gain-of = go (leb (bitLength (natAbs s)) r) refl
     where
-      go : (b : Bool) → leb (bitLength (natAbs s)) r ≡ b → cond b gainLimit (15 + r - bitLength (natAbs s)) ≡ gain r s
+      go : (b : Bool) → leb (bitLength (natAbs s)) r ≡ b → cond b gainLimit (dataUnit + r - bitLength (natAbs s)) ≡ gain r s
       go true e = gain-few r s (leb-true (bitLength (natAbs s)) r e)
       go false e = gain-many r s (leb-false (bitLength (natAbs s)) r e) (gain-bits r s (h .has))
 
   -- no more digits than r: nothing is cut
-  pub sample-few : bitLength (natAbs s) ≤ r → sample r s ≡ raise s (15 - r)
+  pub sample-few : bitLength (natAbs s) ≤ r → sample r s ≡ raise s (gainLimit - r)
   unfolding sample
-  sample-few few = ap (λ (g : ℕ). rescale s g r) (sym (gain-few r s few)) ∙ rescale-up s 15 r (15 - r) (omega (arith, h .r-most))
+  sample-few few = ap (λ (g : ℕ). rescale s g r) (sym (gain-few r s few)) ∙ rescale-up s gainLimit r (gainLimit - r) (omega (arith, h .r-most))
 
   -- more digits: the first 15
   pub sample-many : r < bitLength (natAbs s) → sample r s ≡ leading s
   unfolding sample
   sample-many many =
       let n = bitLength (natAbs s) in
-      let up : 15 + r - n - r ≡ floatDigits - n - (floatDigits - 15) = omega (arith, gain-bits r s (h .has)) in
-      let down : r - (15 + r - n) ≡ floatDigits - 15 - (floatDigits - n) = omega (arith, gain-bits r s (h .has), bits-most) in
+      let up : dataUnit + r - n - r ≡ floatDigits - n - (floatDigits - dataUnit) = omega (arith, gain-bits r s (h .has)) in
+      let down : r - (dataUnit + r - n) ≡ floatDigits - dataUnit - (floatDigits - n) = omega (arith, gain-bits r s (h .has), bits-most) in
       ap (λ (g : ℕ). rescale s g r) (sym (gain-many r s many (gain-bits r s (h .has))))
-      ∙ rescale-shifts s (15 + r - n) r ∙ ap₂ (rescale s) up down ∙ sym (rescale-shifts s (floatDigits - n) (floatDigits - 15))
+      ∙ rescale-shifts s (dataUnit + r - n) r ∙ ap₂ (rescale s) up down ∙ sym (rescale-shifts s (floatDigits - n) (floatDigits - dataUnit))
 
 -- ---- the gains of a list
 
 module _ (k : Settings) (L-most : k .L ≤ gainLimit) where
-  fits-below : (s : ℤ) → gainAvailable k s ≡ true → natAbs s < 2 ^ (15 + k .r - k .L)
+  fits-below : (s : ℤ) → gainAvailable k s ≡ true → natAbs s < 2 ^ (dataUnit + k .r - k .L)
   fits-below s e =
-      lower (natAbs s) (15 + k .r) (15 + k .r - k .L) (k .L) (omega arith)
+      lower (natAbs s) (dataUnit + k .r) (dataUnit + k .r - k .L) (k .L) (omega arith)
       (lt-of-le-of-lt (mul-le-mul-left (natAbs s) (rises (leb-true (k .L) (gain (k .r) s) (and-right (hasGain (k .r) s) (leb (k .L) (gain (k .r) s)) e))))
       (ltb-true _ _ (and-left (hasGain (k .r) s) (leb (k .L) (gain (k .r) s)) e)))
 
-  below-fits : (s : ℤ) → natAbs s < 2 ^ (15 + k .r - k .L) → gainAvailable k s ≡ true
+  below-fits : (s : ℤ) → natAbs s < 2 ^ (dataUnit + k .r - k .L) → gainAvailable k s ≡ true
   below-fits s h =
-      let t = gain-largest (k .r) s (k .L) L-most (lt-ltb _ _ (Powers.raise (natAbs s) (15 + k .r) (15 + k .r - k .L) (k .L) (omega arith) h)) in
+      let t = gain-largest (k .r) s (k .L) L-most (lt-ltb _ _ (Powers.raise (natAbs s) (dataUnit + k .r) (dataUnit + k .r - k .L) (k .L) (omega arith) h)) in
       both (hasGain (k .r) s) (leb (k .L) (gain (k .r) s)) (t .0) (le-leb (k .L) (gain (k .r) s) (t .1))
 
   -- by the bits of every |s| together
-  pub gains-fit : (l : List ℤ) → leb (bitLength (orAll (magnitudes l))) (15 + k .r - k .L) ≡ all (gainAvailable k) l
-  gains-fit l = ap (λ (n : ℕ). leb n (15 + k .r - k .L)) (or-all-largest-bits l) ∙ by-largest-bits (gainAvailable k) (15 + k .r - k .L) fits-below below-fits l
+  pub gains-fit : (l : List ℤ) → leb (bitLength (orAll (magnitudes l))) (dataUnit + k .r - k .L) ≡ all (gainAvailable k) l
+  gains-fit l = ap (λ (n : ℕ). leb n (dataUnit + k .r - k .L)) (or-all-largest-bits l) ∙ by-largest-bits (gainAvailable k) (dataUnit + k .r - k .L) fits-below below-fits l
 
 pub gains-each : (k : Settings) (l : List ℤ) → k .r ≤ symbolLimit → all (gainAvailable k) l ≡ true → Each (Gainable (k .r)) l
 gains-each k l h e =

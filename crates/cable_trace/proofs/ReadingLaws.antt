@@ -14,7 +14,7 @@ use Rattle.laws.specs.Lists.{all, all-at, and-left, and-right}
 use Rattle.laws.specs.Powers.{rises}
 use Rattle.laws.specs.Tests.{both}
 use Rattle.laws.specs.Values.{values-length, values-at, values}
-use Rattle.steps.specs.Limits.{gainLimit}
+use Rattle.steps.specs.Limits.{dataUnit, gainLimit}
 use Rattle.steps.specs.Settings.{Settings, isSymbol, isEntry}
 use Rattle.steps.specs.Sound.{Within}
 use Rattle.steps.proofs.SymbolLaws.{symbol-entry, entry-below}
@@ -188,7 +188,7 @@ module _ (c : Cable) (room : ℕ) (ok : cableNumber c room ≡ 0) where
     checked = sym (checks-pass e l (a .number) lengths gains-pass entries-pass)
 
     sampled : Sampled (l .block .samples)
-    sampled = buffers-samples t (i * e .n) (λ (z : ℤ). natAbs z ≤ 2 ^ 15) (λ j k. le-of-lt (at j k .sample-small))
+    sampled = buffers-samples t (i * e .n) (λ (z : ℤ). natAbs z ≤ 2 ^ dataUnit) (λ j k. le-of-lt (at j k .sample-small))
 
   runs : (blocks i : ℕ) (e : Equaliser) → Accepted e → settings e ≡ settingsIn t → i + blocks ≡ countIn t → Runs t blocks i e
   runs zero i e a same q = tt

@@ -9,7 +9,7 @@ use Rattle.laws.specs.Lists.{all}
 use Rattle.laws.specs.Sums.{dot}
 use Rattle.laws.specs.Values.{values}
 use Rattle.numbers.specs.Cut.{rescale}
-use Rattle.steps.specs.Limits.{gainLimit}
+use Rattle.steps.specs.Limits.{dataUnit, gainLimit}
 use Rattle.steps.specs.Settings.{Settings, isSymbol}
 use Rattle.trace_layout.specs.Trace.{traceHeaderLength, traceLimit, traceOf}
 use Rattle.state.specs.Sizes.{settingsNumber}
@@ -34,7 +34,7 @@ s c n = dot (c .response) (values (sentBefore (c .symbols) n) (length (c .respon
 
 -- |s|·2^g < 2^(15+r)
 abbrev pub takesGain : ℕ → ℤ → ℕ → Bool
-takesGain r s g = ltb (natAbs s * 2 ^ g) (2 ^ (15 + r))
+takesGain r s g = ltb (natAbs s * 2 ^ g) (2 ^ (dataUnit + r))
 
 -- the greatest of the numbers from g down to 0 that passes a test, or 0
 unfoldable pub greatest : (ℕ → Bool) → ℕ → ℕ

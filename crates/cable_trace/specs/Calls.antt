@@ -15,7 +15,7 @@ use Rattle.laws.specs.Values.{values, joined}
 use Rattle.words.specs.Words.{bytes}
 use Rattle.numbers.specs.BitLength.{bitLength}
 use Rattle.numbers.specs.Cut.{rescale}
-use Rattle.steps.specs.Limits.{symbolLimit, gainLimit}
+use Rattle.steps.specs.Limits.{dataUnit, symbolLimit, gainLimit}
 use Rattle.steps.specs.Settings.{Settings}
 use Rattle.trace_layout.specs.Trace.{traceHeaderLength, traceLimit, traceHeader}
 use Rattle.cable_trace.specs.Limits.{responseLimit}
@@ -105,7 +105,7 @@ pub record Gainable (r : ℕ) (s : ℤ) : Type 0 where
 
 -- the gain by the bit length of |s|
 abbrev pub gainOf : ℕ → ℕ → ℕ
-gainOf r bits = cond (leb bits r) gainLimit (15 + r - bits)
+gainOf r bits = cond (leb bits r) gainLimit (dataUnit + r - bits)
 
 -- a float of 32 bits: its digits, and what its exponent has more than the bit length of a whole number
 abbrev pub floatDigits : ℕ
@@ -130,7 +130,7 @@ exponentIn b = b / 2 ^ (floatDigits - 1) % 256
 
 -- the first 15 of its digits
 abbrev pub leading : ℤ → ℤ
-leading s = rescale s (floatDigits - bitLength (natAbs s)) (floatDigits - 15)
+leading s = rescale s (floatDigits - bitLength (natAbs s)) (floatDigits - dataUnit)
 
 -- a sample and its gain in one word
 abbrev pub gainUnit : ℕ

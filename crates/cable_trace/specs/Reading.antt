@@ -6,7 +6,7 @@ use mathlib.Core.Logic.{_⊎_}
 use Prim.Native.Nat.{ℕ, zero, suc, _*_, _^_, _≤_, _<_}
 use lib.ListN.{getD}
 use lib.IntN.{pos, natAbs}
-use Rattle.steps.specs.Limits.{gainLimit}
+use Rattle.steps.specs.Limits.{dataUnit, gainLimit}
 use Rattle.steps.specs.Settings.{isEntry}
 use Rattle.trace_layout.specs.Trace.{settingsIn, countIn, samplesIn, wellFormed, traceSample, traceGain, traceEntry}
 use Rattle.state.specs.Sizes.{settingsNumber}
@@ -26,7 +26,7 @@ pub record ReadsSample (c : Cable) (t : List ℕ) (n : ℕ) : Type 0 where
   pub entry-trained : n < c .training → traceEntry t n ≡ getD (c .symbols) n (pos 0)
   pub entry-later : c .training ≤ n → traceEntry t n ≡ pos 0
   -- |m| < 2^15
-  pub sample-small : natAbs (traceSample t n) < 2 ^ 15
+  pub sample-small : natAbs (traceSample t n) < 2 ^ dataUnit
   pub gain-least : c .settings .L ≤ traceGain t n
   pub gain-most : traceGain t n ≤ gainLimit
   pub entry-fits : isEntry (c .settings .r) (traceEntry t n) ≡ true

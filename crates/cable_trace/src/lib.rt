@@ -28,7 +28,9 @@ fn make(k: Settings, response: &[i16], symbols: &[i8], training: usize, out: &mu
     checks::lists::sixteen_bits(response);
     sums::line(symbols, &mut line);
     let bits = sums::sums(response, &line, &mut sums[0..n]);
-    if 15 + (k.r as u32) - (k.L as u32) < numbers::bit_length::bit_length(bits as u64) {
+    if steps::limits::DATA_UNIT + (k.r as u32) - (k.L as u32)
+        < numbers::bit_length::bit_length(bits as u64)
+    {
         return false;
     }
     put::trace(k, symbols, training, &mut sums[0..n], out);

@@ -4,7 +4,7 @@ ghost use mathlib.Core.Path.{_≡_};
 ghost use Prim.Native.Nat.{_+_, _-_, _^_, _≤_, _<_};
 ghost use lib.IntN.{pos, natAbs};
 ghost use Rattle.laws.specs.Sums.{Each};
-ghost use Rattle.steps.specs.Limits.{symbolLimit};
+ghost use Rattle.steps.specs.Limits.{dataUnit, symbolLimit};
 ghost use Rattle.cable_trace.specs.Cable.{sample};
 ghost use Rattle.cable_trace.specs.Calls.{Gainable, gainOf, floatDigits, floatOffset, floatBits, exponentIn, leading, sampleWord, sampleWords};
 use super::limits;
@@ -19,13 +19,13 @@ fn float_bits(s: i32) -> u32
 
 // The gain by the exponent of s.
 fn gain(r: u32, e: u32) -> u32
-    requires { ⌜ (r ≤ symbolLimit) × (e ≤ floatOffset + 15 + r) ⌝ }
+    requires { ⌜ (r ≤ symbolLimit) × (e ≤ floatOffset + dataUnit + r) ⌝ }
     ensures { λ g. ⌜ g ≡ gainOf r (e - floatOffset) ⌝ }
 {
     if e <= limits::OFFSET + r {
         Equaliser::GAIN as u32
     } else {
-        limits::OFFSET + 15 + r - e
+        limits::OFFSET + steps::limits::DATA_UNIT + r - e
     }
 }
 
@@ -44,7 +44,7 @@ fn sample(r: u32, s: i32, b: u32, e: u32) -> i32
     ensures { λ m. ⌜ m ≡ sample r s ⌝ }
 {
     if e <= limits::OFFSET + r {
-        numbers::cut::raise32(s, 15 - r)
+        numbers::cut::raise32(s, steps::limits::GAIN - r)
     } else {
         leading(s, b)
     }

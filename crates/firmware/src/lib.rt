@@ -15,16 +15,14 @@ use steps::settings::Settings;
 pub extern "C" fn tigbulode_set_up(p: u8, q: u8, n: u8, r: u8, l: u8, m: u32) -> Answer
     ensures { λ a. ⌜ SetUp (given p q n r l m) a ⌝ }
 {
-    Equaliser::set_up(
-        Settings {
-            p: p,
-            q: q,
-            N: n,
-            r: r,
-            L: l,
-            M: m,
-        },
-    )
+    Equaliser::set_up(Settings {
+        p: p,
+        q: q,
+        N: n,
+        r: r,
+        L: l,
+        M: m,
+    })
 }
 
 // The image at the front of a lent buffer, or the number of the refusal and the buffer as it was. The record is only read.

@@ -14,7 +14,7 @@ use Rattle.laws.specs.Lists.{all, and-right}
 use Rattle.laws.specs.Machine.{fits-abs}
 use Rattle.laws.specs.Powers.{split, rises, lower, cancel-le}
 use Rattle.laws.specs.Sums.{Each, each-append, each-weaken}
-use Rattle.steps.specs.Limits.{symbolLimit}
+use Rattle.steps.specs.Limits.{dataUnit, stepUnit, symbolLimit}
 use Rattle.steps.specs.Settings.{scaleForward, stepBound, isEntry}
 use Rattle.steps.specs.Fir.{Small, allSmall}
 use Rattle.block.specs.Sound.{Sound}
@@ -26,14 +26,14 @@ use Rattle.image.specs.Layout.{weightWord, datumWord}
 use Rattle.state.proofs.SoundLaws.{Accepted, accepted-sound, examined-tests, sound-tests, past-tests}
 
 -- M·D ≤ 2^30, both sides times 2^L
-step-most : (m d L : ℕ) → 2 ^ L ≤ d → m * d ≤ 2 ^ (30 + L) → m ≤ 2 ^ 30
-step-most m d L h k = cancel-le L (omega (arith, mul-le-mul-left m h, split (30 + L) 30 L refl))
+step-most : (m d L : ℕ) → 2 ^ L ≤ d → m * d ≤ 2 ^ (stepUnit + L) → m ≤ 2 ^ stepUnit
+step-most m d L h k = cancel-le L (omega (arith, mul-le-mul-left m h, split (stepUnit + L) stepUnit L refl))
 
 -- |A|·2^(B+s) < 2^(15+b) with b ≤ B
-stored-fits : (n B s b : ℕ) → b ≤ B → n * 2 ^ (B + s) < 2 ^ (15 + b) → n < 2 ^ 15
+stored-fits : (n B s b : ℕ) → b ≤ B → n * 2 ^ (B + s) < 2 ^ (dataUnit + b) → n < 2 ^ dataUnit
 stored-fits n B s b h k =
-    lower n (15 + B) 15 B refl
-    (lt-of-le-of-lt (mul-le-mul-left n (rises {a = B} {b = B + s} (omega arith))) (lt-of-lt-of-le k (rises {a = 15 + b} {b = 15 + B} (omega arith))))
+    lower n (dataUnit + B) dataUnit B refl
+    (lt-of-le-of-lt (mul-le-mul-left n (rises {a = B} {b = B + s} (omega arith))) (lt-of-lt-of-le k (rises {a = dataUnit + b} {b = dataUnit + B} (omega arith))))
 
 entry-fits : (r : ℕ) (v : ℤ) → r ≤ symbolLimit → isEntry r v ≡ true → natAbs v < 2 ^ 15
 entry-fits r v h e = lt-of-lt-of-le (entry-below r v e) (rises {a = r + 1} {b = 15} (omega arith))

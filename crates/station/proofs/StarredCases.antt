@@ -8,6 +8,7 @@ use Rattle.laws.specs.Sums.{dot}
 use Rattle.numbers.specs.ScaleCount.{scaleCount}
 use Rattle.numbers.specs.BitLength.{bitLength}
 use Rattle.numbers.specs.Cut.{cut}
+use Rattle.steps.specs.Limits.{receivedUnit}
 use Rattle.steps.specs.Settings.{Settings, given, stepBound}
 use Rattle.steps.specs.Fir.{largest, adapt, largestBits}
 use Rattle.steps.specs.Output.{output, outputExponent}
@@ -98,7 +99,7 @@ cases =
     ∷ record { gives = answers 3 2 2 1 2581111; says = pos 2 ∷ [] }
     ∷ record { gives = pos (newb smallest begun (one (negsuc 32767) (pos 0))) ∷ []; says = pos 31 ∷ [] }
     ∷ record { gives = stored smallest begun (one (negsuc 32767) (pos 0)); says = negsuc 8191 ∷ [] }
-    ∷ record { gives = (pos (Γ smallest begun (one (negsuc 32767) (pos 0))) -ℤ pos 30) ∷ []; says = pos 2 ∷ [] }
+    ∷ record { gives = (pos (Γ smallest begun (one (negsuc 32767) (pos 0))) -ℤ pos receivedUnit) ∷ []; says = pos 2 ∷ [] }
     ∷ record { gives = first (negsuc 32767); says = pos 31 ∷ pos 2 ∷ negsuc 2047 ∷ pos 0 ∷ [] }
     ∷ record { gives = first (pos 32767); says = pos 30 ∷ pos 1 ∷ pos 2047 ∷ pos 0 ∷ [] }
     ∷ record { gives = cut (negsuc 2) 1 ∷ []; says = negsuc 0 ∷ [] }

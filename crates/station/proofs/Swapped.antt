@@ -128,6 +128,7 @@ not-lowest b =
   where
     there : b .l′ .block .samples ≡ negated (b .l .block .samples)
     there = ap (λ (i : Block). i .samples) (b .lists .block-swapped)
+
     back : negated (b .l′ .block .samples) ≡ b .l .block .samples
     back = ap negated there ∙ negated-negated (b .l .block .samples)
 

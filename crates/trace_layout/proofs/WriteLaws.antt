@@ -15,6 +15,7 @@ use borrow.Author.Tests.{eq-eqb}
 use Rattle.laws.specs.Machine.{fits-abs}
 use Rattle.laws.specs.Tests.{both}
 use Rattle.laws.specs.Values.{values-length, values-at, joined-length, joined-at}
+use Rattle.steps.specs.Limits.{dataUnit}
 use Rattle.words.specs.Words.{bytes, byteAt, numberAt}
 use Rattle.words.proofs.ByteLaws.{bytes-length, two-bytes, number-after, number-front}
 use Rattle.words.proofs.PutLaws.{sets-append}
@@ -137,7 +138,7 @@ module _ (k : Settings) (count : ℕ) (m : ℕ → ℤ) (g : ℕ → ℕ) (e : �
         sample-byte (sampleStart i + 2) 2 (omega arith) (omega arith)
         ∙ ap (λ (l : List ℕ). getD (l ++ (g i ∷ [])) 2 0) (two-bytes (ofZ w16 (m i)))
 
-    pub sample-back : natAbs (m i) < 2 ^ 15 → traceSample t i ≡ m i
+    pub sample-back : natAbs (m i) < 2 ^ dataUnit → traceSample t i ≡ m i
     sample-back small =
         let f = fits-abs {w = w16} (m i) small in
         ap₂ (λ (a b : ℕ). toZ w16 (a + 256 * (b + 256 * 0))) (sample-byte (sampleStart i) 0 (omega arith) (omega arith)) (sample-byte (sampleStart i + 1) 1 (omega arith) (omega arith))

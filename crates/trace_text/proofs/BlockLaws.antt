@@ -15,7 +15,7 @@ use Rattle.laws.specs.Sums.{each-of}
 use Rattle.laws.specs.Machine.{abs-fits}
 use Rattle.laws.specs.Values.{values-length, values-at}
 use Rattle.words.specs.Words.{byteAt, numberAt}
-use Rattle.steps.specs.Limits.{blockLimit, slots}
+use Rattle.steps.specs.Limits.{dataUnit, blockLimit, slots}
 use Rattle.trace_layout.specs.Trace.{traceLimit, settingsIn, countIn, samplesIn, sampleStart, samplesFrom, traceSample}
 use Rattle.trace_layout.proofs.ReadLaws.{well-long, well-most}
 use Rattle.trace_layout.specs.Calls.{Read-is}
@@ -85,11 +85,11 @@ ran-is {e} {given} {l} {a} {y} {xi} {decision} same r =
 pub sampled : (t : List ℕ) (first : ℕ) (y : List ℤ) (xi : List ℕ) (decision : List ℤ) → ((i : ℕ) → byteAt t i < 256) → Sampled (buffersWith t first y xi decision .block .samples)
 unfolding buffersWith
 sampled t first y xi decision h =
-    each-of (λ (z : ℤ). natAbs z ≤ 2 ^ 15) (pos 0) (samplesFrom t first (settingsIn t .N)) (λ i k.
+    each-of (λ (z : ℤ). natAbs z ≤ 2 ^ dataUnit) (pos 0) (samplesFrom t first (settingsIn t .N)) (λ i k.
     let below : i < settingsIn t .N = omega (arith, values-length (λ j. traceSample t (first + j)) (settingsIn t .N)) in
     rw (values-at (λ j. traceSample t (first + j)) (pos 0) (settingsIn t .N) i below) (small (sampleStart (first + i))))
   where
-    small : (i : ℕ) → natAbs (toZ w16 (numberAt 2 t i)) ≤ 2 ^ 15
+    small : (i : ℕ) → natAbs (toZ w16 (numberAt 2 t i)) ≤ 2 ^ dataUnit
     small i = abs-fits {w = w16} (sfits-toZ {w = w16} {n = numberAt 2 t i} (omega (arith, h i, h (i + 1))))
 
 -- ---- what an accepted block hands out can be printed

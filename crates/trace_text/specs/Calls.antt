@@ -2,10 +2,10 @@
 use mathlib.Core.Bool.{true}
 use mathlib.Core.List.{List, _++_}
 use mathlib.Core.Path.{_≡_}
-use Prim.Native.Nat.{ℕ, _+_, _*_, _/_, _^_, _≤_, _<_}
+use Prim.Native.Nat.{ℕ, _+_, _*_, _-_, _/_, _^_, _≤_, _<_}
 use lib.ListN.{length, getD, take, drop}
 use lib.IntN.{ℤ, pos, natAbs}
-use Rattle.steps.specs.Limits.{blockLimit, symbolLimit, outputExponentLimit}
+use Rattle.steps.specs.Limits.{outputUnit, blockLimit, symbolLimit, outputExponentLimit}
 use Rattle.trace_layout.specs.Trace.{traceLimit, settingsIn, countIn, samplesIn, wellFormed}
 use Rattle.state.specs.declared.equaliser.Equaliser.{Equaliser}
 use Rattle.state.specs.declared.equaliser.Answer.{Answer}
@@ -35,7 +35,7 @@ pub record TextAt (at : ℕ) (text before : List ℕ) (end : ℕ) (after : List 
 -- place, Y, ξ and decision of a sample, within the bounds of a trace
 pub record Printable (place : ℕ) (Y : ℤ) (ξ : ℕ) (d : ℤ) : Type 0 where
   pub place-below : place < traceLimit
-  pub Y-below : natAbs Y < 2 ^ 29
+  pub Y-below : natAbs Y < 2 ^ (outputUnit - 1)
   pub ξ-most : ξ ≤ outputExponentLimit
   pub decision-below : natAbs d < 2 ^ (symbolLimit + 1)
 

@@ -15,6 +15,7 @@ use Rattle.laws.specs.Lists.{all}
 use Rattle.laws.specs.Sums.{Each}
 use Rattle.laws.specs.Values.{values-length, values}
 use Rattle.numbers.specs.BitLength.{bitLength}
+use Rattle.steps.specs.Limits.{dataUnit}
 use Rattle.steps.specs.Sound.{Within, orAll}
 use Rattle.steps.specs.Fir.{magnitudes}
 use Rattle.state.proofs.SizesLaws.{settings-tests, fit-within}
@@ -84,12 +85,12 @@ sub-if1 c = omega (arith, within (begin (c .before .before .before .before)) .L-
 
 -- every gain, by the bits of the sums
 fit : (c : tie.After-bit-length) → let k = cable (begin (c .before .before .before .before .before)) in
-    leb (c .bit-length .result) (15 + k .settings .r - k .settings .L) ≡ all (gainAvailable (k .settings)) (values (s k) (sampleCount k))
+    leb (c .bit-length .result) (dataUnit + k .settings .r - k .settings .L) ≡ all (gainAvailable (k .settings)) (values (s k) (sampleCount k))
 fit c =
     let m = c .before .before .before .before in
     let b = begin (m .before) in
     let k = cable b in
-    ap (λ (n : ℕ). leb n (15 + k .settings .r - k .settings .L)) (c .bit-length .ensures ∙ ap bitLength (m .sums2 .ensures .1 ∙ ap (λ (l : List ℤ). orAll (magnitudes l)) (summed m)))
+    ap (λ (n : ℕ). leb n (dataUnit + k .settings .r - k .settings .L)) (c .bit-length .ensures ∙ ap bitLength (m .sums2 .ensures .1 ∙ ap (λ (l : List ℤ). orAll (magnitudes l)) (summed m)))
     ∙ gains-fit (k .settings) (within b .L-most) (values (s k) (sampleCount k))
 
 returns : tie.Need-returns

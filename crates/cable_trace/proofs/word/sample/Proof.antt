@@ -9,6 +9,7 @@ use borrow.Author.Needs.{needs}
 use Rattle.laws.specs.Machine.{kept}
 use Rattle.numbers.specs.BitLength.{bitLength}
 use Rattle.numbers.specs.Cut.{raise}
+use Rattle.steps.specs.Limits.{gainLimit}
 use Rattle.cable_trace.specs.Calls.{floatOffset, exponentIn, leading}
 use Rattle.cable_trace.proofs.FloatLaws.{float-exponent}
 use Rattle.cable_trace.proofs.GainLaws.{small, few-small, bits-some, sample-few, sample-many}
@@ -39,7 +40,7 @@ leading-requires c κs =
 returns : tie.Need-returns
 returns c =
     let s = c .before .before in
-    kept w32 (c .raise32 .result) (c .raise32 .ok) ∙ c .raise32 .ensures ∙ ap (λ (z : ℤ). raise z (15 - s .args .r)) (toZ-ofZ (s .fits .s))
+    kept w32 (c .raise32 .result) (c .raise32 .ok) ∙ c .raise32 .ensures ∙ ap (λ (z : ℤ). raise z (gainLimit - s .args .r)) (toZ-ofZ (s .fits .s))
     ∙ sym (sample-few (s .args .r) (s .args .s) (s .pre .0) (few (c .before)))
 
 returns-2 : tie.Need-returns-2

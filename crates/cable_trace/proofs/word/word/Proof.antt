@@ -9,6 +9,7 @@ use mir.Facts.{toZ-ofZ, toZ-pos}
 use borrow.Author.Needs.{needs}
 use Rattle.laws.specs.Machine.{kept, fits-abs}
 use Rattle.numbers.specs.BitLength.{bitLength}
+use Rattle.steps.specs.Limits.{gainLimit}
 use Rattle.cable_trace.specs.Cable.{gain, sample}
 use Rattle.cable_trace.specs.Calls.{floatOffset, floatBits, exponentIn, gainUnit, gainOf}
 use Rattle.cable_trace.proofs.FloatLaws.{float-exponent}
@@ -62,7 +63,7 @@ gained c =
 
 -- ---- both
 
-most : (c : tie.After-gain) → c .gain .result ≤ 15
+most : (c : tie.After-gain) → c .gain .result ≤ gainLimit
 most c = let a = c .before .before .before .before .args in omega (arith, gained c, gain-most (a .r) (a .s))
 
 below : (c : tie.After-gain) → c .before .word .result + gainUnit * c .gain .result < 2 ^ 31
