@@ -47,7 +47,7 @@ receivedAll (m ∷ ms) (g ∷ gs) = received m g ∷ receivedAll ms gs
 abbrev pub storedAll : ℕ → List ℤ → List ℕ → List ℤ
 storedAll shift m gains = map (λ (x : ℤ). rescale x dataUnit shift) (receivedAll m gains)
 
--- five lists, of an element for each sample
+-- a list for each output, of an element for each sample
 pub record Outputs : Type 0 where
   pub y : List ℤ
   pub xi : List ℕ

@@ -6,7 +6,6 @@ use Prim.Native.Nat.{ℕ, zero, suc, _+_, _-_, _≤_, _<_, max}
 use lib.ListN.{length, take}
 use lib.IntN.{ℤ, pos}
 use Rattle.laws.specs.Loops.{overlay}
-use Rattle.laws.specs.Negated.{negated}
 use Rattle.numbers.specs.BitLength.{bitLength}
 use Rattle.steps.specs.Limits.{tapLimit, blockLimit, lengthLimit}
 use Rattle.steps.specs.Sound.{lineLength, Within}
@@ -148,5 +147,3 @@ pub record BlockResult-is (k : Settings) (o : Memory) (i : Block) (l : Outputs) 
   pub b : r .b ≡ newb k o i
   pub bmax : r .bmax ≡ newB k o i
   pub outputs-are : l′ ≡ outputsUpTo k o i (count k o i (k .N)) l
-
--- ---- the two conductors swapped

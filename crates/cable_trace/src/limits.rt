@@ -1,4 +1,5 @@
 // The limits of a cable, and the lengths that follow from those of a trace.
+use steps::limits::DATA_UNIT;
 use trace_layout::limits;
 
 // Values of a response.
@@ -24,10 +25,10 @@ pub const EXPONENTS: u32 = 256;
 
 pub const OFFSET: u32 = 126;
 
-// What the first of 15 digits counts, and what the last of them counts in a float.
-pub const FIRST: u32 = 16384;
+// What the first of DATA_UNIT digits counts, and what the last of them counts among the 24 digits of a float.
+pub const FIRST: u32 = 1 << (DATA_UNIT - 1);
 
-pub const LAST: u32 = 512;
+pub const LAST: u32 = 1 << (24 - DATA_UNIT);
 
 // What the gain counts in the word of a sample.
 pub const GAIN_UNIT: u32 = 65536;

@@ -44,7 +44,7 @@ use Rattle.state.proofs.equaliser.Answer.Laws as R′
 use Rattle.station.proofs.run.run as by-value
 use Rattle.station.proofs.run.run.Symbol.{name as #run·run}
 use Rattle.firmware.proofs.Thin.{rest, locals, Blocks, env, entry, begun, hands, answers}
-use Rattle.firmware.proofs.Slices.{Row, &, &mut, slices, values, Known, Loan, of-lists, loans, passes, copies, stores, lends, lends-on, loads}
+use Rattle.firmware.proofs.Slices.{Row, &, &mut, slices, slice-values, Known, Loan, of-lists, loans, passes, copies, stores, lends, lends-on, loads}
 
 -- ---- the slices, which `run` takes after the state
 
@@ -96,7 +96,7 @@ module _ (κs : Lfts many) (h : Equaliser) (ss : Denots (Slices κs)) where
     lent = loans 1 first rows κs ss ok
 
     abbrev pub passed : List Val
-    passed = vptr b o ∷ flat (Slices κs) (values 1 rows κs ss)
+    passed = vptr b o ∷ flat (Slices κs) (slice-values 1 rows κs ss)
 
     -- what the locals after the first hold once `run` has answered
     abbrev pub held : Answer → List Val
@@ -117,7 +117,7 @@ module _ (κs : Lfts many) (h : Equaliser) (ss : Denots (Slices κs)) where
 module _ {M : Type 1} (𝓤 : URA M) (H : Heap 𝓤) (A : Atoms 𝓤) (W : Given 𝓤 H A) (mem : Memory → SProp 𝓤) (run : Routine → Fun 𝓤) (κs : Lfts many) (qs : Shares many) (h : Equaliser) (ss : Denots (Slices κs)) where
   -- what `run`'s triple binds outside
   abbrev to-run : Run 𝓤 H A mem run .Ghost
-  to-run = ((κs, qs, tt, (h, ss), (vals h, values 1 rows κs ss)), tt)
+  to-run = ((κs, qs, tt, (h, ss), (vals h, slice-values 1 rows κs ss)), tt)
 
   module _ (ok : Known 1 rows κs ss) (b o : ℕ) (τ₀ τ₁ : Ty) (bs : Blocks (locals (variables κs h ss ok b o τ₀ τ₁))) (s : Share) (x y z : Item 𝓤) where
     abbrev pub E : List (Ty × ℕ)
@@ -125,7 +125,7 @@ module _ {M : Type 1} (𝓤 : URA M) (H : Heap 𝓤) (A : Atoms 𝓤) (W : Given
 
     -- a share of the record's cell, what the record owns, the slices' tokens, what the slices own; three entries that the function keeps; then the locals
     abbrev pub Before : List (Item 𝓤)
-    Before = ‵ (cellAt s (S.the-row .mir) (vals h) b o) ∷ ‵ (S.the-row .own h (vals h)) ∷ raw (toks 𝓤 A many κs qs) ∷ ‵ (owns (Slices κs) ss (values 1 rows κs ss)) ∷ x ∷ y ∷ z ∷ begun E (passed κs h ss ok b o)
+    Before = ‵ (cellAt s (S.the-row .mir) (vals h) b o) ∷ ‵ (S.the-row .own h (vals h)) ∷ raw (toks 𝓤 A many κs qs) ∷ ‵ (owns (Slices κs) ss (slice-values 1 rows κs ss)) ∷ x ∷ y ∷ z ∷ begun E (passed κs h ss ok b o)
 
     -- what the answer owns, the tokens, the last lists, the same cell, the three; then the locals, with the answer and the slices that were lent on. The locals are from entry 7 on, before and after
     abbrev pub After : Answer → Lasts by-value.ended κs (h, ss) → List (Item 𝓤)

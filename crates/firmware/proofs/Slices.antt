@@ -46,17 +46,17 @@ tells i [] κs = tt
 tells i (& R ∷ rs) κs = (shr-slice-tells (named i) (κs .0) R, tells (suc i) rs (κs .1))
 tells i (&mut R ∷ rs) κs = (mut-slice-tells (named i) (κs .0) R, tells (suc i) rs (κs .1))
 
-abbrev pub values : (i : ℕ) (rs : List Row) (κs : Lfts (length rs)) → Denots (slices i rs κs) → Valss (slices i rs κs)
-values i rs κs = valss (slices i rs κs) (spelled i rs κs)
+abbrev pub slice-values : (i : ℕ) (rs : List Row) (κs : Lfts (length rs)) → Denots (slices i rs κs) → Valss (slices i rs κs)
+slice-values i rs κs = valss (slices i rs κs) (spelled i rs κs)
 
 abbrev pub Known : (i : ℕ) (rs : List Row) (κs : Lfts (length rs)) → Denots (slices i rs κs) → Type 0
-Known i rs κs ss = Are (slices i rs κs) (Ises (slices i rs κs)) ss (values i rs κs ss)
+Known i rs κs ss = Are (slices i rs κs) (Ises (slices i rs κs)) ss (slice-values i rs κs ss)
 
 -- a slice's machine value is of its type, since its count fits a `usize`
 abbrev counted : {n : ℕ} → n < 2 ^ 64 → Unit {0} × (Unit {0} × (Fits w64 n × Unit {0}))
 counted fits = (tt, (tt, (record { fits = fits }, tt)))
 
-pub typed : (i : ℕ) (rs : List Row) (κs : Lfts (length rs)) (ss : Denots (slices i rs κs)) → Known i rs κs ss → Typed (unplaced (mirs (slices i rs κs))) (flat (slices i rs κs) (values i rs κs ss))
+pub typed : (i : ℕ) (rs : List Row) (κs : Lfts (length rs)) (ss : Denots (slices i rs κs)) → Known i rs κs ss → Typed (unplaced (mirs (slices i rs κs))) (flat (slices i rs κs) (slice-values i rs κs ss))
 typed i [] κs ss ok = tt
 typed i (& R ∷ rs) κs ss ok = (counted (ok .0 .0 .1 .0), typed (suc i) rs (κs .1) (ss .1) (ok .1))
 typed i (&mut R ∷ rs) κs ss ok = (counted (ok .0 .0 .1 .0), typed (suc i) rs (κs .1) (ss .1) (ok .1))

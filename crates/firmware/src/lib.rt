@@ -41,7 +41,7 @@ pub extern "C" fn tigbulode_load(bytes: &[u8]) -> Answer
     image::load::load(bytes)
 }
 
-// One block in place: the next state and its outputs, or the number of the refusal and everything as it was.
+// One block in place: the next state and the block's outputs, or the number of the refusal and everything as it was.
 #[no_mangle]
 pub extern "C" fn tigbulode_run(
     s: &mut Equaliser,
@@ -61,7 +61,7 @@ pub extern "C" fn tigbulode_run(
     r.number
 }
 
-// A trial of a block: the state that would follow and its outputs, or the number of the refusal, the given state and the lists as they were. The record is only read.
+// A trial of a block: the state that would follow and the block's outputs, or the number of the refusal, the given state and the lists as they were. The record is only read.
 #[no_mangle]
 pub extern "C" fn tigbulode_trial(
     s: &Equaliser,

@@ -54,8 +54,7 @@ module _ {A : Type 0} (f : ℕ → A) (n : ℕ) {old now : List A} {i : ℕ} (w 
   pub values-all : length old ≡ n → n ≤ i → now ≡ values f n
   values-all e h = written-all w (values-length f n ∙ sym e) (omega arith)
 
--- ---- the lists f 0 to f (n − 1), one after another
-
+-- the lists f 0 to f (n − 1), one after another
 unfoldable pub joined : (ℕ → List ℕ) → ℕ → List ℕ
 joined f zero = []
 joined f (suc n) = joined f n ++ f n

@@ -1,4 +1,4 @@
--- A block of one sample with the gain 0, on five lists of a 0.
+-- A block of one sample with the gain 0, on lists of a 0 for its outputs.
 use mathlib.Core.List.{[], _∷_}
 use lib.IntN.{ℤ, pos}
 use Rattle.block.specs.Block.{outputsOf}

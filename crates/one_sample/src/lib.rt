@@ -4,7 +4,8 @@ use state::equaliser::Answer;
 use state::equaliser::Equaliser;
 
 // The length of the image of a state with one tap of each filter.
-pub const IMAGE: usize = Equaliser::IMAGE - 4 * (Equaliser::SLOTS - 2);
+pub const IMAGE: usize = Equaliser::IMAGE
+    - (Equaliser::WEIGHT + Equaliser::DATUM) * (Equaliser::SLOTS - 2);
 
 // What running it answers and hands out.
 pub struct SampleResult {

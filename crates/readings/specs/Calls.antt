@@ -2,12 +2,12 @@
 use mathlib.Core.Path.{_≡_}
 use mathlib.Core.Bool.{true, cond}
 use mathlib.Core.List.{List, [], _∷_}
-use Prim.Native.Nat.{ℕ, zero, suc, _+_, _*_, _^_, _≤_}
+use Prim.Native.Nat.{ℕ, zero, suc, _+_, _*_, _-_, _^_, _≤_}
 use lib.IntN.{ℤ}
 use lib.ListN.{length}
 use lib.Ieee.{Float, binary64, ofBits}
 use Rattle.laws.specs.Lists.{all}
-use Rattle.steps.specs.Limits.{blockLimit, outputExponentLimit}
+use Rattle.steps.specs.Limits.{outputUnit, blockLimit, outputExponentLimit}
 use Rattle.readings.specs.Limits.{amplitudeLimit}
 use Rattle.readings.specs.Readings.{Lists, amplitudes, isUncut, squares, quotient, exponentFits}
 use Rattle.readings.specs.declared.errors.Sum.{Sum}
@@ -22,9 +22,9 @@ abbrev pub powers : ℕ → ℕ → List Float
 powers k zero = []
 powers k (suc n) = ofBits binary64 (suc k * 2 ^ 52) ∷ powers (suc k) n
 
--- 2^(e − outputUnit) for each e up to the greatest exponent: its field is 993 + e
+-- 2^(e − outputUnit) for each e up to the greatest exponent: its field is 1023 − outputUnit + e
 abbrev pub powerTable : List Float
-powerTable = powers 992 (outputExponentLimit + 1)
+powerTable = powers (1022 - outputUnit) (outputExponentLimit + 1)
 
 -- what a sum of a² can come to before the last one
 abbrev pub sumLimit : ℕ

@@ -131,7 +131,7 @@ fn run_parts(
     }
 }
 
-// One block: the next state and its outputs, or the number of the refusal and everything as it was.
+// One block: the next state and the block's outputs, or the number of the refusal and everything as it was.
 pub fn run(
     e: Equaliser,
     m: &[i16],

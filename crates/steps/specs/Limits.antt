@@ -12,7 +12,8 @@ weightUnit = 15
 abbrev pub dataUnit : ℕ
 dataUnit = 15
 
--- Y means Y·2^(ξ − outputUnit), Z means Z·2^(θ − outputUnit); F and H are in the same unit
+-- Y means Y·2^(ξ − outputUnit), Z means Z·2^(θ − outputUnit); F and H are in the same unit, as weightUnit + dataUnit is
+-- outputUnit
 abbrev pub outputUnit : ℕ
 outputUnit = 30
 

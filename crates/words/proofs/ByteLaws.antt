@@ -78,9 +78,6 @@ number-front (suc k) n l h =
     let e = number-cons k (n % 256) (bytes k (n / 256) ++ l) 0 ∙ number-front k (n / 256) l (omega arith) in
     omega (arith, e)
 
-pub number-bytes : (k n : ℕ) → n < 256 ^ k → numberAt k (bytes k n) 0 ≡ n
-number-bytes k n h = ap (λ (l : List ℕ). numberAt k l 0) (sym (append-nil (bytes k n))) ∙ number-front k n [] h
-
 module _ (l : List ℕ) (h : (i : ℕ) → byteAt l i < 256) where
   pub number-below : (k i : ℕ) → numberAt k l i < 256 ^ k
   number-below zero i = omega arith

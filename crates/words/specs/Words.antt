@@ -30,12 +30,12 @@ numberAt (suc k) l i = byteAt l i + 256 * numberAt k l (i + 1)
 abbrev pub width : Width → ℕ
 width w = Val.bytes w
 
--- one after another
+-- signed numbers of one width, one after another
 unfoldable pub words : Width → List ℤ → List ℕ
 words w [] = []
 words w (z ∷ l) = bytes (width w) (ofZ w z) ++ words w l
 
--- the first n of them
+-- the first n signed numbers of one width
 unfoldable pub wordsOf : Width → ℕ → List ℕ → List ℤ
 wordsOf w zero l = []
 wordsOf w (suc n) l = toZ w (numberAt (width w) l 0) ∷ wordsOf w n (drop (width w) l)

@@ -48,7 +48,7 @@ use Rattle.image.proofs.save.save.Symbol as save-def
 use Rattle.image.proofs.save.save.Symbol.{name as #save·save}
 use Rattle.image.proofs.save.save.Met as save-thm
 use Rattle.firmware.proofs.Thin.{all-handed, all-go, all-fit, rest, env, entry, hands, answers, begins, all-freed, meets}
-use Rattle.firmware.proofs.Slices.{Row, &mut, slices, spelled, tells, values, Known, typed, loans, passes, stores, lends-on, loads}
+use Rattle.firmware.proofs.Slices.{Row, &mut, slices, spelled, tells, slice-values, Known, typed, loans, passes, stores, lends-on, loads}
 use Rattle.firmware.proofs.ByValue.{vals}
 use Rattle.firmware.proofs.tigbulode_save.Key.{name as #tigbulode-save}
 use Rattle.firmware.proofs.tigbulode_save as f
@@ -77,7 +77,7 @@ module _ {M : Type 1} (𝓤 : URA M) (H : Heap 𝓤) (A : Atoms 𝓤) (W : Given
   x = (record { ptr = (b, o); name = γ; now = h }, ss)
 
   abbrev at : Vals f.signature (κ, κs)
-  at = (vptr b o ∷ [], values 1 rows κs ss)
+  at = (vptr b o ∷ [], slice-values 1 rows κs ss)
 
   abbrev Post : Val → SProp 𝓤
   Post = walkOf 𝓤 H A f.ended stayed (f.clauses 𝓤 H A mem run) .post (((κ, κs), (q, qs), tt, x, at), tt)

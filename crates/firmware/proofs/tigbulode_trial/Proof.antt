@@ -39,7 +39,7 @@ use Rattle.station.proofs.run.run.Symbol as run-def
 use Rattle.station.proofs.run.run.Symbol.{name as #run·run}
 use Rattle.station.proofs.run.run.Met as run-thm
 use Rattle.firmware.proofs.Thin.{all-handed, all-go, all-fit, rest, env, entry, begins, all-freed, meets}
-use Rattle.firmware.proofs.Slices.{Known, values, spelled, tells, typed}
+use Rattle.firmware.proofs.Slices.{Known, slice-values, spelled, tells, typed}
 use Rattle.firmware.proofs.ByValue.{rows, many, Slices, answer, Run, held, called, vals, answered}
 use Rattle.firmware.proofs.tigbulode_trial.Key.{name as #tigbulode-trial}
 use Rattle.firmware.proofs.tigbulode_trial as f
@@ -54,7 +54,7 @@ module _ {M : Type 1} (𝓤 : URA M) (H : Heap 𝓤) (A : Atoms 𝓤) (W : Given
   x = (record { ptr = (b, o); name = γ; now = h }, ss)
 
   abbrev at : Vals f.signature (κ, κs)
-  at = (vptr b o ∷ [], values 1 rows κs ss)
+  at = (vptr b o ∷ [], slice-values 1 rows κs ss)
 
   abbrev Post : Val → SProp 𝓤
   Post = walkOf 𝓤 H A f.ended stayed (f.clauses 𝓤 H A mem run) .post (((κ, κs), (q, qs), tt, x, at), tt)
