@@ -256,7 +256,7 @@ module _ (l : List ℕ) (b : Each Byte l) (long : length l ≡ endPlace current 
       (ap₂ (λ (x y : List ℕ). x ++ y) (part-in weightWord (tapsIn l) (weightBytes current l) weights-size weights-are) (part-in datumWord (tapsIn l) (pastBytes current l) past-size past-are) ∙ rest)
       ∙ take-append-drop (current .header) l
 
-  pub image-current : loadNumber l ≡ 0 → image (loadState l) ≡ l
+  image-current : loadNumber l ≡ 0 → image (loadState l) ≡ l
   unfolding loadState
   image-current ok = rw ok (ap (λ (y : Layout). image (stateBy y l)) (layout-current l long) ∙ image-by)
 
