@@ -26,9 +26,8 @@ use Rattle.state.specs.Answers.{SetUp, setUpState}
 use Rattle.state.specs.declared.equaliser.Equaliser.{Equaliser}
 use Rattle.state.specs.declared.equaliser.Answer.{Answer}
 use Rattle.state.proofs.NumberLaws.{fresh-settings}
-use Rattle.state.proofs.SizesLaws.{settings-tests, fit-within}
+use Rattle.state.proofs.SizesLaws.{settings-tests, fit-within, admits-admitted, step-bits}
 use Rattle.state.proofs.SoundLaws.{Accepted, set-up-accepted}
-use Rattle.image.proofs.StateBits.{step-bits}
 use Rattle.checks.specs.Checks as Checks
 use Rattle.checks.specs.Checks.{Buffers, checkNumber}
 use Rattle.checks.specs.Calls.{Sampled}
@@ -79,7 +78,7 @@ module _ (c : Cable) (room : ℕ) (ok : cableNumber c room ≡ 0) where
   first = subst Accepted (ap (λ (b : Bool). cond b (fresh (c .settings)) refused) (eq-eqb (settingsNumber (c .settings)) 0 settled)) (set-up-accepted (c .settings))
 
   step : c .settings .M < 2 ^ 32
-  step = subst (λ (k : Settings). k .M < 2 ^ 32) (fresh-settings (c .settings)) (step-bits (fresh (c .settings)) first)
+  step = step-bits (c .settings) (admits-admitted (c .settings) (settings-tests (c .settings) settled .1))
 
   whole : c .settings .N * blockCount c ≡ sampleCount c
   whole = omega (arith, mod-add-div (sampleCount c) (c .settings .N), fitting .whole)

@@ -14,7 +14,7 @@ use Rattle.steps.specs.Settings.{Settings, given}
 use Rattle.state.specs.Sizes.{sizesFit}
 use Rattle.state.specs.State.{settings, padded}
 use Rattle.image.specs.Layout.{weightWord, datumWord, leastHeader, dataPlace, endPlace, tapsIn, layoutOf}
-use Rattle.image.specs.Load.{stateBy, stateIn, frameNumber}
+use Rattle.image.specs.Load.{weightsBy, stateBy, stateIn, frameNumber}
 use Rattle.image.specs.declared.layout.Layout.{Layout}
 use Rattle.state.specs.declared.equaliser.Equaliser.{Equaliser}
 use Rattle.state.proofs.SizesLaws.{fit-within}
@@ -70,6 +70,12 @@ module _ (l : List ℕ) where
   words-at : (w : Width) (i j k n : ℕ) (x : List ℤ) → j ≡ i + k → x ≡ padded (wordsOf w n (take (j - i) (drop i l))) → x ≡ padded (wordsOf w n (take k (drop i l)))
   words-at w i j k n x e g = let f : j - i ≡ k = omega arith in g ∙ ap (λ (a : ℕ). padded (wordsOf w n (take a (drop i l)))) f
 
+  -- the weights between the header and the place where the data begin
+  pub weights-made : (y : Layout) (mid t : ℕ) (x : List ℤ) → mid ≡ dataPlace y t → t ≡ tapsIn l →
+      x ≡ padded (wordsOf weightWord t (take (mid - y .header) (drop (y .header) l))) → x ≡ padded (weightsBy y l)
+  weights-made y mid t x a f g =
+      words-at weightWord (y .header) mid (y .weight * t) t x a g ∙ ap (λ (n : ℕ). padded (wordsOf weightWord n (take (y .weight * n) (drop (y .header) l)))) f
+
   abbrev made : ℕ → List ℤ → List ℤ → Equaliser
   made m w d = record {
     p = byteAt l 0;
@@ -85,13 +91,13 @@ module _ (l : List ℕ) where
     past = d;
   }
 
-  -- each part of the state from its bytes, between the places that were worked out
+  -- each part of the state from its bytes, the data between the places that were worked out
   pub state-made : (y : Layout) (mid end m : ℕ) (w d : List ℤ) → mid ≡ dataPlace y (tapsIn l) → end ≡ endPlace y (tapsIn l) → m ≡ numberAt 4 l 8 →
-      w ≡ padded (wordsOf weightWord (tapsIn l) (take (mid - y .header) (drop (y .header) l))) → d ≡ padded (wordsOf datumWord (tapsIn l) (take (end - mid) (drop mid l))) →
+      w ≡ padded (weightsBy y l) → d ≡ padded (wordsOf datumWord (tapsIn l) (take (end - mid) (drop mid l))) →
       made m w d ≡ stateBy y l
   unfolding stateBy
   state-made y mid end m w d a b e u v =
       let t = tapsIn l in
       let f : end ≡ mid + width datumWord * t = b ∙ ap (λ (i : ℕ). i + width datumWord * t) (sym a) in
-      λ i. made (e i) (words-at weightWord (y .header) mid (y .weight * t) t w a u i)
+      λ i. made (e i) (u i)
       ((words-at datumWord mid end (width datumWord * t) t d f v ∙ ap (λ (j : ℕ). padded (wordsOf datumWord t (take (width datumWord * t) (drop j l)))) a) i)

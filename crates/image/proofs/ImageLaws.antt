@@ -16,40 +16,40 @@ use Rattle.steps.specs.Limits.{slots}
 use Rattle.state.specs.State.{settings, taps}
 use Rattle.state.specs.Answers.{examined}
 use Rattle.image.specs.Layout.{weightWord, datumWord, current, dataPlace}
-use Rattle.image.specs.Image.{header, image, imageLength, saveNumber, Save}
+use Rattle.image.specs.Image.{headerBytes, image, imageLength, saveNumber, Save}
 use Rattle.state.specs.declared.equaliser.Equaliser.{Equaliser}
 use Rattle.state.proofs.SizesLaws.{fit-within}
 use Rattle.state.proofs.SoundLaws.{examined-tests}
 
 -- ---- the header
 
-pub header-length : (e : Equaliser) → length (header e) ≡ current .header
+pub header-length : (e : Equaliser) → length (headerBytes e) ≡ current .header
 header-length e = omega (arith, bytes-length 4 (e .m))
 
 -- a place of the header while the bytes before it are stored
-pub header-room : (e : Equaliser) (out : List ℕ) (k : ℕ) → length out ≡ current .header → k < current .header → k < length (sets out 0 (take k (header e)))
-header-room e out k h b = lt-length-sets out 0 (take k (header e)) (omega arith)
+pub header-room : (e : Equaliser) (out : List ℕ) (k : ℕ) → length out ≡ current .header → k < current .header → k < length (sets out 0 (take k (headerBytes e)))
+header-room e out k h b = lt-length-sets out 0 (take k (headerBytes e)) (omega arith)
 
 -- and of M
-pub header-long : (e : Equaliser) (out : List ℕ) → length out ≡ current .header → 8 + 4 ≤ length (sets out 0 (take 8 (header e)))
-header-long e out h = omega (arith, length-sets out 0 (take 8 (header e)))
+pub header-long : (e : Equaliser) (out : List ℕ) → length out ≡ current .header → 8 + 4 ≤ length (sets out 0 (take 8 (headerBytes e)))
+header-long e out h = omega (arith, length-sets out 0 (take 8 (headerBytes e)))
 
-pub header-put : (e : Equaliser) (out : List ℕ) → length out ≡ current .header → sets out 0 (header e) ≡ header e
+pub header-put : (e : Equaliser) (out : List ℕ) → length out ≡ current .header → sets out 0 (headerBytes e) ≡ headerBytes e
 header-put e out h =
-    sets-eq (header e) out 0 (omega (arith, header-length e)) ∙ ap (λ (r : List ℕ). header e ++ r) (drop-of-length-le out {i = 0 + length (header e)} (omega (arith, header-length e))) ∙ append-nil (header e)
+    sets-eq (headerBytes e) out 0 (omega (arith, header-length e)) ∙ ap (λ (r : List ℕ). headerBytes e ++ r) (drop-of-length-le out {i = 0 + length (headerBytes e)} (omega (arith, header-length e))) ∙ append-nil (headerBytes e)
 
 -- ---- the image
 
 pub image-length : (e : Equaliser) → taps e ≤ length (e .weights) → taps e ≤ length (e .past) → length (image e) ≡ imageLength e
 unfolding image
 image-length e w d =
-    length-append (header e) (words weightWord (take (taps e) (e .weights)) ++ words datumWord (take (taps e) (e .past)))
+    length-append (headerBytes e) (words weightWord (take (taps e) (e .weights)) ++ words datumWord (take (taps e) (e .past)))
     ∙ ap₂ (λ (a b : ℕ). a + b) (header-length e) (length-append (words weightWord (take (taps e) (e .weights))) (words datumWord (take (taps e) (e .past))))
     ∙ omega (arith, words-long weightWord (taps e) (e .weights) w, words-long datumWord (taps e) (e .past) d)
 
 -- the header and both lists of words at the front of a buffer, up to places that were worked out
 pub image-put : (e : Equaliser) (before h u v : List ℕ) (start mid end : ℕ) → start ≡ current .header → mid ≡ dataPlace current (taps e) → end ≡ imageLength e →
-    taps e ≤ length (e .weights) → taps e ≤ length (e .past) → h ≡ header e → u ≡ words weightWord (take (taps e) (e .weights)) → v ≡ words datumWord (take (taps e) (e .past)) →
+    taps e ≤ length (e .weights) → taps e ≤ length (e .past) → h ≡ headerBytes e → u ≡ words weightWord (take (taps e) (e .weights)) → v ≡ words datumWord (take (taps e) (e .past)) →
     putMid mid (end - mid) (putMid start (mid - start) (h ++ drop start before) u) v ≡ image e ++ drop (imageLength e) before
 unfolding image
 image-put e before h u v start mid end es em ee w d hs us vs =
@@ -66,7 +66,7 @@ image-put e before h u v start mid end es em ee w d hs us vs =
     long-v : length v ≡ width datumWord * taps e
     long-v = ap length vs ∙ words-long datumWord (taps e) (e .past) d
 
-    all-is : h ++ (u ++ v) ≡ header e ++ (words weightWord (take (taps e) (e .weights)) ++ words datumWord (take (taps e) (e .past)))
+    all-is : h ++ (u ++ v) ≡ headerBytes e ++ (words weightWord (take (taps e) (e .weights)) ++ words datumWord (take (taps e) (e .past)))
     all-is = ap₂ (λ (a b : List ℕ). a ++ b) hs (ap₂ (λ (a b : List ℕ). a ++ b) us vs)
 
 -- ---- a state that may be saved

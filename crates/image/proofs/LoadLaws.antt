@@ -1,5 +1,5 @@
--- A saved state loads as it was, and accepted bytes are the image of the state that they hold.
-use mathlib.Core.Path.{_≡_, refl, sym, ap, ap₂, _∙_, subst}
+-- A saved state loads as it was, and accepted bytes of the current layout are the image of the state that they hold.
+use mathlib.Core.Path.{_≡_, refl, sym, ap, ap₂, _∙_}
 use mathlib.Core.Bool.{Bool, true, false, cond}
 use mathlib.Core.List.{List, _++_}
 use Prim.Native.Nat.{ℕ, _*_, _-_, _≤_}
@@ -21,13 +21,14 @@ use Rattle.block.specs.Sound.{Sound}
 use Rattle.state.specs.State.{settings, memory, taps, padded, isZero, refused}
 use Rattle.state.specs.Answers.{examined}
 use Rattle.image.specs.Layout.{weightWord, datumWord, current, leastHeader, dataPlace, endPlace, tapsIn, layoutOf}
-use Rattle.image.specs.Image.{header, image, imageLength, saveNumber, saveLength, saveBuffer}
-use Rattle.image.specs.Load.{weightBytes, pastBytes, stateBy, stateIn, frameNumber, loadNumber, loadState}
+use Rattle.image.specs.Image.{headerBytes, image, imageLength, saveNumber, saveLength, saveBuffer}
+use Rattle.image.specs.Load.{weightBytes, pastBytes, weightsBy, stateBy, stateIn, frameNumber, loadNumber, loadState}
 use Rattle.image.specs.declared.layout.Layout.{Layout}
 use Rattle.state.specs.declared.equaliser.Equaliser.{Equaliser}
+use Rattle.state.proofs.SizesLaws.{step-bits}
 use Rattle.state.proofs.SoundLaws.{Accepted, accepted-sound, refused-accepted, examined-tests}
-use Rattle.image.proofs.LayoutLaws.{only-current}
-use Rattle.image.proofs.StateBits.{spare-zero, step-bits, weights-bits, past-bits}
+use Rattle.image.proofs.LayoutLaws.{layout-current, only-current}
+use Rattle.image.proofs.StateBits.{spare-zero, weights-bits, past-bits}
 use Rattle.image.proofs.ImageLaws.{taps-most, header-length, image-length, save-fits}
 use Rattle.state.proofs.PaddedLaws.{padded-back, padded-long}
 
@@ -64,7 +65,8 @@ taps-are l = refl
 framed : (l : List ℕ) (e : Equaliser) → stateIn l ≡ e → length l ≡ imageLength e → sizesFit (settings e) ≡ true → frameNumber l ≡ 0
 unfolding frameNumber
 framed l e h k f =
-    let same : length l ≡ endPlace (layoutOf l) (tapsIn l) = k ∙ ap (endPlace current) (sym (ap taps h) ∙ taps-are l) ∙ ap (λ (y : Layout). endPlace y (tapsIn l)) (sym (only-current l)) in
+    let long : length l ≡ endPlace current (tapsIn l) = k ∙ ap (endPlace current) (sym (ap taps h) ∙ taps-are l) in
+    let same : length l ≡ endPlace (layoutOf l) (tapsIn l) = long ∙ ap (λ (y : Layout). endPlace y (tapsIn l)) (sym (layout-current l long)) in
     simp (le-leb leastHeader (length l) (omega (arith, k)), ap (λ (x : Equaliser). sizesFit (settings x)) h ∙ f, eq-eqb (length l) (endPlace (layoutOf l) (tapsIn l)) same)
 
 accepted : (l : List ℕ) (e : Equaliser) → stateIn l ≡ e → length l ≡ imageLength e → examined e ≡ 0 → loadNumber l ≡ 0
@@ -90,7 +92,7 @@ module _ (e : Equaliser) (a : Accepted e) where
   -- what follows the header
   after-header : drop (current .header) (image e) ≡ words weightWord (take (taps e) (e .weights)) ++ words datumWord (take (taps e) (e .past))
   unfolding image
-  after-header = drop-at (header e) _ (current .header) (header-length e)
+  after-header = drop-at (headerBytes e) _ (current .header) (header-length e)
 
   weights-in : padded (wordsOf weightWord (taps e) (take (width weightWord * taps e) (drop (current .header) (image e)))) ≡ e .weights
   weights-in =
@@ -109,7 +111,7 @@ module _ (e : Equaliser) (a : Accepted e) where
       ∙ array-in datumWord (e .past) (a .past-long) (past-bits e a) (spare-zero e (a .number) .1)
 
   step-in : (l : List ℕ) → numberAt 4 (bytes 4 (e .m) ++ l) 0 ≡ e .m
-  step-in l = number-front 4 (e .m) l (step-bits e a)
+  step-in l = number-front 4 (e .m) l (step-bits (settings e) (accepted-sound a .admitted))
 
   state-by : stateBy current (image e) ≡ e
   unfolding stateBy image
@@ -127,11 +129,16 @@ module _ (e : Equaliser) (a : Accepted e) where
     past = past-in i;
   }
 
-  state-in : stateIn (image e) ≡ e
-  state-in = ap (λ (y : Layout). stateBy y (image e)) (only-current (image e)) ∙ state-by
-
   image-long : length (image e) ≡ imageLength e
   image-long = image-length e weights-within past-within
+
+  taps-image : tapsIn (image e) ≡ taps e
+  unfolding image
+  taps-image = refl
+
+  -- by its length it has the current layout
+  state-in : stateIn (image e) ≡ e
+  state-in = ap (λ (y : Layout). stateBy y (image e)) (layout-current (image e) (image-long ∙ ap (endPlace current) (sym taps-image))) ∙ state-by
 
   pub load-image : (loadNumber (image e) ≡ 0) × (loadState (image e) ≡ e)
   unfolding loadState
@@ -148,8 +155,8 @@ module _ (e : Equaliser) (a : Accepted e) where
     saved-rest = rw ok (drop-at (image e) (drop (imageLength e) buffer) (imageLength e) image-long)
 
   -- an image is bytes
-  header-bytes : Each Byte (header e)
-  header-bytes = (p, (q, (n, (r, (l, (psi, (b, (bmax, bytes-each 4 (e .m)))))))))
+  header-each : Each Byte (headerBytes e)
+  header-each = (p, (q, (n, (r, (l, (psi, (b, (bmax, bytes-each 4 (e .m)))))))))
     where
       s : Sound (settings e) (memory e)
       s = accepted-sound a
@@ -181,13 +188,38 @@ module _ (e : Equaliser) (a : Accepted e) where
   pub image-bytes : Each Byte (image e)
   unfolding image
   image-bytes =
-      each-append Byte (header e) (words weightWord (take (taps e) (e .weights)) ++ words datumWord (take (taps e) (e .past))) header-bytes
+      each-append Byte (headerBytes e) (words weightWord (take (taps e) (e .weights)) ++ words datumWord (take (taps e) (e .past))) header-each
       (each-append Byte (words weightWord (take (taps e) (e .weights))) (words datumWord (take (taps e) (e .past)))
       (words-each weightWord (take (taps e) (e .weights))) (words-each datumWord (take (taps e) (e .past))))
 
--- ---- accepted bytes are an image
+-- ---- accepted bytes hold an accepted state
 
-header-in : (l : List ℕ) → current .header ≤ length l → Each Byte l → header (stateBy current l) ≡ take (current .header) l
+module _ (y : Layout) (l : List ℕ) where
+  few-by : examined (stateBy y l) ≡ 0 → tapsIn l ≤ slots
+  unfolding stateBy
+  few-by h = taps-most (stateBy y l) h
+
+  -- whatever their layout
+  by-accepted : examined (stateBy y l) ≡ 0 → Accepted (stateBy y l)
+  unfolding stateBy
+  by-accepted h = record {
+    weights-long = padded-long (weightsBy y l) (omega (arith, few-by h, words-count weightWord (tapsIn l) (weightBytes y l)));
+    past-long = padded-long (wordsOf datumWord (tapsIn l) (pastBytes y l)) (omega (arith, few-by h, words-count datumWord (tapsIn l) (pastBytes y l)));
+    number = h;
+  }
+
+-- whatever bytes are loaded
+pub load-accepted : (l : List ℕ) → Accepted (loadState l)
+unfolding loadState
+load-accepted l = go (eqb (loadNumber l) 0) refl
+  where
+    go : (t : Bool) → eqb (loadNumber l) 0 ≡ t → Accepted (cond t (stateIn l) refused)
+    go true e = by-accepted (layoutOf l) l (load-tests l (eqb-true (loadNumber l) 0 e) .1)
+    go false e = refused-accepted
+
+-- ---- accepted bytes of the current layout are an image
+
+header-in : (l : List ℕ) → current .header ≤ length l → Each Byte l → headerBytes (stateBy current l) ≡ take (current .header) l
 unfolding stateBy
 header-in l h b =
     ap₂ (λ (x y : List ℕ). x ++ y) (sym (take-each 8 0 l (omega arith))) (bytes-number l (byte-below l b) 4 8 (omega arith))
@@ -197,20 +229,7 @@ header-in l h b =
 part-in : (w : Width) (n : ℕ) (l : List ℕ) → length l ≡ width w * n → Each Byte l → words w (take n (padded (wordsOf w n l))) ≡ l
 part-in w n l e h = ap (words w) (take-at (wordsOf w n l) (replicate (slots - length (wordsOf w n l)) (pos 0)) n (words-count w n l)) ∙ words-forth w n l e h
 
-module _ (l : List ℕ) (b : Each Byte l) (ok : loadNumber l ≡ 0) where
-  loaded-sound : examined (stateIn l) ≡ 0
-  loaded-sound = load-tests l ok .1
-
-  long : length l ≡ endPlace current (tapsIn l)
-  long = frame-tests l (load-tests l ok .0) .2 ∙ ap (λ (y : Layout). endPlace y (tapsIn l)) (only-current l)
-
-  same : stateIn l ≡ stateBy current l
-  same = ap (λ (y : Layout). stateBy y l) (only-current l)
-
-  few : tapsIn l ≤ slots
-  unfolding stateBy
-  few = taps-most (stateIn l) loaded-sound
-
+module _ (l : List ℕ) (b : Each Byte l) (long : length l ≡ endPlace current (tapsIn l)) where
   weights-size : length (weightBytes current l) ≡ width weightWord * tapsIn l
   weights-size = length-take-le (width weightWord * tapsIn l) (drop (current .header) l) (omega (arith, length-drop (current .header) l, long))
 
@@ -230,40 +249,26 @@ module _ (l : List ℕ) (b : Each Byte l) (ok : loadNumber l ≡ 0) where
       (take-all (width datumWord * tapsIn l) (drop (dataPlace current (tapsIn l)) l) (omega (arith, length-drop (dataPlace current (tapsIn l)) l, long)) ∙ sym (drop-drop (width weightWord * tapsIn l) (current .header) l))
       ∙ take-append-drop (width weightWord * tapsIn l) (drop (current .header) l)
 
-  by-accepted : Accepted (stateBy current l)
-  unfolding stateBy
-  by-accepted = record {
-    weights-long = padded-long (wordsOf weightWord (tapsIn l) (weightBytes current l)) (omega (arith, few, words-count weightWord (tapsIn l) (weightBytes current l)));
-    past-long = padded-long (wordsOf datumWord (tapsIn l) (pastBytes current l)) (omega (arith, few, words-count datumWord (tapsIn l) (pastBytes current l)));
-    number = ap examined (sym same) ∙ loaded-sound;
-  }
-
-  loaded-accepted : Accepted (stateIn l)
-  loaded-accepted = subst Accepted (sym same) by-accepted
-
   image-by : image (stateBy current l) ≡ l
   unfolding image stateBy
   image-by =
-      ap₂ (λ (x y : List ℕ). x ++ y) (header-in l (frame-tests l (load-tests l ok .0) .0) b)
+      ap₂ (λ (x y : List ℕ). x ++ y) (header-in l (omega (arith, long)) b)
       (ap₂ (λ (x y : List ℕ). x ++ y) (part-in weightWord (tapsIn l) (weightBytes current l) weights-size weights-are) (part-in datumWord (tapsIn l) (pastBytes current l) past-size past-are) ∙ rest)
       ∙ take-append-drop (current .header) l
 
-  image-in : image (stateIn l) ≡ l
-  image-in = ap image same ∙ image-by
+  image-current : loadNumber l ≡ 0 → image (loadState l) ≡ l
+  unfolding loadState
+  image-current ok = rw ok (ap (λ (y : Layout). image (stateBy y l)) (layout-current l long) ∙ image-by)
 
--- whatever bytes are loaded
-pub load-accepted : (l : List ℕ) → Each Byte l → Accepted (loadState l)
-unfolding loadState
-load-accepted l b = go (eqb (loadNumber l) 0) refl
-  where
-    go : (t : Bool) → eqb (loadNumber l) 0 ≡ t → Accepted (cond t (stateIn l) refused)
-    go true e = loaded-accepted l b (eqb-true (loadNumber l) 0 e)
-    go false e = refused-accepted
+-- ---- with one layout
+
+-- what is accepted is as long as what is saved
+long-current : (l : List ℕ) → loadNumber l ≡ 0 → length l ≡ endPlace current (tapsIn l)
+long-current l ok = frame-tests l (load-tests l ok .0) .2 ∙ ap (λ (y : Layout). endPlace y (tapsIn l)) (only-current l)
 
 -- what was loaded saves to the same bytes
 pub image-loaded : (l : List ℕ) → Each Byte l → loadNumber l ≡ 0 → image (loadState l) ≡ l
-unfolding loadState
-image-loaded l b ok = rw ok (image-in l b ok)
+image-loaded l b ok = image-current l b (long-current l ok) ok
 
 -- to any buffer that is long enough
 pub loaded-saved : (l : List ℕ) → Each Byte l → loadNumber l ≡ 0 → (before : List ℕ) → length l ≤ length before →
@@ -271,7 +276,7 @@ pub loaded-saved : (l : List ℕ) → Each Byte l → loadNumber l ≡ 0 → (be
 loaded-saved l b ok before room = (number, rw number long, saved-front (loadState l) a before number ∙ image-loaded l b ok)
   where
     a : Accepted (loadState l)
-    a = load-accepted l b
+    a = load-accepted l
 
     long : imageLength (loadState l) ≡ length l
     long = sym (image-long (loadState l) a) ∙ ap length (image-loaded l b ok)

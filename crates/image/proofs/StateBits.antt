@@ -1,4 +1,4 @@
--- What a sound state holds fits its bytes: M in 32 bits, each weight and datum in 16.
+-- Each weight and each datum of a sound state fits its bytes.
 use mathlib.Core.Path.{_≡_, refl, sym, ap, _∙_, subst}
 use mathlib.Core.Bool.{true}
 use mathlib.Core.List.{List, [], _∷_, _++_}
@@ -12,10 +12,10 @@ use mir.Val.{SFits}
 use borrow.Author.Tests.{eqb-true}
 use Rattle.laws.specs.Lists.{all, and-right}
 use Rattle.laws.specs.Machine.{fits-abs}
-use Rattle.laws.specs.Powers.{split, rises, lower, cancel-le}
+use Rattle.laws.specs.Powers.{rises, lower}
 use Rattle.laws.specs.Sums.{Each, each-append, each-weaken}
-use Rattle.steps.specs.Limits.{dataUnit, stepUnit, symbolLimit}
-use Rattle.steps.specs.Settings.{scaleForward, stepBound, isEntry}
+use Rattle.steps.specs.Limits.{dataUnit, symbolLimit}
+use Rattle.steps.specs.Settings.{scaleForward, isEntry}
 use Rattle.steps.specs.Fir.{Small, allSmall}
 use Rattle.block.specs.Sound.{Sound}
 use Rattle.steps.proofs.SymbolLaws.{entry-below}
@@ -24,10 +24,6 @@ use Rattle.state.specs.Answers.{examined}
 use Rattle.state.specs.declared.equaliser.Equaliser.{Equaliser}
 use Rattle.image.specs.Layout.{weightWord, datumWord}
 use Rattle.state.proofs.SoundLaws.{Accepted, accepted-sound, examined-tests, sound-tests, past-tests}
-
--- M·D ≤ 2^30, both sides times 2^L
-step-most : (m d L : ℕ) → 2 ^ L ≤ d → m * d ≤ 2 ^ (stepUnit + L) → m ≤ 2 ^ stepUnit
-step-most m d L h k = cancel-le L (omega (arith, mul-le-mul-left m h, split (stepUnit + L) stepUnit L refl))
 
 -- |A|·2^(B+s) < 2^(15+b) with b ≤ B
 stored-fits : (n B s b : ℕ) → b ≤ B → n * 2 ^ (B + s) < 2 ^ (dataUnit + b) → n < 2 ^ dataUnit
@@ -47,11 +43,6 @@ spare-zero e ok =
 module _ (e : Equaliser) (a : Accepted e) where
   sound : Sound (settings e) (memory e)
   sound = accepted-sound a
-
-  pub step-bits : e .m < 2 ^ 32
-  step-bits =
-      let k = settings e in
-      omega (arith, step-most (e .m) (stepBound k) (e .l) (omega (arith, rises {a = e .l} {b = 2 * e .r + 3 + e .l} (omega arith))) (sound .admitted))
 
   pub weights-bits : Each (SFits weightWord) (take (taps e) (e .weights))
   weights-bits =

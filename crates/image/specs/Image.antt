@@ -15,11 +15,11 @@ use Rattle.image.specs.declared.save.Saved.{Saved}
 -- ---- the image
 
 -- p, q, N, r, L, ψ, b, B and M
-abbrev pub header : Equaliser → List ℕ
-header e = e .p ∷ e .q ∷ e .n ∷ e .r ∷ e .l ∷ e .psi ∷ e .b ∷ e .bmax ∷ bytes 4 (e .m)
+abbrev pub headerBytes : Equaliser → List ℕ
+headerBytes e = e .p ∷ e .q ∷ e .n ∷ e .r ∷ e .l ∷ e .psi ∷ e .b ∷ e .bmax ∷ bytes 4 (e .m)
 
 unfoldable pub image : Equaliser → List ℕ
-image e = header e ++ (words weightWord (take (taps e) (e .weights)) ++ words datumWord (take (taps e) (e .past)))
+image e = headerBytes e ++ (words weightWord (take (taps e) (e .weights)) ++ words datumWord (take (taps e) (e .past)))
 
 abbrev pub imageLength : Equaliser → ℕ
 imageLength e = endPlace current (taps e)

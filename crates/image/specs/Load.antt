@@ -5,6 +5,7 @@ use mathlib.Core.Path.{_≡_}
 use Prim.Native.Nat.{ℕ, _*_}
 use lib.Dec.{leb, eqb}
 use lib.ListN.{length, take, drop}
+use lib.IntN.{ℤ}
 use Rattle.words.specs.Words.{byteAt, numberAt, width, wordsOf}
 use Rattle.state.specs.Sizes.{sizesFit}
 use Rattle.state.specs.State.{settings, padded, refused}
@@ -22,6 +23,10 @@ weightBytes y l = take (y .weight * tapsIn l) (drop (y .header) l)
 abbrev pub pastBytes : Layout → List ℕ → List ℕ
 pastBytes y l = take (width datumWord * tapsIn l) (drop (dataPlace y (tapsIn l)) l)
 
+-- the weights that bytes of a layout hold
+abbrev pub weightsBy : Layout → List ℕ → List ℤ
+weightsBy y l = wordsOf weightWord (tapsIn l) (weightBytes y l)
+
 -- the state that bytes of a layout hold
 unfoldable pub stateBy : Layout → List ℕ → Equaliser
 stateBy y l = record {
@@ -34,7 +39,7 @@ stateBy y l = record {
   b = byteAt l 6;
   bmax = byteAt l 7;
   m = numberAt 4 l 8;
-  weights = padded (wordsOf weightWord (tapsIn l) (weightBytes y l));
+  weights = padded (weightsBy y l);
   past = padded (wordsOf datumWord (tapsIn l) (pastBytes y l));
 }
 

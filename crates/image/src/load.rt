@@ -7,8 +7,10 @@ ghost use Rattle.words.specs.Words.{wordsOf, width};
 ghost use Rattle.steps.specs.Limits.{slots};
 ghost use Rattle.state.specs.State.{settings, padded};
 ghost use Rattle.image.specs.Layout.{leastHeader, endPlace, tapsIn, layoutOf};
-ghost use Rattle.image.specs.Load.{stateIn, frameNumber, Load};
+ghost use Rattle.image.specs.Load.{weightsBy, stateIn, frameNumber, Load};
+ghost use Rattle.image.specs.Calls.{Weighed};
 use super::layout::LEAST_HEADER;
+use super::layout::Layout;
 use super::layout::data_place;
 use super::layout::end_place;
 use super::layout::layout_of;
@@ -47,6 +49,16 @@ fn settings_in(bytes: &[u8]) -> Settings
     }
 }
 
+// The weights in bytes of a layout.
+fn weights_in(y: Layout, bytes: &[u8], taps: usize) -> [i16; Equaliser::SLOTS]
+    requires { ⌜ Weighed y (now bytes) taps ⌝ }
+    ensures { λ r. ⌜ r ≡ padded (weightsBy y (now (bytes .entry))) ⌝ }
+{
+    let start = y.header;
+    let mid = data_place(y, taps);
+    words_in(&bytes[start..mid], taps)
+}
+
 // 8 below the shortest header, 1 on the sizes, 8 if the length isn't exact, or 0.
 pub fn frame_number(bytes: &[u8]) -> u8
     ensures { λ r. ⌜ r ≡ frameNumber (now (bytes .entry)) ⌝ }
@@ -73,10 +85,9 @@ pub fn state_in(bytes: &[u8]) -> Equaliser
 {
     let taps = (bytes[0] as usize) + (bytes[1] as usize);
     let y = layout_of(bytes);
-    let start = y.header;
     let mid = data_place(y, taps);
     let end = end_place(y, taps);
-    let weights = words_in(&bytes[start..mid], taps);
+    let weights = weights_in(y, bytes, taps);
     let past = words_in(&bytes[mid..end], taps);
     Equaliser {
         p: bytes[0],

@@ -1,7 +1,7 @@
 // Saving: the bytes of a state.
 ghost use mathlib.Core.Path.{_≡_};
 ghost use lib.ListN.{length};
-ghost use Rattle.image.specs.Image.{header, Save};
+ghost use Rattle.image.specs.Image.{headerBytes, Save};
 ghost use Rattle.image.specs.Layout.{current};
 use super::layout::current;
 use super::layout::data_place;
@@ -20,7 +20,7 @@ pub struct Saved {
 // What stands before the weights.
 pub fn put_header(e: Equaliser, out: &mut [u8])
     requires { ⌜ length (now out) ≡ current .header ⌝ }
-    ensures { λ _. ⌜ now (out .exit) ≡ header e ⌝ }
+    ensures { λ _. ⌜ now (out .exit) ≡ headerBytes e ⌝ }
 {
     out[0] = e.p;
     out[1] = e.q;

@@ -3,9 +3,9 @@ use mathlib.Core.Path.{_≡_, refl}
 use mathlib.Core.Bool.{Bool, true, false, cond}
 use Prim.Native.Nat.{ℕ, _+_, _*_, _^_, _≤_, _<_}
 use native.Mathlib.Omega.{arith}
-use native.Mathlib.Nat.{mul-le-mul, le-of-lt}
+use native.Mathlib.Nat.{mul-le-mul, mul-le-mul-left, le-of-lt}
 use borrow.Author.Tests.{leb-true}
-use Rattle.laws.specs.Powers.{rises}
+use Rattle.laws.specs.Powers.{split, rises, cancel-le}
 use Rattle.laws.specs.Tests.{last-le}
 use Rattle.steps.specs.Limits.{stepUnit, tapLimit, blockLimit, symbolLimit, gainLimit}
 use Rattle.steps.specs.Settings.{Settings, given, stepBound}
@@ -40,6 +40,14 @@ fit-within k e =
 
 pub admits-admitted : (k : Settings) → admits k ≡ true → Admitted k
 admits-admitted k e = leb-true (k .M * stepBound k) (2 ^ (stepUnit + k .L)) e
+
+-- M·D ≤ 2^stepUnit, both sides times 2^L
+step-most : (m d L : ℕ) → 2 ^ L ≤ d → m * d ≤ 2 ^ (stepUnit + L) → m ≤ 2 ^ stepUnit
+step-most m d L h k = cancel-le L (omega (arith, mul-le-mul-left m h, split (stepUnit + L) stepUnit L refl))
+
+-- an admitted M has 32 bits
+pub step-bits : (k : Settings) → Admitted k → k .M < 2 ^ 32
+step-bits k h = omega (arith, step-most (k .M) (stepBound k) (k .L) (omega (arith, rises {a = k .L} {b = 2 * k .r + 3 + k .L} (omega arith))) h)
 
 -- D·2^L at the limits
 abbrev pub stepMost : ℕ

@@ -50,7 +50,7 @@ within-bounds g = accepted-sound (within-accepted g)
 
 pub start-within : (s : Equaliser) → Start s → WithinLimits s
 start-within s (from-set-up k e) = subst WithinLimits (sym e) (accepted-within (set-up-accepted k))
-start-within s (from-load bytes b e) = subst WithinLimits (sym e) (accepted-within (load-accepted bytes b))
+start-within s (from-load bytes b e) = subst WithinLimits (sym e) (accepted-within (load-accepted bytes))
 
 -- ---- a block
 
@@ -96,7 +96,7 @@ pub left-within : (s : Equaliser) → WithinLimits s → (c : Call) → WithinLi
 left-within s g (run l t) = run-within s g l t
 left-within s g (trial l t) = g
 left-within s g (save buffer t) = g
-left-within s g (load bytes t) = accepted-within (load-accepted bytes t)
+left-within s g (load bytes t) = accepted-within (load-accepted bytes)
 
 -- ---- an accepted block
 

@@ -1,5 +1,5 @@
 -- Each test that fails decides the number, and the length decides it where the others pass.
-use mathlib.Core.Path.{_≡_, sym, ap, ap₂, _∙_}
+use mathlib.Core.Path.{_≡_, sym, ap, ap₂, _∙_, subst}
 use mathlib.Core.List.{List}
 use Prim.Native.Nat.{ℕ, _+_, _≤_}
 use native.Mathlib.Omega.{arith}
@@ -9,7 +9,8 @@ use Rattle.state.specs.Sizes.{sizesFit}
 use Rattle.state.specs.State.{settings}
 use Rattle.image.specs.Layout.{endPlace, tapsIn, layoutOf}
 use Rattle.image.specs.Load.{stateIn}
-use Rattle.image.proofs.LayoutLaws.{only-current, placeable}
+use Rattle.image.specs.Calls.{Row}
+use Rattle.image.proofs.LayoutLaws.{layout-row, placeable}
 use Rattle.image.proofs.FrameLaws.{taps-in, frame-short, frame-sizes, frame-exact, frame-other}
 use Rattle.image.proofs.load.frame_number.Statement.{statement}
 use Rattle.image.proofs.load.frame_number.Tie as tie
@@ -40,7 +41,7 @@ end-is c = c .end-place .ensures ∙ ap₂ endPlace (c .before .layout-of .ensur
 end-place-requires : tie.Need-end-place-requires
 end-place-requires c κs =
     let l = bytes (c .before .before .before .before) in
-    placeable (c .layout-of .result) _ (c .layout-of .ensures ∙ only-current l) (few (c .before))
+    placeable (subst Row (sym (c .layout-of .ensures)) (layout-row l)) (few (c .before))
 
 returns : tie.Need-returns
 returns c = frame-short (c .before .before .args .bytes .now) (c .if1 .taken)

@@ -1,5 +1,5 @@
--- The places from the layout, the bytes one by one, then the words of both parts.
-use mathlib.Core.Path.{_≡_, ap, _∙_}
+-- The places from the layout, the bytes one by one, the weights, then the words of the data.
+use mathlib.Core.Path.{_≡_, refl, sym, ap, _∙_, subst}
 use mathlib.Core.List.{List}
 use Prim.Native.Nat.{ℕ, _+_, _*_, _≤_}
 use native.Mathlib.Omega.{arith}
@@ -7,10 +7,11 @@ use lib.ListN.{length}
 use borrow.Author.Needs.{needs}
 use borrow.Rule.Slice.PartMut.{mid-len}
 use Rattle.steps.specs.Limits.{slots}
-use Rattle.image.specs.Layout.{current, endPlace, tapsIn}
+use Rattle.image.specs.Layout.{endPlace, tapsIn}
 use Rattle.image.specs.Load.{stateBy}
+use Rattle.image.specs.Calls.{Row}
 use Rattle.image.specs.declared.layout.Layout.{Layout}
-use Rattle.image.proofs.LayoutLaws.{only-current, placeable}
+use Rattle.image.proofs.LayoutLaws.{layout-row, placeable}
 use Rattle.image.proofs.FrameLaws.{state-made}
 use Rattle.image.proofs.load.state_in.Statement.{statement}
 use Rattle.image.proofs.load.state_in.Tie as tie
@@ -21,50 +22,41 @@ start c = c .before .before .before .before
 abbrev bytes : tie.After-layout-of → List ℕ
 bytes c = start c .args .bytes .now
 
-layout-is : (c : tie.After-layout-of) → c .layout-of .result ≡ current
-layout-is c = c .layout-of .ensures ∙ only-current (bytes c)
+row : (c : tie.After-layout-of) → Row (c .layout-of .result)
+row c = subst Row (sym (c .layout-of .ensures)) (layout-row (bytes c))
 
 few : (c : tie.After-layout-of) → tapsIn (bytes c) ≤ slots
 few c = start c .pre .2
 
--- every place as a number, and the length
-pub record Places (c : tie.After-end-place) : Type 0 where
-  pub header-is : c .before .before .layout-of .result .header ≡ 12
-  pub mid-is : c .before .data-place .result ≡ 12 + 2 * tapsIn (bytes (c .before .before))
-  pub end-is : c .end-place .result ≡ 12 + 4 * tapsIn (bytes (c .before .before))
-  pub long : length (bytes (c .before .before)) ≡ 12 + 4 * tapsIn (bytes (c .before .before))
+long : (c : tie.After-layout-of) → length (bytes c) ≡ endPlace (c .layout-of .result) (tapsIn (bytes c))
+long c = start c .pre .1 ∙ ap (λ (y : Layout). endPlace y (tapsIn (bytes c))) (sym (c .layout-of .ensures))
 
-places : (c : tie.After-end-place) → Places c
-places c =
-    let y = c .before .before in
-    let t = tapsIn (bytes y) in
-    record {
-      header-is = ap (λ (x : Layout). x .header) (layout-is y);
-      mid-is = c .before .data-place .ensures ∙ ap (λ (x : Layout). x .header + x .weight * t) (layout-is y);
-      end-is = c .end-place .ensures ∙ ap (λ (x : Layout). endPlace x t) (layout-is y) ∙ omega arith;
-      long = start y .pre .1 ∙ ap (λ (x : Layout). endPlace x t) (only-current (bytes y)) ∙ omega arith;
-    }
+-- ---- the data, between their place and the end
+
+span : (c : tie.After-end-place) → c .end-place .result ≡ c .before .data-place .result + 2 * tapsIn (bytes (c .before .before))
+span c = omega (arith, c .before .data-place .ensures, c .end-place .ensures)
+
+fits : (c : tie.After-end-place) → c .end-place .result ≤ length (bytes (c .before .before))
+fits c = omega (arith, c .end-place .ensures, long (c .before .before))
 
 words-in-requires : tie.Need-words-in-requires
 words-in-requires c κs =
-    let e = c .before in
-    let p = places e in
-    (mid-len (e .before .before .layout-of .result .header) (e .before .data-place .result) (bytes (e .before .before)) (omega (arith, p .mid-is, p .long)) ∙ omega (arith, p .header-is, p .mid-is), few (e .before .before))
+    let e = c .before .before in
+    (mid-len (e .before .data-place .result) (e .end-place .result) (bytes (e .before .before)) (fits e) ∙ omega (arith, span e), few (e .before .before))
 
-words-in-requires-2 : tie.Need-words-in-requires-2
-words-in-requires-2 c κs =
-    let e = c .before .before .before in
-    let p = places e in
-    (mid-len (e .before .data-place .result) (e .end-place .result) (bytes (e .before .before)) (omega (arith, p .end-is, p .long)) ∙ omega (arith, p .mid-is, p .end-is), few (e .before .before))
+-- ---- the weights
+
+weights-in-requires : tie.Need-weights-in-requires
+weights-in-requires c κs = let y = c .before .before in record { row = row y; taps-are = refl; few = few y; long = omega (arith, long y) }
 
 returns : tie.Need-returns
 returns c =
     let w = c .before .before .before .before .before .before .before .before .before .before .before .before .before in
     let i = w .before .before in
-    let e = i .before .before in
+    let e = i .before in
     let y = e .before .before in
-    state-made (bytes y) (y .layout-of .result) (e .before .data-place .result) (e .end-place .result) (c .unsigned32 .result) (i .words-in .result) (w .words-in2 .result)
-    (e .before .data-place .ensures) (e .end-place .ensures) (c .unsigned32 .ensures) (i .words-in .ensures) (w .words-in2 .ensures)
+    state-made (bytes y) (y .layout-of .result) (e .before .data-place .result) (e .end-place .result) (c .unsigned32 .result) (i .weights-in .result) (w .words-in .result)
+    (e .before .data-place .ensures) (e .end-place .ensures) (c .unsigned32 .ensures) (i .weights-in .ensures) (w .words-in .ensures)
     ∙ ap (λ (x : Layout). stateBy x (bytes y)) (y .layout-of .ensures)
 
 pub state-in-spec : {M : Type 1} → statement M
@@ -72,11 +64,8 @@ state-in-spec =
     tie.close
     (tie.spec
     (λ c. search needs) (λ c. search needs) (λ c. search needs) (λ c. search needs) (λ c. search needs) (λ c κs. search needs)
-    (λ c κs. placeable _ _ (layout-is c) (omega (arith, few c))) (λ c κs. placeable _ _ (layout-is (c .before)) (omega (arith, few (c .before))))
-    (λ c. omega (arith, places c .header-is, places c .mid-is)) (λ c. omega (arith, places c .header-is, places c .mid-is)) (λ c. omega (arith, places c .mid-is, places c .long))
-    words-in-requires
-    (λ c. let p = places (c .before .before) in omega (arith, p .mid-is, p .end-is)) (λ c. let p = places (c .before .before) in omega (arith, p .mid-is, p .end-is))
-    (λ c. let p = places (c .before .before) in omega (arith, p .end-is, p .long)) words-in-requires-2
+    (λ c κs. placeable (row c) (omega (arith, few c))) (λ c κs. placeable (row (c .before)) (omega (arith, few (c .before)))) weights-in-requires
+    (λ c. omega (arith, span (c .before))) (λ c. omega (arith, span (c .before))) (λ c. fits (c .before)) words-in-requires
     (λ c. search needs) (λ c. search needs) (λ c. search needs) (λ c. search needs) (λ c. search needs) (λ c. search needs)
     (λ c. search needs) (λ c. search needs) (λ c. search needs) (λ c. search needs) (λ c. search needs) (λ c. search needs)
     (λ c κs. search needs) returns)

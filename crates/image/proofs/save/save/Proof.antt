@@ -14,7 +14,7 @@ use Rattle.image.specs.Layout.{current, dataPlace, endPlace}
 use Rattle.image.specs.Image.{imageLength}
 use Rattle.image.specs.Calls.{Placeable}
 use Rattle.image.specs.declared.layout.Layout.{Layout}
-use Rattle.image.proofs.LayoutLaws.{placeable}
+use Rattle.image.proofs.LayoutLaws.{current-row, placeable}
 use Rattle.image.proofs.ImageLaws.{taps-most, image-put, save-refused, save-short, save-done}
 use Rattle.image.proofs.save.save.Statement.{statement}
 use Rattle.image.proofs.save.save.Tie as tie
@@ -69,7 +69,7 @@ end-is : (c : tie.After-end-place) → end c ≡ imageLength (c .before .before 
 end-is c = c .end-place .ensures ∙ ap (λ (y : Layout). endPlace y (taps (c .before .before .before .before .before .before .before .before .args .e))) (c .before .before .current .ensures)
 
 small : (c : tie.After-current) → Placeable (c .current .result) (taps (c .before .before .before .before .before .before .args .e))
-small c = placeable (c .current .result) _ (c .current .ensures) (omega (arith, taps-most _ (sound (c .before))))
+small c = placeable (current-row (c .current .result) (c .current .ensures)) (omega (arith, taps-most _ (sound (c .before))))
 
 -- the image fits the buffer
 room : (c : tie.Else2) → imageLength (start c .args .e) ≤ length (start c .args .buffer .now)
