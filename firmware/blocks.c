@@ -92,6 +92,13 @@ static void expect_accepted(block *b, size_t place) {
     b->image_length = TIGBULODE_HEADER_BYTES + 2 * half;
 }
 
+/* Bytes of what a sample hands out. */
+static size_t handed(void) {
+    size_t width = 0;
+    for (int k = READ; k < LISTS; k++) width += each[k].width;
+    return width;
+}
+
 /* The block at a place of the file: the record, eight lengths, three lists, the number, and after 0 what each sample hands
  * out and the record after the block. */
 static block block_at(size_t place, bool trial) {
@@ -103,7 +110,7 @@ static block block_at(size_t place, bool trial) {
     need(place, b.expected);
     b.number = file[place + b.expected - 1];
     const bool accepted = b.number == TIGBULODE_ACCEPTED;
-    b.bytes = b.expected + (accepted ? 11 * b.lengths[0] + RECORD : 0);
+    b.bytes = b.expected + (accepted ? handed() * b.lengths[0] + RECORD : 0);
     need(place, b.bytes);
     take_lists(&after, &b);
     b.state = b.given;

@@ -66,11 +66,29 @@ const FAULTS: [(&str, usize, fn(&str) -> String); 12] = [
     ("nothing printed", 400, |_| String::new()),
 ];
 
+/// The first line that is printed otherwise than it is stored.
+fn told(stored: &[Stored], printed: &[String]) -> Option<String> {
+    let others = others(stored, printed);
+    let place = *others.first()?;
+    let (kept, came) = (&stored[place].1, &printed[place]);
+    let same = kept.lines().zip(came.lines()).take_while(|(kept, came)| kept == came).count();
+    let line = |text: &str| text.lines().nth(same).unwrap_or("no line").to_string();
+    Some(format!(
+        "trace {place} of traces/traces.bin, line {}: printed '{}', stored '{}'; in all {} traces differ",
+        same + 1,
+        line(came),
+        line(kept),
+        others.len()
+    ))
+}
+
 #[test]
 fn every_stored_trace_is_printed_and_every_fault_found() {
     let stored = stored();
     let printed = printed(&stored);
-    assert_eq!(others(&stored, &printed), []);
+    if let Some(difference) = told(&stored, &printed) {
+        panic!("{difference}");
+    }
     for (about, least, fault) in FAULTS {
         let faulty: Vec<String> = printed.iter().map(|text| fault(text)).collect();
         let shows = |place: &usize| fault(&stored[*place].1) != stored[*place].1;

@@ -6,10 +6,10 @@ use lib.Dec.{eqb}
 use borrow.Author.Tests.{eq-eqb, ne-eqb}
 use Rattle.laws.specs.Negated.{take-zeros}
 use Rattle.steps.specs.Limits.{slots}
-use Rattle.steps.specs.Settings.{Settings, given}
+use Rattle.steps.specs.Settings.{Settings}
 use Rattle.block.specs.Swapped.{swapped}
 use Rattle.state.specs.Sizes.{settingsNumber}
-use Rattle.state.specs.State.{memory, fresh, refused}
+use Rattle.state.specs.State.{memory, fresh, refusedSettings, refused}
 use Rattle.state.specs.Answers.{setUpState, SetUp}
 use Rattle.state.specs.declared.equaliser.Equaliser.{Equaliser}
 
@@ -34,4 +34,4 @@ set-up-swapped k = go (eqb (settingsNumber k) 0)
   where
     go : (b : Bool) → memory (cond b (fresh k) refused) ≡ swapped (memory (cond b (fresh k) refused))
     go true = fresh-swapped k
-    go false = fresh-swapped (given 1 1 1 0 0 0)
+    go false = fresh-swapped refusedSettings

@@ -1,5 +1,5 @@
 -- The tests of the sizes and of the step admission, as bounds.
-use mathlib.Core.Path.{_≡_, refl}
+use mathlib.Core.Path.{_≡_, refl, ap, _∙_}
 use mathlib.Core.Bool.{Bool, true, false, cond}
 use Prim.Native.Nat.{ℕ, _+_, _*_, _^_, _≤_, _<_}
 use native.Mathlib.Omega.{arith}
@@ -78,6 +78,9 @@ settings-refused k e = rw e
 pub settings-number : (k : Settings) → sizesFit k ≡ true → settingsNumber k ≡ cond (admits k) 0 2
 unfolding settingsNumber
 settings-number k e = rw e
+
+pub settings-pass : (k : Settings) → sizesFit k ≡ true → admits k ≡ true → settingsNumber k ≡ 0
+settings-pass k f a = settings-number k f ∙ ap (λ (b : Bool). cond b 0 2) a
 
 two : (a b : Bool) → _≡_ {A = ℕ} (cond a (cond b 0 2) 1) 0 → (a ≡ true) × (b ≡ true)
 two true true e = (refl, refl)

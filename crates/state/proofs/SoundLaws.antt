@@ -9,20 +9,20 @@ use lib.Dec.{eqb}
 use lib.ListN.{length, take, drop, replicate, length-drop, length-replicate, getD-replicate}
 use lib.Seq.{length-take-le, take-add}
 use lib.IntN.{ℤ, pos}
-use borrow.Author.Tests.{leb-true, le-leb, ltb-true, lt-ltb, eqb-true}
+use borrow.Author.Tests.{leb-true, le-leb, ltb-true, lt-ltb, eqb-true, eqb-false, ne-eqb}
 use Rattle.laws.specs.Lists.{all, and-left, and-right}
 use Rattle.laws.specs.Tests.{both, last-le, each-tested, each-parts, all-take, all-drop, all-replicate}
 use Rattle.steps.specs.Limits.{dataUnit, exponentLimit, halvingLimit, lengthLimit, slots}
-use Rattle.steps.specs.Settings.{Settings, given, scaleForward, isEntry}
+use Rattle.steps.specs.Settings.{Settings, scaleForward, isEntry}
 use Rattle.steps.specs.Sound.{Within}
 use Rattle.steps.specs.Fir.{Small, isBelow}
 use Rattle.steps.proofs.LargestLaws.{all-below}
 use Rattle.block.specs.Sound.{Sound}
 use Rattle.state.specs.Sizes.{sizesFit, admits, settingsNumber}
-use Rattle.state.specs.State.{settings, memory, taps, samples, filler, symbols, isZero, isStored, soundExponents, soundWeights, soundPast, isSound, fresh, refused}
+use Rattle.state.specs.State.{settings, memory, taps, samples, filler, symbols, isZero, isStored, soundExponents, soundWeights, soundPast, isSound, fresh, refusedSettings, refused}
 use Rattle.state.specs.Answers.{setUpState, examined}
 use Rattle.state.specs.declared.equaliser.Equaliser.{Equaliser}
-use Rattle.state.proofs.SizesLaws.{fit-within, admits-admitted, settings-tests}
+use Rattle.state.proofs.SizesLaws.{fit-within, admits-admitted, settings-pass, settings-tests}
 
 -- ---- the three tests of a state
 
@@ -94,38 +94,35 @@ module _ (e : Equaliser) (sizes : sizesFit (settings e) ≡ true) (weights : len
 
 -- ---- the number of an examined state
 
-three : (a b c : Bool) → _≡_ {A = ℕ} (cond a (cond b (cond c 0 9) 2) 1) 0 → (a ≡ true) × (b ≡ true) × (c ≡ true)
-three true true true e = (refl, refl, refl)
-three true true false e = absurd (omega arith)
-three true false c e = absurd (omega arith)
-three false b c e = absurd (omega arith)
+both-pass : (n : ℕ) (t c : Bool) → eqb n 0 ≡ t → cond t (cond c 0 9) n ≡ 0 → (n ≡ 0) × (c ≡ true)
+both-pass n true true f h = (eqb-true n 0 f, refl)
+both-pass n true false f h = absurd (omega arith)
+both-pass n false c f h = absurd (eqb-false n 0 f h)
 
 pub examined-tests : (e : Equaliser) → examined e ≡ 0 → (sizesFit (settings e) ≡ true) × (admits (settings e) ≡ true) × (isSound e ≡ true)
 unfolding examined
-examined-tests e h = three (sizesFit (settings e)) (admits (settings e)) (isSound e) h
+examined-tests e h =
+    let t = both-pass (settingsNumber (settings e)) (eqb (settingsNumber (settings e)) 0) (isSound e) refl h in
+    let k = settings-tests (settings e) (t .0) in
+    (k .0, k .1, t .1)
 
 pub tests-examined : (e : Equaliser) → sizesFit (settings e) ≡ true → admits (settings e) ≡ true → isSound e ≡ true → examined e ≡ 0
 unfolding examined
-tests-examined e f a s = rw (f, a, s)
+tests-examined e f a s = rw (settings-pass (settings e) f a, s)
 
 -- from the number of its settings, and from its soundness
-other : (a b : Bool) (n : ℕ) → (_≡_ {A = ℕ} (cond a (cond b 0 2) 1) 0 → ⊥) → cond a (cond b 0 2) 1 ≡ cond a (cond b n 2) 1
-other true true n h = absurd (h refl)
-other true false n h = refl
-other false b n h = refl
-
 pub examined-settings : (e : Equaliser) (n : ℕ) → n ≡ settingsNumber (settings e) → (n ≡ 0 → ⊥) → n ≡ examined e
-unfolding examined settingsNumber
-examined-settings e n q h = q ∙ other (sizesFit (settings e)) (admits (settings e)) (cond (isSound e) 0 9) (λ z. h (q ∙ z))
+unfolding examined
+examined-settings e n q h = simp (ne-eqb (settingsNumber (settings e)) 0 (λ z. h (q ∙ z))) q
 
 -- of two states with the same settings that are both sound
 pub examined-same : (e e′ : Equaliser) → settings e′ ≡ settings e → isSound e ≡ true → isSound e′ ≡ true → examined e′ ≡ examined e
 unfolding examined
-examined-same e e′ k s s′ = ap₂ (λ (c : Settings) (t : Bool). cond (sizesFit c) (cond (admits c) (cond t 0 9) 2) 1) k (s′ ∙ sym s)
+examined-same e e′ k s s′ = ap₂ (λ (c : Settings) (t : Bool). cond (eqb (settingsNumber c) 0) (cond t 0 9) (settingsNumber c)) k (s′ ∙ sym s)
 
 pub examined-state : (e : Equaliser) → sizesFit (settings e) ≡ true → admits (settings e) ≡ true → cond (isSound e) 0 9 ≡ examined e
 unfolding examined
-examined-state e f a = rw (f, a)
+examined-state e f a = rw (settings-pass (settings e) f a)
 
 -- a state that no operation turns down, whose arrays have all their slots
 pub record Accepted (e : Equaliser) : Type 0 where
@@ -184,7 +181,7 @@ fresh-accepted k f a = record {
 
 pub refused-accepted : Accepted refused
 unfolding refused
-refused-accepted = fresh-accepted (given 1 1 1 0 0 0) refl refl
+refused-accepted = fresh-accepted refusedSettings refl refl
 
 -- whatever set-up is given
 pub set-up-accepted : (k : Settings) → Accepted (setUpState k)

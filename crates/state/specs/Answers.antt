@@ -4,7 +4,7 @@ use mathlib.Core.Path.{_≡_}
 use Prim.Native.Nat.{ℕ}
 use lib.Dec.{eqb}
 use Rattle.steps.specs.Settings.{Settings}
-use Rattle.state.specs.Sizes.{sizesFit, admits, settingsNumber}
+use Rattle.state.specs.Sizes.{settingsNumber}
 use Rattle.state.specs.State.{settings, isSound, fresh, refused}
 use Rattle.state.specs.declared.equaliser.Equaliser.{Equaliser}
 use Rattle.state.specs.declared.equaliser.Answer.{Answer}
@@ -22,4 +22,4 @@ pub record SetUp (k : Settings) (a : Answer) : Type 0 where
 -- ---- the state that an operation is given: 1, 2, 9, or 0
 
 unfoldable pub examined : Equaliser → ℕ
-examined e = cond (sizesFit (settings e)) (cond (admits (settings e)) (cond (isSound e) 0 9) 2) 1
+examined e = cond (eqb (settingsNumber (settings e)) 0) (cond (isSound e) 0 9) (settingsNumber (settings e))

@@ -103,6 +103,9 @@ fresh k = record {
   past = replicate slots (pos 0);
 }
 
--- the state of a refused set-up
+-- the state of a refused set-up, and its settings
+abbrev pub refusedSettings : Settings
+refusedSettings = given 1 1 1 0 0 0
+
 unfoldable pub refused : Equaliser
-refused = fresh (given 1 1 1 0 0 0)
+refused = fresh refusedSettings

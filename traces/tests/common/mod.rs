@@ -69,12 +69,13 @@ fn bend(random: &mut Random, s: &mut Settings) {
 /// The second implementation's traces with their texts.
 pub fn stored() -> Vec<(Vec<u8>, String)> {
     let path = concat!(env!("CARGO_MANIFEST_DIR"), "/traces.bin");
-    let bytes = std::fs::read(path).unwrap();
+    let bytes = std::fs::read(path).unwrap_or_else(|e| panic!("traces/traces.bin: {e}"));
     let mut rest = &bytes[..];
     let mut take = || {
-        let (length, after) = rest.split_at(4);
+        let broken = "traces/traces.bin breaks off";
+        let (length, after) = rest.split_at_checked(4).expect(broken);
         let length = u32::from_le_bytes(length.try_into().unwrap());
-        let (own, after) = after.split_at(length as usize);
+        let (own, after) = after.split_at_checked(length as usize).expect(broken);
         rest = after;
         (own.to_vec(), rest.is_empty())
     };
