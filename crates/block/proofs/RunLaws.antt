@@ -6,7 +6,7 @@ use Prim.Native.Nat.{ℕ, suc, _+_, _*_, _-_, _≤_, _<_}
 use native.Mathlib.Omega.{arith}
 use native.Mathlib.Nat.{le-antisymm, mul-le-mul}
 use native.Mathlib.Numerals.{add-one}
-use lib.ListN.{length, getD, take, drop, set, length-take}
+use lib.ListN.{length, getD, drop, set, length-take}
 use lib.IntN.{ℤ, pos}
 use mir.Syntax.{w64}
 use mir.Val.{Fits}
@@ -22,11 +22,10 @@ use Rattle.filter.specs.Sound.{Fit}
 use Rattle.filter.specs.Calls.{LargestBitsAt, nextDelay, SampleResult-is, filterStateOf}
 use Rattle.filter.specs.declared.sample.SampleResult.{SampleResult}
 use Rattle.block.specs.Block.{Block, Memory, Outputs, newb, newB, Γ, after, at, ψFits, entryAt, blockOutputs, outputsOf}
-use Rattle.block.specs.Calls.{count, outputsUpTo, filterStateAfter, filterStateAt, Advanceable, Runnable, BegunOn, ProgressedOn, BlockResult-is}
+use Rattle.block.specs.Calls.{count, outputsUpTo, filterStateAfter, filterStateAt, Advanceable, BegunOn, ProgressedOn, BlockResult-is}
 use Rattle.block.specs.Line.{place, newest}
 use Rattle.filter.specs.declared.sample.BlockExponents.{BlockExponents}
 use Rattle.block.specs.declared.run.Progress.{Progress}
-use Rattle.block.specs.declared.run.BlockResult.{BlockResult}
 use Rattle.filter.proofs.NextLaws.{next-symbols}
 use Rattle.filter.proofs.DelayLaws.{next-delay-most, next-largest-bits-at}
 use Rattle.block.proofs.BlockCount.{count-most, count-all, count-stopped}

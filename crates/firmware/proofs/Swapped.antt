@@ -1,5 +1,4 @@
 -- The swapped pair over the calls for C: what is proved of the definitions holds of whatever their contracts allow.
-use mathlib.Core.Path.{_≡_}
 use mathlib.Core.List.{List}
 use Rattle.block.specs.Block.{Outputs}
 use Rattle.state.specs.declared.equaliser.Equaliser.{Equaliser}

@@ -86,7 +86,7 @@ pub record StateAccepted (number : ℕ) : Type 0 where
   pub not-state : number ≡ 9 → ⊥
 
 -- a block of l was run on s, and a later block of l′ is run on s′. At sample n of the later one, the place j of its window holds sample N + n − j of the earlier one
--- (p − 1 ≤ N, so that no older block is met): it is off the value received then by less than 2^(γ−15), with the larger of the two γ
+-- (p − 1 ≤ N, so that no older block is met): it is off the value received then by less than 2^(γ − dataUnit), with the larger of the two γ
 abbrev pub LaterNear : Equaliser → Buffers → Equaliser → Buffers → Type 0
 LaterNear s l s′ l′ =
     let S = scaleForward (settings s) in

@@ -1,5 +1,5 @@
 -- One sample a turn.
-use mathlib.Core.Path.{_≡_, sym, ap, _∙_}
+use mathlib.Core.Path.{_≡_, sym, _∙_}
 use mathlib.Core.List.{List}
 use Prim.Native.Nat.{_-_}
 use native.Mathlib.Omega.{arith}
@@ -12,7 +12,6 @@ use Rattle.laws.specs.Lists.{map-at}
 use Rattle.laws.specs.Loops.{Written, written-none, written-next, written-all}
 use Rattle.laws.specs.Machine.{kept}
 use Rattle.laws.specs.Sums.{each-at}
-use Rattle.numbers.specs.Cut.{rescale}
 use Rattle.block.specs.Block.{receivedAll, storedAll}
 use Rattle.block.proofs.ReceivedLaws.{received-length, shifted-is, shift-bounds}
 use Rattle.block.proofs.stored.store.Statement.{statement}
