@@ -1,3 +1,5 @@
+#![tactic(auto)]
+
 // One block: the stored samples, and the run of a block over them.
 pub mod line;
 pub mod run;

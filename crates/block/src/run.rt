@@ -10,14 +10,14 @@ use steps::limits;
 use steps::settings::Settings;
 
 // How many samples are run, and ψ after them.
-#[derive(Drop)]
+#[derive(Clone, Copy)]
 pub struct Progress {
     pub count: usize,
     pub psi: u32,
 }
 
 // ψ, b and B after a block.
-#[derive(Drop)]
+#[derive(Clone, Copy)]
 pub struct BlockResult {
     pub psi: u32,
     pub b: u32,

@@ -1,3 +1,5 @@
+#![tactic(auto)]
+
 // Reads a description of a cable from standard input and writes its trace to standard output.
 use description::limits::DESCRIPTION;
 use trace_layout::limits::TRACE;

@@ -1,3 +1,5 @@
+#![tactic(auto)]
+
 // A cable on paper: the trace that a station receives over it.
 ghost use Rattle.std.specs.Prelude.{length};
 ghost use Rattle.cable_trace.specs.Answers.{cable_of, Output, Simulation};
@@ -13,7 +15,7 @@ pub mod word;
 
 // A number, and beside 10 its cause: 1 the response, 2 the blocks, 3 the training count, 4 the length of the trace, 5 an
 // entry, 6 the length of the output, 7 a gain.
-#[derive(Drop)]
+#[derive(Clone, Copy)]
 pub struct Simulated {
     pub number: u8,
     pub cause: u8,

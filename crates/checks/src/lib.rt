@@ -1,2 +1,4 @@
+#![tactic(auto)]
+
 // The checks before a block is run.
 pub mod lists;

@@ -1,3 +1,5 @@
+#![tactic(auto)]
+
 // What the program `cable` writes for a description.
 ghost use Rattle.trace_text.specs.TextFront.{TextFront};
 ghost use Rattle.description.specs.Description.{described};

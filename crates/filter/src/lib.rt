@@ -1,2 +1,4 @@
+#![tactic(auto)]
+
 // One sample of the equaliser.
 pub mod sample;

@@ -10,7 +10,7 @@ ghost use Rattle.filter.specs.Calls.{LargestBitsAt, next_delay, SymbolBounds, Fi
 use steps::settings::Settings;
 
 // The scale counts of a block, its b and B, and γ + RECEIVED_UNIT.
-#[derive(Drop)]
+#[derive(Clone, Copy)]
 pub struct BlockExponents {
     pub s: u32,
     pub sb: u32,
@@ -20,7 +20,7 @@ pub struct BlockExponents {
 }
 
 // What steps 1 to 3 give.
-#[derive(Drop)]
+#[derive(Clone, Copy)]
 pub struct Output {
     pub nu: u32,
     pub y: i32,
@@ -28,7 +28,7 @@ pub struct Output {
 }
 
 // What steps 4 and 5 give.
-#[derive(Drop)]
+#[derive(Clone, Copy)]
 pub struct Decision {
     pub decision: i16,
     pub v: i16,
@@ -37,7 +37,7 @@ pub struct Decision {
 }
 
 // What a sample hands out, and the new ψ.
-#[derive(Drop)]
+#[derive(Clone, Copy)]
 pub struct SampleResult {
     pub y: i32,
     pub xi: u8,

@@ -1,3 +1,5 @@
+#![tactic(auto)]
+
 // The equaliser for firmware in C.
 ghost use Rattle.steps.specs.Settings.{given};
 ghost use Rattle.checks.specs.Checks.{buffers_of};

@@ -6,7 +6,7 @@ ghost use Rattle.image.specs.Layout.{current, data_place, end_place, layout_of};
 use state::equaliser::Equaliser;
 
 // What stands before the weights, and a weight, in bytes.
-#[derive(Drop)]
+#[derive(Clone, Copy)]
 pub struct Layout {
     pub header: usize,
     pub weight: usize,

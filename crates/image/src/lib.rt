@@ -1,3 +1,5 @@
+#![tactic(auto)]
+
 // The saved image: saving and loading the state of a station.
 pub mod layout;
 pub mod load;

@@ -9,7 +9,7 @@ use words::write::{put_words, put32};
 
 // A number beside the length of an image.
 #[repr(C)]
-#[derive(Drop)]
+#[derive(Clone, Copy)]
 pub struct Saved {
     pub number: u8,
     pub length: usize,

@@ -1,3 +1,5 @@
+#![tactic(auto)]
+
 // The operations of the surface laboratory for C.
 ghost use Rattle.std.specs.Prelude.{◌≡◌};
 ghost use Rattle.steps.specs.Settings.{given};
@@ -38,7 +40,7 @@ pub extern "C" fn tigbulode_cable(
 
 // The error power of a block: 0 or 11, whether it is only a floor, and the power.
 #[repr(C)]
-#[derive(Drop)]
+#[derive(Clone, Copy)]
 pub struct PowerAnswer {
     pub number: u8,
     pub is_floor: u8,

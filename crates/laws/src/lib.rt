@@ -1,1 +1,3 @@
+#![tactic(auto)]
+
 // Mathematics alone: the laws stand in specs/, and there is no code.

@@ -1,3 +1,5 @@
+#![tactic(auto)]
+
 // The scale counts, and the cases beside the limits that a set-up, a block and a save can show, a line each with what comes of it.
 use libc::STDOUT_FILENO;
 use numbers::bit_length::magnitude;

@@ -1,3 +1,5 @@
+#![tactic(auto)]
+
 // The number rules of the equaliser: cuts, bit lengths, products and scale counts.
 pub mod bit_length;
 pub mod cut;

@@ -1,3 +1,5 @@
+#![tactic(auto)]
+
 // A block of one sample with the gain 0.
 ghost use Rattle.one_sample.specs.Sample.{SampleRun};
 
@@ -8,7 +10,7 @@ pub const IMAGE: usize = Equaliser::IMAGE
     - (Equaliser::WEIGHT + Equaliser::DATUM) * (Equaliser::SLOTS - 2);
 
 // What running it answers and hands out.
-#[derive(Drop)]
+#[derive(Clone, Copy)]
 pub struct SampleResult {
     pub answer: Answer,
     pub y: [i32; 1],

@@ -25,7 +25,7 @@ fn counted(a: u64) -> u64
 }
 
 // A sum of a², and whether none of them was cut.
-#[derive(Drop)]
+#[derive(Clone, Copy)]
 pub struct Sum {
     pub sum: u64,
     pub uncut: bool,

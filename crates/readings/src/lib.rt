@@ -1,3 +1,5 @@
+#![tactic(auto)]
+
 // The readings of a block for plots: y and the error of each sample as an f64, and the error power.
 ghost use Rattle.readings.specs.Answers.{Read};
 ghost use Rattle.readings.specs.Readings.{lists_of};
@@ -9,20 +11,20 @@ pub mod limits;
 pub mod value;
 
 // y and the error of a sample.
-#[derive(Drop)]
+#[derive(Clone, Copy)]
 pub struct Reading {
     pub y: f64,
     pub error: f64,
 }
 
 // The error power of a block: a mean, or only a floor because some a was cut.
-#[derive(Drop)]
+#[derive(Clone, Copy)]
 pub enum Power {
     Mean(f64),
     Floor(f64),
 }
 
-#[derive(Drop)]
+#[derive(Clone, Copy)]
 pub enum ReadAnswer {
     Given(Power),
     Refused,

@@ -7,7 +7,7 @@ use steps::limits;
 use steps::settings::Settings;
 
 #[repr(C)]
-#[derive(Drop)]
+#[derive(Clone, Copy)]
 pub struct Equaliser {
     pub p: u8,
     pub q: u8,
@@ -24,7 +24,7 @@ pub struct Equaliser {
 
 // A number beside a state.
 #[repr(C)]
-#[derive(Drop)]
+#[derive(Clone, Copy)]
 pub struct Answer {
     pub number: u8,
     pub state: Equaliser,

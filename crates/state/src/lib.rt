@@ -1,3 +1,5 @@
+#![tactic(auto)]
+
 // The state of a station: set-up and soundness.
 pub mod equaliser;
 pub mod sizes;

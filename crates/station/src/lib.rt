@@ -1,3 +1,5 @@
+#![tactic(auto)]
+
 // The station: running a block on the state of an equaliser.
 pub mod copies;
 pub mod run;

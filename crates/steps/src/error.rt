@@ -6,7 +6,7 @@ ghost use Rattle.steps.specs.Limits.{output_unit};
 ghost use Rattle.steps.specs.Error.{error, error_exponent};
 ghost use Rattle.steps.specs.Sound.{DifferenceBounds, ErrorBounds};
 
-#[derive(Drop)]
+#[derive(Clone, Copy)]
 pub struct ScaledError {
     pub z: i32,
     pub theta: u32,

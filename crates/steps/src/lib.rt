@@ -1,3 +1,5 @@
+#![tactic(auto)]
+
 // The steps of a sample one by one.
 pub mod decision;
 pub mod error;

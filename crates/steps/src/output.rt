@@ -5,7 +5,7 @@ ghost use Rattle.steps.specs.Limits.{data_unit, output_unit};
 ghost use Rattle.steps.specs.Output.{output, output_exponent};
 ghost use Rattle.steps.specs.Sound.{OutputBounds};
 
-#[derive(Drop)]
+#[derive(Clone, Copy)]
 pub struct ScaledOutput {
     pub y: i32,
     pub xi: u32,

@@ -1,5 +1,5 @@
 // The settings of a station, in the specification's letters.
-#[derive(Drop)]
+#[derive(Clone, Copy)]
 pub struct Settings {
     pub p: u8,
     pub q: u8,

@@ -1,3 +1,5 @@
+#![tactic(auto)]
+
 // Standard input and output of a program, whole or with a line on standard error that says what went wrong.
 ghost use Rattle.std.specs.Prelude.{◌≡◌, leb, ltb, length, pos};
 ghost use Rattle.std.specs.Int.Signed.{lt_z};

@@ -1,3 +1,5 @@
+#![tactic(auto)]
+
 // Reads a trace from standard input and writes its text to standard output.
 use trace_layout::limits::TRACE;
 use trace_text::limits::TEXT;

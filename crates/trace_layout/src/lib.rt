@@ -1,3 +1,5 @@
+#![tactic(auto)]
+
 // The bytes of a trace.
 pub mod limits;
 pub mod read;

@@ -7,7 +7,7 @@ ghost use Rattle.trace_text.specs.Calls.{TextAt, BlockRunnable, RanIs, Blockable
 use state::equaliser::{Answer, Equaliser};
 
 // What a block answers, and where its text ends.
-#[derive(Drop)]
+#[derive(Clone, Copy)]
 pub struct Added {
     pub number: u8,
     pub end: usize,

@@ -1,3 +1,5 @@
+#![tactic(auto)]
+
 // The text of a trace.
 ghost use Rattle.trace_text.specs.Text.{trace_text};
 ghost use Rattle.trace_text.specs.TextFront.{TextFront};

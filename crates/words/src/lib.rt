@@ -1,3 +1,5 @@
+#![tactic(auto)]
+
 // Numbers as bytes, the lowest byte first.
 pub mod read;
 pub mod write;

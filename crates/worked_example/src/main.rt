@@ -1,3 +1,5 @@
+#![tactic(auto)]
+
 // Sets a station up, runs two blocks and writes the image of the state in hexadecimal.
 ghost use Rattle.std.specs.Prelude.{◌<◌};
 
