@@ -1,0 +1,7 @@
+-- A symbol of the largest bit length that there can be, or a search.
+use borrow.Author.Rules.{rules}
+use Rattle.filter.proofs.DelayLaws.{reached}
+use Rattle.filter.proofs.sample.reach.Goals as goal
+
+pub returns-then-delay-symbols : goal.returns-then-delay-symbols
+returns-then-delay-symbols c = reached c.requires c.if-delay-symbols.true

@@ -1,0 +1,21 @@
+-- A magnitude of 32 bits with a sign fits 32 bits without one.
+use mathlib.Core.Path.{sym, ap, ◌∙◌, subst}
+use lib.IntN.{nat_abs}
+use mir.Syntax.{w32, w64}
+use mir.Val.{Fits}
+use mir.Facts.{to_z-of_z, sfits_widen, Fits-nat_abs}
+use borrow.Author.Rules.{rules}
+use Rattle.laws.specs.Machine.{kept_wider}
+use Rattle.numbers.proofs.bit_length.magnitude32.Goals as goal
+
+pub overflow_cast-x : goal.overflow_cast-x
+overflow_cast-x c = rw (to_z-of_z c.ranges.x) (sfits_widen tt c.ranges.x)
+
+pub magnitude-requires : goal.magnitude-requires
+magnitude-requires c = search rules
+
+pub overflow_cast-result : goal.overflow_cast-result
+overflow_cast-result c = subst (Fits w32) (sym (c.magnitude.ensures ∙ ap nat_abs (kept_wider w64 tt c.ranges.x))) (Fits-nat_abs tt c.ranges.x)
+
+pub returns : goal.returns
+returns c = c.magnitude.ensures ∙ ap nat_abs (kept_wider w64 tt c.ranges.x)

@@ -1,0 +1,27 @@
+-- The bits seen are those of the magnitudes passed together.
+use mathlib.Core.Path.{ap, ◌∙◌}
+use Prim.Native.Nat.{◌-◌}
+use native.Mathlib.Omega.{arith}
+use lib.ListN.{length, get_or}
+use lib.IntN.{pos, nat_abs}
+use mir.Syntax.{w16}
+use borrow.Author.Rules.{rules}
+use Rattle.laws.specs.Machine.{kept}
+use Rattle.steps.proofs.LargestLaws.{Seen, seen_none, seen_next, seen_all}
+use Rattle.steps.proofs.past.bits.Goals as goal
+
+pub loop-i-preserved : goal.loop-i-preserved
+loop-i-preserved c =
+    let l = c.loop-i in
+    let xs = c.args.xs.now in
+    seen_next xs l.i l.seen c.magnitude16-seen.result l.invariant
+    (c.magnitude16-seen.ensures ∙ ap nat_abs (kept w16 (get_or xs l.i (pos 0)) c.magnitude16-arg-1.given))
+
+pub returns : goal.returns
+returns c = seen_all c.args.xs.now c.loop-i.i c.loop-i.seen c.loop-i.invariant c.loop-i-test.false
+
+pub loop-i-init : goal.loop-i-init
+loop-i-init c = seen_none c.args.xs.now
+
+pub loop-i-smaller : goal.loop-i-smaller
+loop-i-smaller c = omega arith

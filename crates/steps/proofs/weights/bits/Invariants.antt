@@ -1,0 +1,16 @@
+use mathlib.Core.Path.{ap, ◌∙◌}
+use Prim.Native.Nat.{◌-◌}
+use native.Mathlib.Omega.{arith}
+use lib.ListN.{length, get_or}
+use lib.IntN.{pos, nat_abs}
+use mir.Syntax.{w16}
+use borrow.Author.Rules.{rules}
+use Rattle.laws.specs.Machine.{kept}
+use Rattle.steps.proofs.LargestLaws.{Seen, seen_none, seen_next, seen_all}
+use Rattle.steps.proofs.weights.bits.Given as goal
+
+abbrev pub invariant-loop-i : goal.invariant-loop-i
+invariant-loop-i l = Seen l.w l.i l.seen
+
+abbrev pub decreases-loop-i : goal.decreases-loop-i
+decreases-loop-i l = length l.w - l.i

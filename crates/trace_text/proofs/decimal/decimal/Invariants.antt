@@ -1,0 +1,10 @@
+use native.Mathlib.Omega.{arith}
+use borrow.Author.Rules.{rules}
+use Rattle.trace_text.proofs.DecimalLaws.{DigitsFrom, digits_none, digits_next, digits_all}
+use Rattle.trace_text.proofs.decimal.decimal.Given as goal
+
+abbrev pub invariant-loop-i : goal.invariant-loop-i
+invariant-loop-i l = DigitsFrom l.n l.at l.initial.out l.i l.left l.out
+
+abbrev pub decreases-loop-i : goal.decreases-loop-i
+decreases-loop-i l = l.i

@@ -1,0 +1,24 @@
+-- Digits counted and digits of what is left make up all digits, and one more.
+use mathlib.Core.Path.{◌≡◌}
+use Prim.Native.Nat.{◌+◌}
+use native.Mathlib.Omega.{arith}
+use lib.ListN.{length}
+use Rattle.trace_text.specs.Decimal.{decimal}
+use Rattle.trace_text.proofs.DecimalLaws.{length_one, length_more, decimal_short}
+use Rattle.trace_text.proofs.decimal.width.Goals as goal
+
+pub overflow_add-count : goal.overflow_add-count
+overflow_add-count c =
+    omega (arith, length_more c.loop-left.left c.loop-left-test.true, decimal_short 9 c.args.n (omega arith))
+
+pub loop-left-preserved : goal.loop-left-preserved
+loop-left-preserved c = omega (arith, length_more c.loop-left.left c.loop-left-test.true)
+
+pub returns : goal.returns
+returns c = omega (arith, length_one c.loop-left.left c.loop-left-test.false)
+
+pub loop-left-init : goal.loop-left-init
+loop-left-init c = omega arith
+
+pub loop-left-smaller : goal.loop-left-smaller
+loop-left-smaller c = omega arith
