@@ -20,7 +20,7 @@ decision-8 : (c : Start) → SFits w8 c.args.j.decision
 decision-8 c = fits_abs c.args.j.decision (omega (arith, c.requires.2))
 
 pub overflow_cast-result-2 : goal.overflow_cast-result-2
-overflow_cast-result-2 c = rw (decision-16 c.before.before.before) (decision-8 c.before.before.before)
+overflow_cast-result-2 c = rw (decision-16 c.before.before.before.before) (decision-8 c.before.before.before.before)
 
 pub returns : goal.returns
 returns c =
