@@ -61,7 +61,7 @@ lent c =
     buffers_of c.args.m.now c.args.gains.now c.args.entries.now c.args.y.now c.args.xi.now c.args.decision.now c.args.z.now c.args.theta.now
 
 abbrev start : After-checked-number → Start
-start c = c.before.before.before.before.before.before.before.before.before
+start c = c.before.before.before.before
 
 abbrev passed : Else-number-ne0 → Start
 passed c = start c.before
@@ -105,76 +105,76 @@ abbrev given : After-run_checked-r → Outputs
 given c = (lent (passed (going c).before)).outputs
 
 abbrev y-out : After-run_checked-r → List ℤ
-y-out c = c.run_checked-r.new.1.1.1.1.0
+y-out c = c.run_checked-r.new.y
 
 y_long : (c : After-run_checked-r) → length (y-out c) ≡ (state (passed (going c).before)).n
-y_long c = c.run_checked-r.auto.1.1.1.1.0 ∙ (areas-long (going c)).y_long
+y_long c = c.run_checked-r.auto.y ∙ (areas-long (going c)).y_long
 
 abbrev xi-out : After-run_checked-r → List ℕ
-xi-out c = c.run_checked-r.new.1.1.1.1.1.0
+xi-out c = c.run_checked-r.new.xi
 
 xi_long : (c : After-run_checked-r) → length (xi-out c) ≡ (state (passed (going c).before)).n
-xi_long c = c.run_checked-r.auto.1.1.1.1.1.0 ∙ (areas-long (going c)).xi_long
+xi_long c = c.run_checked-r.auto.xi ∙ (areas-long (going c)).xi_long
 
 abbrev decision-out : After-run_checked-r → List ℤ
-decision-out c = c.run_checked-r.new.1.1.1.1.1.1.0
+decision-out c = c.run_checked-r.new.decision
 
 decision_long : (c : After-run_checked-r) → length (decision-out c) ≡ (state (passed (going c).before)).n
-decision_long c = c.run_checked-r.auto.1.1.1.1.1.1.0 ∙ (areas-long (going c)).decision_long
+decision_long c = c.run_checked-r.auto.decision ∙ (areas-long (going c)).decision_long
 
 abbrev z-out : After-run_checked-r → List ℤ
-z-out c = c.run_checked-r.new.1.1.1.1.1.1.1.0
+z-out c = c.run_checked-r.new.z
 
 z_long : (c : After-run_checked-r) → length (z-out c) ≡ (state (passed (going c).before)).n
-z_long c = c.run_checked-r.auto.1.1.1.1.1.1.1.0 ∙ (areas-long (going c)).z_long
+z_long c = c.run_checked-r.auto.z ∙ (areas-long (going c)).z_long
 
 abbrev theta-out : After-run_checked-r → List ℕ
-theta-out c = c.run_checked-r.new.1.1.1.1.1.1.1.1.0
+theta-out c = c.run_checked-r.new.theta
 
 theta_long : (c : After-run_checked-r) → length (theta-out c) ≡ (state (passed (going c).before)).n
-theta_long c = c.run_checked-r.auto.1.1.1.1.1.1.1.1.0 ∙ (areas-long (going c)).theta_long
+theta_long c = c.run_checked-r.auto.theta ∙ (areas-long (going c)).theta_long
 
 -- the run, from copy to copy
 abbrev first : After-copy32 → After-run_checked-r
-first c = c.before.before.before.before.before.before.before.before.before.before.before
+first c = c.before.before.before.before.before.before.before.before.before.before
 
 abbrev second : After-copy_bytes → After-run_checked-r
-second c = first c.before.before.before.before.before
+second c = first c.before.before.before.before
 
 abbrev third : After-copy8 → After-run_checked-r
-third c = second c.before.before.before.before.before.before
+third c = second c.before.before.before.before.before
 
 abbrev fourth : After-copy32-2 → After-run_checked-r
-fourth c = third c.before.before.before.before.before
+fourth c = third c.before.before.before.before
 
 pub returns-then-number-ne0 : goal.returns-then-number-ne0
 returns-then-number-ne0 c =
-    let s = start c.before in
+    let s = start c.before.before in
     refused _ (lent s) _ (check_fails _ (lent s) _ c.checked-number.ensures c.if-number-ne0.true) c.if-number-ne0.true
 
 pub slice_bounds-ay-end : goal.slice_bounds-ay-end
-slice_bounds-ay-end c = size c.before
+slice_bounds-ay-end c = size c.before.before
 
 pub slice_bounds-ax-end : goal.slice_bounds-ax-end
-slice_bounds-ax-end c = size c.before.before
+slice_bounds-ax-end c = size c.before.before.before
 
 pub slice_bounds-ad-end : goal.slice_bounds-ad-end
-slice_bounds-ad-end c = size c.before.before.before
+slice_bounds-ad-end c = size c.before.before.before.before
 
 pub slice_bounds-az-end : goal.slice_bounds-az-end
-slice_bounds-az-end c = size c.before.before.before.before
+slice_bounds-az-end c = size c.before.before.before.before.before
 
 pub slice_bounds-at-end : goal.slice_bounds-at-end
-slice_bounds-at-end c = size c.before.before.before.before.before
+slice_bounds-at-end c = size c.before.before.before.before.before.before
 
 pub run_checked-r-requires : goal.run_checked-r-requires
-run_checked-r-requires c = let k = c.before.before.before.before.before.before in (checked k, areas-long k)
+run_checked-r-requires c = let k = c.before.before.before.before.before.before in (checked k.before, areas-long k.before)
 
 pub returns-then-r-ne0 : goal.returns-then-r-ne0
 returns-then-r-ne0 c =
     let r = c.before.before.before.before.before.before.before in
-    let k = (going r).before in
-    answered _ (lent (passed k)) (number k) r.run_checked-r.ensures (block_none r.run_checked-r.ensures (given r) c.if-r-ne0.true)
+    let k = (going r.before).before in
+    answered _ (lent (passed k)) (number k) r.run_checked-r.ensures (block_none r.run_checked-r.ensures (given r.before) c.if-r-ne0.true)
 
 pub slice_bounds-copy32-end : goal.slice_bounds-copy32-end
 slice_bounds-copy32-end c = let r = c.before.before.before.before.before.before.before.before in area_room (y-out r) _ (y_long r)
@@ -209,9 +209,9 @@ copy_bytes-requires-2 c = let r = fourth c.before.before.before.before in area_c
 pub returns : goal.returns
 returns c =
     let z = c.before.before.before.before.before.before.before in
-    let d = z.before.before.before.before.before in
-    let x = d.before.before.before.before.before.before in
-    let y = x.before.before.before.before.before in
+    let d = z.before.before.before.before in
+    let x = d.before.before.before.before.before in
+    let y = x.before.before.before.before in
     let r = first y in
     let k = (going r).before in
     answered _ (lent (passed k)) (number k) r.run_checked-r.ensures
