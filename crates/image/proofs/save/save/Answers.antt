@@ -119,8 +119,8 @@ abbrev at : After-put_header → After-end_place-end
 at c = (long-enough (lent c)).before
 
 headed_long : (c : After-put_header) → let b = (start (long-enough (lent c))).args.buffer.now in
-    length (c.put_header.new.1.0 ++ drop (first (at c)) b) ≡ length b
-headed_long c = length_front (start (long-enough (lent c))).args.buffer.now c.put_header.new.1.0 (first (at c)) c.put_header.auto.1.0
+    length (c.put_header.new.out ++ drop (first (at c)) b) ≡ length b
+headed_long c = length_front (start (long-enough (lent c))).args.buffer.now c.put_header.new.out (first (at c)) c.put_header.auto.out
 
 -- ---- the needs
 pub returns-then-number-ne0 : goal.returns-then-number-ne0
@@ -145,7 +145,7 @@ slice_bounds-put_words-end c = sym (weights-taken (lent c.before.before.before.b
 
 -- the buffer after the header
 abbrev headedBuffer : After-put_header → List ℕ
-headedBuffer h = h.put_header.new.1.0 ++ drop (first (at h)) (start (long-enough (lent h))).args.buffer.now
+headedBuffer h = h.put_header.new.out ++ drop (first (at h)) (start (long-enough (lent h))).args.buffer.now
 
 mid-fits : (h : After-put_header) → mid (at h) ≤ length (headedBuffer h)
 mid-fits h = omega (arith, headed_long h, room (long-enough (lent h)), mid-is (at h))
@@ -163,12 +163,12 @@ slice_bounds-put_words-end-3 c = sym (past-taken (lent (headed c.before.before.b
 
 -- the buffer after the weights
 abbrev weighedBuffer : After-put_words → List ℕ
-weighedBuffer w = let h = headed w in put_mid (first (at h)) (mid (at h) - first (at h)) (headedBuffer h) w.put_words.new.1.0
+weighedBuffer w = let h = headed w in put_mid (first (at h)) (mid (at h) - first (at h)) (headedBuffer h) w.put_words.new.out
 
 weighed-long : (w : After-put_words) → length (weighedBuffer w) ≡ length (start (long-enough (lent (headed w)))).args.buffer.now
 weighed-long w =
     let h = headed w in
-    same_len_mid (first (at h)) (mid (at h) - first (at h)) (headedBuffer h) w.put_words.new.1.0 w.put_words.auto.1.0 ∙ headed_long h
+    same_len_mid (first (at h)) (mid (at h) - first (at h)) (headedBuffer h) w.put_words.new.out w.put_words.auto.out ∙ headed_long h
 
 end_fits : (w : After-put_words) → end (at (headed w)) ≤ length (weighedBuffer w)
 end_fits w = omega (arith, weighed-long w, room (long-enough (lent (headed w))), end_is (at (headed w)))
@@ -187,7 +187,7 @@ returns c =
     let l = long-enough (lent h) in
     let s = start l in
     save_done s.args.e s.args.buffer.now (end (at h)) _ (sound l.before.before.before.before) (room l) (end_is (at h))
-    (image_put s.args.e s.args.buffer.now h.put_header.last.1.0 w.put_words.last.1.0 p.put_words-2.new.1.0
+    (image_put s.args.e s.args.buffer.now h.put_header.new.out w.put_words.new.out p.put_words-2.new.out
     (first (at h)) (mid (at h)) (end (at h)) (first-is (at h)) (mid-is (at h)) (end_is (at h))
     (weights_within (lent h)) (past_within (lent h)) h.put_header.ensures w.put_words.ensures p.put_words-2.ensures)
 
@@ -213,7 +213,7 @@ pub slice_bounds-put_words-start : goal.slice_bounds-put_words-start
 slice_bounds-put_words-start c = let h = c.before.before.before in omega (arith, first-is (at h.before), mid-is (at h.before))
 
 pub slice_bounds-put_words-end-2 : goal.slice_bounds-put_words-end-2
-slice_bounds-put_words-end-2 c = mid-fits c.before.before.before
+slice_bounds-put_words-end-2 c = mid-fits c.before.before.before.before
 
 pub slice_bounds-put_words-count-2 : goal.slice_bounds-put_words-count-2
 slice_bounds-put_words-count-2 c = let h = headed c.before.before.before.before in omega (arith, mid-is (at h), end_is (at h))
@@ -222,4 +222,4 @@ pub slice_bounds-put_words-start-2 : goal.slice_bounds-put_words-start-2
 slice_bounds-put_words-start-2 c = let h = headed c.before.before.before.before in omega (arith, mid-is (at h), end_is (at h))
 
 pub slice_bounds-put_words-end-4 : goal.slice_bounds-put_words-end-4
-slice_bounds-put_words-end-4 c = end_fits c.before.before.before
+slice_bounds-put_words-end-4 c = end_fits c.before.before.before.before
