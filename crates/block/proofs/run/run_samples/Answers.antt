@@ -102,8 +102,8 @@ turn c = (called c).before.before.before.before.before
 abbrev turning : After-advance-t → At-loop-n
 turning c = c.before.before.before.before.before.before
 
-abbrev turn-read : After-advance-t → After-advance-arg-1
-turn-read c = c.before.before.before.before
+abbrev turn_read : After-advance-t → After-advance-arg-1
+turn_read c = c.before.before.before.before
 
 -- the lists have a place n
 pub offset_bounds-y-n : goal.offset_bounds-y-n
@@ -190,7 +190,7 @@ pub returns-then-at-gt-EXPONENT : goal.returns-then-at-gt-EXPONENT
 returns-then-at-gt-EXPONENT c o i b =
     let d = c.before.before.before in
     let a = called d in
-    stopped b ((turning a).loop-n.invariant o i b) (more (turn d)) (read (turn-read a)) _ a.advance-t.ensures (symbols_long a) (stored d) c.if-at-gt-EXPONENT.true
+    stopped b ((turning a).loop-n.invariant o i b) (more (turn d)) (read (turn_read a)) _ a.advance-t.ensures (symbols_long a) (stored d) c.if-at-gt-EXPONENT.true
 
 -- ---- it keeps it
 pub loop-n-smaller : goal.loop-n-smaller
@@ -200,7 +200,7 @@ pub loop-n-preserved : goal.loop-n-preserved
 loop-n-preserved c o i b =
     let d = c.before.before.before in
     let a = called d in
-    passed_next b ((turning a).loop-n.invariant o i b) (more (turn d)) (read (turn-read a)) _ a.advance-t.ensures (symbols_long a) (stored d)
+    passed_next b ((turning a).loop-n.invariant o i b) (more (turn d)) (read (turn_read a)) _ a.advance-t.ensures (symbols_long a) (stored d)
     c.if-at-gt-EXPONENT.false (kept w16 _ c.next_delay-arg-1.given) c.next_delay-delay.ensures
 
 -- ---- after the last sample
