@@ -56,7 +56,7 @@ exponents : (c : After-begin-e) → let s = start c in ExponentsOf (settings s) 
 exponents c = exponents_of c.begin-e.ensures
 
 pub rescale_all-requires : goal.rescale_all-requires
-rescale_all-requires c = let b = c.before in window_storable (exponents b) (start b).requires
+rescale_all-requires c = let b = c.before in window_storable (exponents b.before) (start b.before).requires
 
 pub fill-requires : goal.fill-requires
 fill-requires c =
@@ -68,20 +68,20 @@ start-requires c = (symbols_most c.requires, refl)
 
 -- the place where the block began, from that where its lines are filled
 abbrev opening : After-start → After-begin-e
-opening c = c.before.before.before.before.before.before.before.before.before.before.before.before.before
+opening c = c.before.before.before.before.before.before.before.before.before.before.before
 
 abbrev filling : After-start → After-fill
-filling c = c.before.before.before.before.before
+filling c = c.before.before.before.before
 
 abbrev rescaled : After-start → After-rescale_all
-rescaled c = c.before.before.before.before.before.before.before.before.before.before.before
+rescaled c = c.before.before.before.before.before.before.before.before.before
 
 -- the line of samples
 abbrev samples : After-start → List ℤ
-samples c = (filling c).fill.new.1.1.1.1.1.0
+samples c = (filling c).fill.new.line
 
 begun : (c : After-start) → let b = opening c in let s = start b in
-    BegunOn (settings s) (memory s) (block s) b.begin-e.result s.args.psi s.args.entries.now s.args.forward.now s.args.back.now (samples c) c.start.new.1.0 (lent s)
+    BegunOn (settings s) (memory s) (block s) b.begin-e.result s.args.psi s.args.entries.now s.args.forward.now s.args.back.now (samples c) c.start.new.line (lent s)
 begun c =
     let b = opening c in
     begun_on (exponents b) (start b).requires (rescaled c).rescale_all.ensures (replicate line_length (pos 0)) refl (filling c).fill.ensures.1
@@ -89,7 +89,7 @@ begun c =
 
 -- ---- the samples
 pub run_samples-r-requires : goal.run_samples-r-requires
-run_samples-r-requires c = let l = c.before.before.before.before.before.before.before.before.before.before in let s = start (opening l) in record { o = memory s; i = block s; begun = begun l }
+run_samples-r-requires c = let l = c.before.before.before.before.before.before.before.before.before.before in let s = start (opening l.before) in record { o = memory s; i = block s; begun = begun l.before }
 
 -- from the place after them
 abbrev lined : After-run_samples-r → After-start
@@ -97,37 +97,37 @@ lined c = c.before.before.before.before.before.before.before.before.before.befor
 
 -- the line of symbols
 abbrev symbols : After-run_samples-r → List ℤ
-symbols c = c.run_samples-r.new.1.1.1.1.1.1.1.0
+symbols c = c.run_samples-r.new.symbols
 
 symbols_long : (c : After-run_samples-r) → length (symbols c) ≡ line_length
-symbols_long c = c.run_samples-r.auto.1.1.1.1.1.1.1.0 ∙ (begun (lined c)).symbols_long
+symbols_long c = c.run_samples-r.auto.symbols ∙ (begun (lined c)).symbols_long
 
 progressed : (c : After-run_samples-r) → let s = start (opening (lined c)) in
-    ProgressedOn (settings s) (memory s) (block s) (samples (lined c)) (lent s) c.run_samples-r.result c.run_samples-r.new.1.1.1.1.0 c.run_samples-r.new.1.1.1.1.1.0 (symbols c)
-    (outputs_of c.run_samples-r.new.1.1.1.1.1.1.1.1.0 c.run_samples-r.new.1.1.1.1.1.1.1.1.1.0 c.run_samples-r.new.1.1.1.1.1.1.1.1.1.1.0
-    c.run_samples-r.new.1.1.1.1.1.1.1.1.1.1.1.0 c.run_samples-r.new.1.1.1.1.1.1.1.1.1.1.1.1.0)
+    ProgressedOn (settings s) (memory s) (block s) (samples (lined c)) (lent s) c.run_samples-r.result c.run_samples-r.new.forward c.run_samples-r.new.back (symbols c)
+    (outputs_of c.run_samples-r.new.y c.run_samples-r.new.xi c.run_samples-r.new.decision
+    c.run_samples-r.new.z c.run_samples-r.new.theta)
 progressed c = let s = start (opening (lined c)) in c.run_samples-r.ensures (memory s) (block s) (begun (lined c))
 
 -- ---- after the last sample
 pub newest-requires : goal.newest-requires
 newest-requires c =
     let r = c.before.before.before.before.before.before.before.before.before.before.before.before in
-    let b = opening (lined r) in
+    let b = opening (lined r.before) in
     let q = (start b).requires in
-    (count_room (progressed r) q.sound.within.N_most, (begun (lined r)).sample_line.long, window_most (exponents b) q (rescaled (lined r)).rescale_all.ensures)
+    (count_room (progressed r.before) q.sound.within.N_most, (begun (lined r.before)).sample_line.long, window_most (exponents b) q (rescaled (lined r.before)).rescale_all.ensures)
 
 pub newest-requires-2 : goal.newest-requires-2
 newest-requires-2 c =
     let r = c.before.before.before.before.before.before.before.before.before.before.before.before.before.before.before.before in
-    let s = start (opening (lined r)) in
-    (count_room (progressed r) s.requires.sound.within.N_most, symbols_long r, symbols_most s.requires)
+    let s = start (opening (lined r.before)) in
+    (count_room (progressed r.before) s.requires.sound.within.N_most, symbols_long r.before, symbols_most s.requires)
 
 pub shape_of-samples : goal.shape_of-samples
-shape_of-samples c = c.newest.auto.1.1.0 ∙ (rescaled (lined c.before.before.before.before.before.before.before.before.before.before.before.before.before.before.before.before.before.before)).rescale_all.auto.0
+shape_of-samples c = c.newest.auto.out ∙ (rescaled (lined c.before.before.before.before.before.before.before.before.before.before.before.before.before.before.before.before.before.before.before)).rescale_all.auto.xs
 
 pub returns : goal.returns
 returns c =
     let r = c.before.before.before.before.before.before.before.before.before.before.before.before.before.before.before.before.before.before in
-    let b = opening (lined r) in
+    let b = opening (lined r.before) in
     let s = start b in
-    block_result (progressed r) (window_long (exponents b) s.requires (rescaled (lined r)).rescale_all.ensures) s.requires.sound.symbols_long c.newest.ensures c.newest-2.ensures (exponents b).b_is (exponents b).bmax_is
+    block_result (progressed r.before) (window_long (exponents b) s.requires (rescaled (lined r.before)).rescale_all.ensures) s.requires.sound.symbols_long c.newest.ensures c.newest-2.ensures (exponents b).b_is (exponents b).bmax_is

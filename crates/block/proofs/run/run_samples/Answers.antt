@@ -107,41 +107,41 @@ turn-read c = c.before.before.before.before
 
 -- the lists have a place n
 pub offset_bounds-y-n : goal.offset_bounds-y-n
-offset_bounds-y-n c = place_fits (turn c).loop-n.n 4 (room (turn c)) (lit< tt)
+offset_bounds-y-n c = place_fits (turn c.before).loop-n.n 4 (room (turn c.before)) (lit< tt)
 
 pub bounds-y-n : goal.bounds-y-n
-bounds-y-n c = let l = (turn c).before in within (more (turn c)) (start l).requires.begun.outputs_long.y_long (passed l).reached.y_written
+bounds-y-n c = let l = (turn c.before).before in within (more (turn c.before)) (start l).requires.begun.outputs_long.y_long (passed l).reached.y_written
 
 pub bounds-xi-n : goal.bounds-xi-n
-bounds-xi-n c = let l = (turn c).before in within (more (turn c)) (start l).requires.begun.outputs_long.xi_long (passed l).reached.xi_written
+bounds-xi-n c = let l = (turn c.before).before in within (more (turn c.before)) (start l).requires.begun.outputs_long.xi_long (passed l).reached.xi_written
 
 pub bounds-decision-n : goal.bounds-decision-n
-bounds-decision-n c = let l = (turn c).before in within (more (turn c)) (start l).requires.begun.outputs_long.decision_long (passed l).reached.decision_written
+bounds-decision-n c = let l = (turn c.before).before in within (more (turn c.before)) (start l).requires.begun.outputs_long.decision_long (passed l).reached.decision_written
 
 pub offset_bounds-z-n : goal.offset_bounds-z-n
-offset_bounds-z-n c = place_fits (turn c).loop-n.n 4 (room (turn c)) (lit< tt)
+offset_bounds-z-n c = place_fits (turn c.before).loop-n.n 4 (room (turn c.before)) (lit< tt)
 
 pub bounds-z-n : goal.bounds-z-n
-bounds-z-n c = let l = (turn c).before in within (more (turn c)) (start l).requires.begun.outputs_long.z_long (passed l).reached.z_written
+bounds-z-n c = let l = (turn c.before).before in within (more (turn c.before)) (start l).requires.begun.outputs_long.z_long (passed l).reached.z_written
 
 pub bounds-theta-n : goal.bounds-theta-n
-bounds-theta-n c = let l = (turn c).before in within (more (turn c)) (start l).requires.begun.outputs_long.theta_long (passed l).reached.theta_written
+bounds-theta-n c = let l = (turn c.before).before in within (more (turn c.before)) (start l).requires.begun.outputs_long.theta_long (passed l).reached.theta_written
 
 -- the line of symbols has a place for this sample
-symbols_long : (c : After-advance-t) → length c.advance-t.new.1.1.1.1.1.1.1.1.1.0 ≡ line_length
-symbols_long c = c.advance-t.auto.1.1.1.1.1.1.1.1.1.0 ∙ (passed (turning c)).reached.symbols_long
+symbols_long : (c : After-advance-t) → length c.advance-t.new.symbols ≡ line_length
+symbols_long c = c.advance-t.auto.symbols ∙ (passed (turning c)).reached.symbols_long
 
 pub overflow_sub-n : goal.overflow_sub-n
-overflow_sub-n c = omega (arith, room (turn c))
+overflow_sub-n c = omega (arith, room (turn c.before))
 
 pub offset_bounds-symbols-n : goal.offset_bounds-symbols-n
-offset_bounds-symbols-n c = let n = (turn c).loop-n.n in place_fits (place n) 2 (place_within n) (lit< tt)
+offset_bounds-symbols-n c = let n = (turn c.before).loop-n.n in place_fits (place n) 2 (place_within n) (lit< tt)
 
 pub slice_copy_out-next_delay : goal.slice_copy_out-next_delay
-slice_copy_out-next_delay c = line_place (turn c).loop-n.n (called c).advance-t.new.1.1.1.1.1.1.1.1.1.0 (symbols_long (called c))
+slice_copy_out-next_delay c = line_place (turn c.before).loop-n.n (called c.before).advance-t.new.symbols (symbols_long (called c.before))
 
 pub next_delay-delay-requires : goal.next_delay-delay-requires
-next_delay-delay-requires c = let t = turn c.before in ((start t.before).requires.begun.sound.within.r_most, delay_fits (room t) (passed t.before).delay_most)
+next_delay-delay-requires c = let t = turn c.before.before in ((start t.before).requires.begun.sound.within.r_most, delay_fits (room t) (passed t.before).delay_most)
 
 pub overflow_add-n : goal.overflow_add-n
 overflow_add-n c = let t = turn c.before.before in next_fits t.loop-n.n (room t)
@@ -163,10 +163,10 @@ abbrev stopping : Then-at-gt-EXPONENT → After-advance-t
 stopping c = called c.before.before.before
 
 pub shape_of-forward-then-at-gt-EXPONENT : goal.shape_of-forward-then-at-gt-EXPONENT
-shape_of-forward-then-at-gt-EXPONENT c = let a = stopping c in a.advance-t.kept.1.1.1.1.1.1.0 ∙ (lengths (turning a)).0
+shape_of-forward-then-at-gt-EXPONENT c = let a = stopping c in a.advance-t.auto.forward ∙ (lengths (turning a)).0
 
 pub shape_of-back-then-at-gt-EXPONENT : goal.shape_of-back-then-at-gt-EXPONENT
-shape_of-back-then-at-gt-EXPONENT c = let a = stopping c in a.advance-t.kept.1.1.1.1.1.1.1.0 ∙ (lengths (turning a)).1
+shape_of-back-then-at-gt-EXPONENT c = let a = stopping c in a.advance-t.auto.back ∙ (lengths (turning a)).1
 
 pub shape_of-symbols-then-at-gt-EXPONENT : goal.shape_of-symbols-then-at-gt-EXPONENT
 shape_of-symbols-then-at-gt-EXPONENT c = let a = stopping c in symbols_long a ∙ sym (start (turning a)).requires.begun.symbols_long

@@ -43,10 +43,10 @@ normalise-requires c =
 error_kept : (c : After-update-ahead) → to_z w32 (of_z w32 (start c).args.j.z) ≡ (start c).args.j.z
 error_kept c = kept w32 (start c).args.j.z (omega (arith, c.struct_told-1.given))
 
-ahead : (c : After-update-ahead) → let a = (start c).args in c.update-ahead.new.0 ≡ updated_forward a.m a.e a.psi a.j a.forward.now a.samples.now
+ahead : (c : After-update-ahead) → let a = (start c).args in c.update-ahead.new.w ≡ updated_forward a.m a.e a.psi a.j a.forward.now a.samples.now
 ahead c = c.update-ahead.ensures.0 ∙ rw (error_kept c)
 
-behind : (c : After-update-behind) → let a = (start (first c)).args in c.update-behind.new.0 ≡ updated_back a.m a.e a.h.nu a.psi a.j a.back.now a.symbols.now
+behind : (c : After-update-behind) → let a = (start (first c)).args in c.update-behind.new.w ≡ updated_back a.m a.e a.h.nu a.psi a.j a.back.now a.symbols.now
 behind c = c.update-behind.ensures.0 ∙ rw (error_kept (first c))
 
 pub returns : goal.returns

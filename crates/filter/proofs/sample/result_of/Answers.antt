@@ -14,13 +14,13 @@ abbrev Start : Type 0
 Start = Lts.Start Reads.Pre Reads.Post
 
 decision-16 : (c : Start) → to_z w16 (of_z w16 c.args.j.decision) ≡ c.args.j.decision
-decision-16 c = to_z-of_z (fits_abs c.args.j.decision (omega (arith, c.requires.2)))
+decision-16 c = to_z-of_z {w = w16} (fits_abs c.args.j.decision (omega (arith, c.requires.2)))
 
 decision-8 : (c : Start) → SFits w8 c.args.j.decision
 decision-8 c = fits_abs c.args.j.decision (omega (arith, c.requires.2))
 
 pub overflow_cast-result-2 : goal.overflow_cast-result-2
-overflow_cast-result-2 c = rw (decision-16 c.before.before.before) (decision-8 c.before.before.before)
+overflow_cast-result-2 c = rw (decision-16 c.before.before.before.before) (decision-8 c.before.before.before.before)
 
 pub returns : goal.returns
 returns c =

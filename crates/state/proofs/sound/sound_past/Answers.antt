@@ -13,6 +13,7 @@ use Rattle.numbers.proofs.ScaleCountLaws.{scale_least}
 use Rattle.steps.specs.Limits.{slots, scale_limit}
 use Rattle.steps.specs.Settings.{is_entry, scale_forward}
 use Rattle.state.specs.State.{settings, taps, samples, filler, is_zero, is_stored}
+use mir.Syntax.{w16}
 use Rattle.state.proofs.sound.sound_past.Lts
 use Rattle.state.proofs.sound.sound_past.Tie
 use Rattle.state.proofs.sound.sound_past.Reads
@@ -24,22 +25,11 @@ Start = Lts.Start Tie.the-claims Reads.Pre Reads.Post
 abbrev After-scale_count-s : Type 0
 After-scale_count-s = Lts.After-scale_count Tie.the-claims Reads.Pre Reads.Post
 
-abbrev After-all_stored : Type 0
-After-all_stored = Lts.After-all_stored Tie.the-claims Reads.Pre Reads.Post
-
 long : (c : Start) → length c.args.e.past ≡ slots
 long c = search rules
 
 abbrev start : After-scale_count-s → Start
 start c = c.before.before.before.before
-
-stored : (c : After-all_stored) →
-    let e = (start c.before.before).args.e in
-    c.all_stored.result ≡ all (is_stored (scale_forward (settings e)) e.b e.bmax) (samples e)
-stored c =
-    let e = (start c.before.before).args.e in
-    c.all_stored.ensures
-    ∙ ap₂ (λ (s : ℕ) (l : List ℤ). all (is_stored s e.b e.bmax) l) c.scale_count-s.ensures (front_is (e.p - 1) e.past)
 
 pub slice_bounds-all_stored-end : goal.slice_bounds-all_stored-end
 slice_bounds-all_stored-end c = omega (arith, long c.before.before.before.before)
@@ -55,11 +45,12 @@ slice_bounds-all_zero-end c = omega (arith, long c.before.before.before.before.b
 
 pub returns : goal.returns
 returns c =
-    let x = c.before.before.before in
-    let a = x.before.before.before.before.before in
-    let t = start a in
-    let e = t.args.e in
+    let e = c.args.e in
+    let l : length e.past ≡ slots = search rules in
+    let stored : c.all_stored.result ≡ all (is_stored (scale_forward (settings e)) e.b e.bmax) (samples e) =
+        c.all_stored.ensures
+        ∙ ap₂ (λ (s : ℕ) (l : List ℤ). all (is_stored s e.b e.bmax) l) c.scale_count-s.ensures (front_is (e.p - 1) e.past) in
     ap₂ (λ (a b : Bool). a && b)
-    (ap₂ (λ (a b : Bool). a && b) (ap₂ (λ (a b : Bool). a && b) (stored a) (zero_test {z = filler e} (sfits_of x.result-1.given)))
-    (x.all_symbols.ensures ∙ ap (all (is_entry e.r)) (part_is e.p e.q e.past)))
-    (c.all_zero.ensures ∙ ap (all is_zero) (rest_is (taps e) slots e.past (long t)))
+    (ap₂ (λ (a b : Bool). a && b) (ap₂ (λ (a b : Bool). a && b) stored (zero_test {w = w16} {z = filler e} (sfits_of c.result-1.given)))
+    (c.all_symbols.ensures ∙ ap (all (is_entry e.r)) (part_is e.p e.q e.past)))
+    (c.all_zero.ensures ∙ ap (all is_zero) (rest_is (taps e) slots e.past l))

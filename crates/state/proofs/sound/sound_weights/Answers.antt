@@ -28,8 +28,7 @@ slice_bounds-all_zero-end c = omega (arith, long c.before.before.before.before.b
 
 pub returns : goal.returns
 returns c =
-    let a = c.before.before.before in
-    let t = a.before.before.before.before in
-    let e = t.args.e in
-    ap₂ (λ (a b : Bool). a && b) (a.all_small.ensures ∙ ap all_small (front_is (taps e) e.weights))
-    (c.all_zero.ensures ∙ ap (all_below 1) (rest_is (taps e) slots e.weights (long t)) ∙ below_one (drop (taps e) e.weights))
+    let e = c.args.e in
+    let l : length e.weights ≡ slots = search rules in
+    ap₂ (λ (a b : Bool). a && b) (c.all_small.ensures ∙ ap all_small (front_is (taps e) e.weights))
+    (c.all_zero.ensures ∙ ap (all_below 1) (rest_is (taps e) slots e.weights l) ∙ below_one (drop (taps e) e.weights))

@@ -68,7 +68,7 @@ weight c =
 datum : (c : After-adapted_by-arg-in-loop-i-1) →
     let x = get_or (start c.before.before.before).args.a.now c.loop-i.i (pos 0) in
     to_z w16 (of_z w16 x) ≡ x
-datum c = to_z-of_z (sfits_of c.adapted_by-arg-in-loop-i-1.given)
+datum c = kept w16 _ c.adapted_by-arg-in-loop-i-1.given
 
 pub adapted_by-new-requires : goal.adapted_by-new-requires
 adapted_by-new-requires c =
