@@ -54,13 +54,13 @@ sound : (c : Else-number-ne0) → examined (first c).args.e ≡ 0
 sound c = sym c.examined-number.ensures ∙ c.if-number-ne0.false
 
 lengths : (c : Else-not-lengths_fit) → let s = first (second c) in lengths_fit s.args.e.n (lent s) ≡ true
-lengths c = sym c.lengths_fit.ensures ∙ not-false _ c.if-not-lengths_fit.false
+lengths c = sym c.lengths_fit.ensures ∙ c.if-not-lengths_fit.false
 
 lengths-off : (c : Then-not-lengths_fit) → let s = first c.before.before.before in lengths_fit s.args.e.n (lent s) ≡ false
-lengths-off c = sym c.lengths_fit.ensures ∙ not-true _ c.if-not-lengths_fit.true
+lengths-off c = sym c.lengths_fit.ensures ∙ c.if-not-lengths_fit.true
 
 gains : (c : Else-not-all_gains) → let s = first (second (third c)) in all (gain_fits s.args.e.l) s.args.gains.now ≡ true
-gains c = sym c.all_gains.ensures ∙ not-false _ c.if-not-all_gains.false
+gains c = sym c.all_gains.ensures ∙ c.if-not-all_gains.false
 
 pub returns-then-number-ne0 : goal.returns-then-number-ne0
 returns-then-number-ne0 c = state_fails _ (lent (start c.before.before)) _ c.examined-number.ensures c.if-number-ne0.true
@@ -68,13 +68,13 @@ returns-then-number-ne0 c = state_fails _ (lent (start c.before.before)) _ c.exa
 pub returns-then-not-lengths_fit : goal.returns-then-not-lengths_fit
 returns-then-not-lengths_fit c =
     let a = c.before.before.before in
-    lengths_fail _ (lent (first a.before)) (sound a) (lengths-off c)
+    lengths_fail _ (lent (first a.before)) (sound a.before) (lengths-off c.before)
 
 pub returns-then-not-all_gains : goal.returns-then-not-all_gains
 returns-then-not-all_gains c =
     let b = c.before.before in
     let a = second b.before in
-    gains_fail _ (lent (first a)) (sound a) (lengths b) (sym c.all_gains.ensures ∙ not-true _ c.if-not-all_gains.true)
+    gains_fail _ (lent (first a)) (sound a) (lengths b.before) (sym c.all_gains.ensures ∙ c.if-not-all_gains.true)
 
 pub all_entries-requires : goal.all_entries-requires
 all_entries-requires c =
@@ -86,10 +86,10 @@ pub returns-then-all_entries : goal.returns-then-all_entries
 returns-then-all_entries c =
     let d = c.before.before.before in
     let a = second (third d.before) in
-    checks_pass _ (lent (first a)) (sound a) (lengths (third d)) (gains d) (sym c.all_entries.ensures ∙ c.if-all_entries.true)
+    checks_pass _ (lent (first a)) (sound a) (lengths (third d.before)) (gains d.before) (sym c.all_entries.ensures ∙ c.if-all_entries.true)
 
 pub returns-else-all_entries : goal.returns-else-all_entries
 returns-else-all_entries c =
     let d = c.before.before.before in
     let a = second (third d.before) in
-    entries_fail _ (lent (first a)) (sound a) (lengths (third d)) (gains d) (sym c.all_entries.ensures ∙ c.if-all_entries.false)
+    entries_fail _ (lent (first a)) (sound a) (lengths (third d.before)) (gains d.before) (sym c.all_entries.ensures ∙ c.if-all_entries.false)

@@ -63,17 +63,17 @@ returns-then-bytes-lt-LEAST_HEADER c = frame_short c.args.bytes.now c.if-bytes-l
 pub returns-then-not-sizes_fit : goal.returns-then-not-sizes_fit
 returns-then-not-sizes_fit c =
     let f = c.before in
-    frame_sizes (bytes f.before) f.if-bytes-lt-LEAST_HEADER.false (fitting f ∙ not-true f.sizes_fit.result c.if-not-sizes_fit.true)
+    frame_sizes (bytes f.before) f.if-bytes-lt-LEAST_HEADER.false (fitting f.before ∙ c.if-not-sizes_fit.true)
 
 pub returns-then-bytes-end_place : goal.returns-then-bytes-end_place
 returns-then-bytes-end_place c =
     let f = sized c.before.before in
-    frame_exact (bytes f) f.if-bytes-lt-LEAST_HEADER.left (fitting f ∙ not-false f.sizes_fit.result c.if-not-sizes_fit.false) (c.if-bytes-end_place.true ∙ end_is c.before)
+    frame_exact (bytes f) f.if-bytes-lt-LEAST_HEADER.false (fitting f ∙ c.if-not-sizes_fit.false) (c.if-bytes-end_place.true ∙ end_is c.before)
 
 pub returns-else-bytes-end_place : goal.returns-else-bytes-end_place
 returns-else-bytes-end_place c =
     let f = sized c.before.before in
-    frame_other (bytes f) f.if-bytes-lt-LEAST_HEADER.left (fitting f ∙ not-false f.sizes_fit.result c.if-not-sizes_fit.false) (λ q. c.if-bytes-end_place.false (q ∙ sym (end_is c.before)))
+    frame_other (bytes f) f.if-bytes-lt-LEAST_HEADER.false (fitting f ∙ c.if-not-sizes_fit.false) (λ q. c.if-bytes-end_place.false (q ∙ sym (end_is c.before)))
 
 pub overflow_add-taps : goal.overflow_add-taps
 overflow_add-taps c = omega (arith, few c.before)
