@@ -2,7 +2,7 @@
 
 // Standard input and output of a program, whole or with a line on standard error that says what went wrong. A program hands
 // in its streams: err is standard error.
-ghost use Rattle.std.specs.Prelude.{◌≡◌, ◌≤◌, ◌↔◌, leb, ltb, length, IfOk, IsErr, IsOk, IsTrue};
+ghost use Rattle.std.specs.Prelude.{◌≡◌, ◌≤◌, leb, ltb, length, IfOk, is_err, is_ok};
 ghost use Rattle.std.specs.Counts.{IsPrefixLen};
 
 use std::env::{Env, FillError};
@@ -63,7 +63,7 @@ where
 
 // Whether reading has failed, by what one read more answered. Where it has, a line says why.
 pub fn failed(err: &impl Print, next: io::Result<usize>, program: &[u8]) -> bool
-    ensures { IsTrue result ↔ IsErr next }
+    ensures { result ≡ is_err next }
 {
     match next {
         Ok(_) => false,
@@ -76,7 +76,7 @@ pub fn failed(err: &impl Print, next: io::Result<usize>, program: &[u8]) -> bool
 
 // Whether standard output took the whole text, as its writing answered. Where it did not, a line says why.
 pub fn written(err: &impl Print, whole: io::Result<()>, program: &[u8]) -> bool
-    ensures { IsTrue result ↔ IsOk whole }
+    ensures { result ≡ is_ok whole }
 {
     match whole {
         Ok(()) => true,
