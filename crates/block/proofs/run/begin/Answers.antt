@@ -2,7 +2,6 @@
 use mathlib.Core.Path.{◌≡◌, ap, ap₂, ◌∙◌}
 use Prim.Native.Nat.{ℕ, ◌+◌, ◌≤◌, max}
 use native.Mathlib.Omega.{arith}
-use borrow.Author.Rules.{rules}
 use Rattle.numbers.specs.BitLength.{bit_length}
 use Rattle.numbers.proofs.BitLengthLaws.{bit_length_le}
 use Rattle.block.specs.Calls.{block_length}
@@ -35,19 +34,19 @@ scaled c = c.before.before.before
 abbrev start : After-received_bits → Start
 start c = (scaled c).before.before.before
 
-length-is : (c : After-larger-bmax) → c.bit_length-b.result ≡ block_length (start (loud c)).args.m.now (start (loud c)).args.gains.now
-length-is c =
+length_is : (c : After-larger-bmax) → c.bit_length-b.result ≡ block_length (start (loud c)).args.m.now (start (loud c)).args.gains.now
+length_is c =
     let a = (start (loud c)).args in
     c.bit_length-b.ensures ∙ ap bit_length (loud c).received_bits.ensures ∙ received_largest_bits a.m.now a.gains.now
 
 length_most : (c : After-larger-bmax) → c.bit_length-b.result ≤ 64
 length_most c = omega (arith, c.bit_length-b.ensures, bit_length_le (loud c).received_bits.result 64 (omega (arith, (loud c).received_bits.type_inv)))
 
-larger-most : (c : After-larger-bmax) → c.larger-bmax.result ≤ 64
-larger-most c = omega (arith, c.larger-bmax.ensures, length_most c, (start (loud c)).requires.was_most)
+larger_most : (c : After-larger-bmax) → c.larger-bmax.result ≤ 64
+larger_most c = omega (arith, c.larger-bmax.ensures, length_most c, (start (loud c)).requires.was_most)
 
 pub overflow_add-result : goal.overflow_add-result
-overflow_add-result c = record { fits = omega (arith, larger-most c.before.before, (start (loud c.before.before)).requires.within.r_most) }
+overflow_add-result c = record { fits = omega (arith, larger_most c.before.before, (start (loud c.before.before)).requires.within.r_most) }
 
 pub overflow_add-result-2 : goal.overflow_add-result-2
 overflow_add-result-2 c =
@@ -55,7 +54,7 @@ overflow_add-result-2 c =
     record {
       fits = omega (
         arith,
-        larger-most c.before.before,
+        larger_most c.before.before,
         s.requires.within.r_most,
         (scaled (loud c.before.before)).scale_count-s.ensures,
         scale_most s.args.k.p s.requires.within.p_most,
@@ -66,11 +65,11 @@ pub returns : goal.returns
 returns c =
     let d = c.before in
     let a = (start (loud d.before)).args in
-    let bmax = d.larger-bmax.ensures ∙ ap (λ (n : ℕ). max n a.was) (length-is d.before) in
+    let bmax = d.larger-bmax.ensures ∙ ap (λ (n : ℕ). max n a.was) (length_is d.before) in
     record {
       s = (scaled (loud d.before)).scale_count-s.ensures;
       sb = (loud d.before).scale_count-sb.ensures;
-      b = length-is d.before;
+      b = length_is d.before;
       bmax = bmax;
       exponent = ap₂ (λ (x y : ℕ). a.k.r + x + y) bmax (scaled (loud d.before)).scale_count-s.ensures;
     }

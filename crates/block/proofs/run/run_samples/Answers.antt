@@ -1,6 +1,6 @@
 -- The samples one by one: when n are done, everything is as the definitions have it.
 use mathlib.Core.Path.{◌≡◌, sym, ap, ◌∙◌, subst}
-use Prim.Native.Nat.{ℕ, ◌-◌, ◌<◌}
+use Prim.Native.Nat.{ℕ, ◌<◌}
 use native.Mathlib.Omega.{arith}
 use native.Mathlib.Nat.{lt_of_lt_of_le}
 use lib.Dec.{lit<}
@@ -12,9 +12,8 @@ use Rattle.laws.specs.Machine.{kept}
 use Rattle.steps.specs.Limits.{block_limit}
 use Rattle.steps.specs.Sound.{line_length}
 use Rattle.steps.specs.Settings.{Settings}
-use Rattle.block.specs.Block.{Block, Memory, Outputs, outputs_of}
+use Rattle.block.specs.Block.{Outputs, outputs_of}
 use Rattle.block.specs.Line.{place}
-use Rattle.block.specs.Calls.{BegunOn}
 use Rattle.block.proofs.RunLaws.{Work, Passed, StoredAs, passed_none, forward_long, back_long, finished, advanceable, passed_next, stopped, place_fits, place_within, within, line_place, delay_fits, next_fits, fewer}
 use Rattle.block.proofs.run.run_samples.Lts
 use Rattle.block.proofs.run.run_samples.Tie
@@ -102,8 +101,8 @@ turn c = (called c).before.before.before.before.before
 abbrev turning : After-advance-t → At-loop-n
 turning c = c.before.before.before.before.before.before
 
-abbrev turn-read : After-advance-t → After-advance-arg-1
-turn-read c = c.before.before.before.before
+abbrev turn_read : After-advance-t → After-advance-arg-1
+turn_read c = c.before.before.before.before
 
 -- the lists have a place n
 pub offset_bounds-y-n : goal.offset_bounds-y-n
@@ -190,7 +189,7 @@ pub returns-then-at-gt-EXPONENT : goal.returns-then-at-gt-EXPONENT
 returns-then-at-gt-EXPONENT c o i b =
     let d = c.before.before.before in
     let a = called d in
-    stopped b ((turning a).loop-n.invariant o i b) (more (turn d)) (read (turn-read a)) _ a.advance-t.ensures (symbols_long a) (stored d) c.if-at-gt-EXPONENT.true
+    stopped b ((turning a).loop-n.invariant o i b) (more (turn d)) (read (turn_read a)) _ a.advance-t.ensures (symbols_long a) (stored d) c.if-at-gt-EXPONENT.true
 
 -- ---- it keeps it
 pub loop-n-smaller : goal.loop-n-smaller
@@ -200,7 +199,7 @@ pub loop-n-preserved : goal.loop-n-preserved
 loop-n-preserved c o i b =
     let d = c.before.before.before in
     let a = called d in
-    passed_next b ((turning a).loop-n.invariant o i b) (more (turn d)) (read (turn-read a)) _ a.advance-t.ensures (symbols_long a) (stored d)
+    passed_next b ((turning a).loop-n.invariant o i b) (more (turn d)) (read (turn_read a)) _ a.advance-t.ensures (symbols_long a) (stored d)
     c.if-at-gt-EXPONENT.false (kept w16 _ c.next_delay-arg-1.given) c.next_delay-delay.ensures
 
 -- ---- after the last sample

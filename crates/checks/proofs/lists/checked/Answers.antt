@@ -1,8 +1,6 @@
 -- Each check answers its number; the last one comes where all others passed.
 use mathlib.Core.Path.{◌≡◌, sym, ◌∙◌}
 use mathlib.Core.Bool.{true, false}
-use borrow.Author.Rules.{rules}
-use borrow.Author.Tests.{not-true, not-false}
 use Rattle.laws.specs.Lists.{all}
 use Rattle.state.specs.State.{settings}
 use Rattle.checks.specs.Checks.{Buffers, lengths_fit, gain_fits, buffers_of}
@@ -56,8 +54,8 @@ sound c = sym c.examined-number.ensures ∙ c.if-number-ne0.false
 lengths : (c : Else-not-lengths_fit) → let s = first (second c) in lengths_fit s.args.e.n (lent s) ≡ true
 lengths c = sym c.lengths_fit.ensures ∙ c.if-not-lengths_fit.false
 
-lengths-off : (c : Then-not-lengths_fit) → let s = first c.before.before.before in lengths_fit s.args.e.n (lent s) ≡ false
-lengths-off c = sym c.lengths_fit.ensures ∙ c.if-not-lengths_fit.true
+lengths_off : (c : Then-not-lengths_fit) → let s = first c.before.before.before in lengths_fit s.args.e.n (lent s) ≡ false
+lengths_off c = sym c.lengths_fit.ensures ∙ c.if-not-lengths_fit.true
 
 gains : (c : Else-not-all_gains) → let s = first (second (third c)) in all (gain_fits s.args.e.l) s.args.gains.now ≡ true
 gains c = sym c.all_gains.ensures ∙ c.if-not-all_gains.false
@@ -68,7 +66,7 @@ returns-then-number-ne0 c = state_fails _ (lent (start c.before.before)) _ c.exa
 pub returns-then-not-lengths_fit : goal.returns-then-not-lengths_fit
 returns-then-not-lengths_fit c =
     let a = c.before.before.before in
-    lengths_fail _ (lent (first a.before)) (sound a.before) (lengths-off c.before)
+    lengths_fail _ (lent (first a.before)) (sound a.before) (lengths_off c.before)
 
 pub returns-then-not-all_gains : goal.returns-then-not-all_gains
 returns-then-not-all_gains c =

@@ -24,11 +24,11 @@ After-sum-h = Lts.After-sum2 Tie.the-claims Reads.Pre Reads.Post
 pub reach-requires : goal.reach-requires
 reach-requires c = c.requires.1
 
-nu-is : (c : After-reach) → let a = c.args in a.e.sb + c.reach.result ≡ a.e.sb + largest_bits a.symbols.now
-nu-is c = ap (λ (n : ℕ). c.args.e.sb + n) c.reach.ensures
+nu_is : (c : After-reach) → let a = c.args in a.e.sb + c.reach.result ≡ a.e.sb + largest_bits a.symbols.now
+nu_is c = ap (λ (n : ℕ). c.args.e.sb + n) c.reach.ensures
 
 pub overflow_add-nu : goal.overflow_add-nu
-overflow_add-nu c = record { fits = omega (arith, nu-is c.before, c.requires.0.ν_most) }
+overflow_add-nu c = record { fits = omega (arith, nu_is c.before, c.requires.0.ν_most) }
 
 pub sum-f-requires : goal.sum-f-requires
 sum-f-requires c = c.requires.0.forward_sum
@@ -43,14 +43,14 @@ back_sum : (c : After-sum-h) → to_z w32 (of_z w32 c.sum-h.result) ≡ dot c.ar
 back_sum c = kept w32 c.sum-h.result c.sum-h.type_inv ∙ c.sum-h.ensures
 
 pub output-o-requires : goal.output-o-requires
-output-o-requires c = rw (forward_sum c.before, back_sum c, nu-is c.before.before.before) c.requires.0.output_bounds
+output-o-requires c = rw (forward_sum c.before, back_sum c, nu_is c.before.before.before) c.requires.0.output_bounds
 
 pub returns : goal.returns
 returns c =
     let d = c.before.before in
     let e = c.output-o.ensures in
     record {
-      nu = nu-is d.before.before.before;
-      y = kept w32 c.output-o.result.y (omega (arith, c.struct_told-1.given)) ∙ e.0 ∙ rw (forward_sum d.before, back_sum d, nu-is d.before.before.before);
-      xi = e.1 ∙ rw (nu-is d.before.before.before);
+      nu = nu_is d.before.before.before;
+      y = kept w32 c.output-o.result.y (omega (arith, c.struct_told-1.given)) ∙ e.0 ∙ rw (forward_sum d.before, back_sum d, nu_is d.before.before.before);
+      xi = e.1 ∙ rw (nu_is d.before.before.before);
     }

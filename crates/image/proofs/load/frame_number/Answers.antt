@@ -3,8 +3,6 @@ use mathlib.Core.Path.{◌≡◌, sym, ap, ap₂, ◌∙◌, subst}
 use mathlib.Core.List.{List}
 use Prim.Native.Nat.{ℕ, ◌+◌, ◌≤◌}
 use native.Mathlib.Omega.{arith}
-use borrow.Author.Rules.{rules}
-use borrow.Author.Tests.{not-true, not-false}
 use Rattle.state.specs.Sizes.{sizes_fit}
 use Rattle.state.specs.State.{settings}
 use Rattle.image.specs.Layout.{end_place, taps_in, layout_of}
@@ -68,12 +66,12 @@ returns-then-not-sizes_fit c =
 pub returns-then-bytes-end_place : goal.returns-then-bytes-end_place
 returns-then-bytes-end_place c =
     let f = sized c.before.before in
-    frame_exact (bytes f) f.if-bytes-lt-LEAST_HEADER.false (fitting f ∙ c.if-not-sizes_fit.false) (c.if-bytes-end_place.true ∙ end_is c.before)
+    frame_exact (bytes f) f.if-bytes-lt-LEAST_HEADER.false (fitting f ∙ c.if-not-sizes_fit.false) (c.if-bytes-end_place.true ∙ end_is c.before.before)
 
 pub returns-else-bytes-end_place : goal.returns-else-bytes-end_place
 returns-else-bytes-end_place c =
     let f = sized c.before.before in
-    frame_other (bytes f) f.if-bytes-lt-LEAST_HEADER.false (fitting f ∙ c.if-not-sizes_fit.false) (λ q. c.if-bytes-end_place.false (q ∙ sym (end_is c.before)))
+    frame_other (bytes f) f.if-bytes-lt-LEAST_HEADER.false (fitting f ∙ c.if-not-sizes_fit.false) (λ q. c.if-bytes-end_place.false (q ∙ sym (end_is c.before.before)))
 
 pub overflow_add-taps : goal.overflow_add-taps
 overflow_add-taps c = omega (arith, few c.before)

@@ -58,8 +58,8 @@ headed c = c.before.before.before.before.before
 abbrev lent : After-put_header → After-past-1
 lent c = c.before.before
 
-abbrev long-enough : After-past-1 → Else-buffer-end
-long-enough c = c.before.before
+abbrev long_enough : After-past-1 → Else-buffer-end
+long_enough c = c.before.before
 
 abbrev start : Else-buffer-end → Start
 start c = c.before.before.before.before.before.before.before.before.before
@@ -73,8 +73,8 @@ weights_long s = search rules
 past_long : (s : Start) → length s.args.e.past ≡ slots
 past_long s = search rules
 
-taps-within : (c : Else-buffer-end) → taps (start c).args.e ≤ slots
-taps-within c = taps_most (start c).args.e (sound c.before.before.before.before)
+taps_within : (c : Else-buffer-end) → taps (start c).args.e ≤ slots
+taps_within c = taps_most (start c).args.e (sound c.before.before.before.before)
 
 -- ---- the places of the layout
 abbrev first : After-end_place-end → ℕ
@@ -86,11 +86,11 @@ mid c = c.data_place-mid.result
 abbrev end : After-end_place-end → ℕ
 end c = c.end_place-end.result
 
-first-is : (c : After-end_place-end) → first c ≡ current.header
-first-is c = ap (λ (y : Layout). y.header) c.current-y.ensures
+first_is : (c : After-end_place-end) → first c ≡ current.header
+first_is c = ap (λ (y : Layout). y.header) c.current-y.ensures
 
-mid-is : (c : After-end_place-end) → mid c ≡ data_place current (taps c.args.e)
-mid-is c = c.data_place-mid.ensures ∙ ap (λ (y : Layout). data_place y (taps c.args.e)) c.current-y.ensures
+mid_is : (c : After-end_place-end) → mid c ≡ data_place current (taps c.args.e)
+mid_is c = c.data_place-mid.ensures ∙ ap (λ (y : Layout). data_place y (taps c.args.e)) c.current-y.ensures
 
 end_is : (c : After-end_place-end) → end c ≡ image_length c.args.e
 end_is c = c.end_place-end.ensures ∙ ap (λ (y : Layout). end_place y (taps c.args.e)) c.current-y.ensures
@@ -102,25 +102,25 @@ small c = placeable (current_row c.current-y.result c.current-y.ensures) (omega 
 room : (c : Else-buffer-end) → image_length (start c).args.e ≤ length (start c).args.buffer.now
 room c = omega (arith, c.if-buffer-end.false, end_is c.before)
 
-weights_within : (c : After-past-1) → taps (start (long-enough c)).args.e ≤ length (start (long-enough c)).args.e.weights
-weights_within c = omega (arith, weights_long (start (long-enough c)), taps-within (long-enough c))
+weights_within : (c : After-past-1) → taps (start (long_enough c)).args.e ≤ length (start (long_enough c)).args.e.weights
+weights_within c = omega (arith, weights_long (start (long_enough c)), taps_within (long_enough c))
 
-past_within : (c : After-past-1) → taps (start (long-enough c)).args.e ≤ length (start (long-enough c)).args.e.past
-past_within c = omega (arith, past_long (start (long-enough c)), taps-within (long-enough c))
+past_within : (c : After-past-1) → taps (start (long_enough c)).args.e ≤ length (start (long_enough c)).args.e.past
+past_within c = omega (arith, past_long (start (long_enough c)), taps_within (long_enough c))
 
-weights-taken : (c : After-past-1) → let e = (start (long-enough c)).args.e in length (take (taps e) e.weights) ≡ taps e
-weights-taken c = let e = (start (long-enough c)).args.e in length-take-le (taps e) e.weights (weights_within c)
+weights_taken : (c : After-past-1) → let e = (start (long_enough c)).args.e in length (take (taps e) e.weights) ≡ taps e
+weights_taken c = let e = (start (long_enough c)).args.e in length-take-le (taps e) e.weights (weights_within c)
 
-past-taken : (c : After-past-1) → let e = (start (long-enough c)).args.e in length (take (taps e) e.past) ≡ taps e
-past-taken c = let e = (start (long-enough c)).args.e in length-take-le (taps e) e.past (past_within c)
+past_taken : (c : After-past-1) → let e = (start (long_enough c)).args.e in length (take (taps e) e.past) ≡ taps e
+past_taken c = let e = (start (long_enough c)).args.e in length-take-le (taps e) e.past (past_within c)
 
 -- the buffer is as long when a part is back
 abbrev at : After-put_header → After-end_place-end
-at c = (long-enough (lent c)).before
+at c = (long_enough (lent c)).before
 
-headed_long : (c : After-put_header) → let b = (start (long-enough (lent c))).args.buffer.now in
-    length (c.put_header.new.1.0 ++ drop (first (at c)) b) ≡ length b
-headed_long c = length_front (start (long-enough (lent c))).args.buffer.now c.put_header.new.1.0 (first (at c)) c.put_header.auto.1.0
+headed_long : (c : After-put_header) → let b = (start (long_enough (lent c))).args.buffer.now in
+    length (c.put_header.new.out ++ drop (first (at c)) b) ≡ length b
+headed_long c = length_front (start (long_enough (lent c))).args.buffer.now c.put_header.new.out (first (at c)) c.put_header.auto.out
 
 -- ---- the needs
 pub returns-then-number-ne0 : goal.returns-then-number-ne0
@@ -131,64 +131,64 @@ returns-then-buffer-end c =
     let s = c.before.before.before.before.before.before.before.before.before in
     save_short s.args.e s.args.buffer.now (sound c.before.before.before.before.before) (omega (arith, c.if-buffer-end.true, end_is c.before.before))
 
-header-fits : (c : Else-buffer-end) → first c.before ≤ length (start c).args.buffer.now
-header-fits c = omega (arith, room c, first-is c.before)
+header_fits : (c : Else-buffer-end) → first c.before ≤ length (start c).args.buffer.now
+header_fits c = omega (arith, room c, first_is c.before)
 
 header_long : (c : Else-buffer-end) → length (take (first c.before) (start c).args.buffer.now) ≡ first c.before
-header_long c = length-take-le (first c.before) (start c).args.buffer.now (header-fits c)
+header_long c = length-take-le (first c.before) (start c).args.buffer.now (header_fits c)
 
 pub slice_bounds-weights-end : goal.slice_bounds-weights-end
 slice_bounds-weights-end c = weights_within (lent c.before.before.before)
 
 pub slice_bounds-put_words-end : goal.slice_bounds-put_words-end
-slice_bounds-put_words-end c = sym (weights-taken (lent c.before.before.before.before))
+slice_bounds-put_words-end c = sym (weights_taken (lent c.before.before.before.before))
 
 -- the buffer after the header
-abbrev headedBuffer : After-put_header → List ℕ
-headedBuffer h = h.put_header.new.1.0 ++ drop (first (at h)) (start (long-enough (lent h))).args.buffer.now
+abbrev headed_buffer : After-put_header → List ℕ
+headed_buffer h = h.put_header.new.out ++ drop (first (at h)) (start (long_enough (lent h))).args.buffer.now
 
-mid-fits : (h : After-put_header) → mid (at h) ≤ length (headedBuffer h)
-mid-fits h = omega (arith, headed_long h, room (long-enough (lent h)), mid-is (at h))
+mid_fits : (h : After-put_header) → mid (at h) ≤ length (headed_buffer h)
+mid_fits h = omega (arith, headed_long h, room (long_enough (lent h)), mid_is (at h))
 
 pub put_words-requires : goal.put_words-requires
 put_words-requires c =
     let h = c.before.before.before.before in
-    mid_len (first (at h)) (mid (at h)) (headedBuffer h) (mid-fits h) ∙ omega (arith, weights-taken (lent h), first-is (at h), mid-is (at h))
+    mid_len (first (at h)) (mid (at h)) (headed_buffer h) (mid_fits h) ∙ omega (arith, weights_taken (lent h), first_is (at h), mid_is (at h))
 
 pub slice_bounds-past-end : goal.slice_bounds-past-end
 slice_bounds-past-end c = past_within (lent (headed c.before.before.before))
 
 pub slice_bounds-put_words-end-3 : goal.slice_bounds-put_words-end-3
-slice_bounds-put_words-end-3 c = sym (past-taken (lent (headed c.before.before.before.before)))
+slice_bounds-put_words-end-3 c = sym (past_taken (lent (headed c.before.before.before.before)))
 
 -- the buffer after the weights
-abbrev weighedBuffer : After-put_words → List ℕ
-weighedBuffer w = let h = headed w in put_mid (first (at h)) (mid (at h) - first (at h)) (headedBuffer h) w.put_words.new.1.0
+abbrev weighed_buffer : After-put_words → List ℕ
+weighed_buffer w = let h = headed w in put_mid (first (at h)) (mid (at h) - first (at h)) (headed_buffer h) w.put_words.new.out
 
-weighed-long : (w : After-put_words) → length (weighedBuffer w) ≡ length (start (long-enough (lent (headed w)))).args.buffer.now
-weighed-long w =
+weighed_long : (w : After-put_words) → length (weighed_buffer w) ≡ length (start (long_enough (lent (headed w)))).args.buffer.now
+weighed_long w =
     let h = headed w in
-    same_len_mid (first (at h)) (mid (at h) - first (at h)) (headedBuffer h) w.put_words.new.1.0 w.put_words.auto.1.0 ∙ headed_long h
+    same_len_mid (first (at h)) (mid (at h) - first (at h)) (headed_buffer h) w.put_words.new.out w.put_words.auto.out ∙ headed_long h
 
-end_fits : (w : After-put_words) → end (at (headed w)) ≤ length (weighedBuffer w)
-end_fits w = omega (arith, weighed-long w, room (long-enough (lent (headed w))), end_is (at (headed w)))
+end_fits : (w : After-put_words) → end (at (headed w)) ≤ length (weighed_buffer w)
+end_fits w = omega (arith, weighed_long w, room (long_enough (lent (headed w))), end_is (at (headed w)))
 
 pub put_words-requires-2 : goal.put_words-requires-2
 put_words-requires-2 c =
     let w = c.before.before.before.before in
     let h = headed w in
-    mid_len (mid (at h)) (end (at h)) (weighedBuffer w) (end_fits w) ∙ omega (arith, past-taken (lent h), mid-is (at h), end_is (at h))
+    mid_len (mid (at h)) (end (at h)) (weighed_buffer w) (end_fits w) ∙ omega (arith, past_taken (lent h), mid_is (at h), end_is (at h))
 
 pub returns : goal.returns
 returns c =
     let p = c.before.before in
     let w = weighed p.before in
     let h = headed w in
-    let l = long-enough (lent h) in
+    let l = long_enough (lent h) in
     let s = start l in
     save_done s.args.e s.args.buffer.now (end (at h)) _ (sound l.before.before.before.before) (room l) (end_is (at h))
-    (image_put s.args.e s.args.buffer.now h.put_header.last.1.0 w.put_words.last.1.0 p.put_words-2.new.1.0
-    (first (at h)) (mid (at h)) (end (at h)) (first-is (at h)) (mid-is (at h)) (end_is (at h))
+    (image_put s.args.e s.args.buffer.now h.put_header.new.out w.put_words.new.out p.put_words-2.new.out
+    (first (at h)) (mid (at h)) (end (at h)) (first_is (at h)) (mid_is (at h)) (end_is (at h))
     (weights_within (lent h)) (past_within (lent h)) h.put_header.ensures w.put_words.ensures p.put_words-2.ensures)
 
 pub data_place-mid-requires : goal.data_place-mid-requires
@@ -198,28 +198,28 @@ pub end_place-end-requires : goal.end_place-end-requires
 end_place-end-requires c = small c.before.before
 
 pub slice_bounds-put_header-end : goal.slice_bounds-put_header-end
-slice_bounds-put_header-end c = header-fits (long-enough c.before)
+slice_bounds-put_header-end c = header_fits (long_enough c.before)
 
 pub slice_bounds-put_header-end-2 : goal.slice_bounds-put_header-end-2
-slice_bounds-put_header-end-2 c = sym (header_long (long-enough c.before))
+slice_bounds-put_header-end-2 c = sym (header_long (long_enough c.before))
 
 pub put_header-requires : goal.put_header-requires
-put_header-requires c = header_long (long-enough c.before) ∙ first-is (long-enough c.before).before
+put_header-requires c = header_long (long_enough c.before) ∙ first_is (long_enough c.before).before
 
 pub slice_bounds-put_words-count : goal.slice_bounds-put_words-count
-slice_bounds-put_words-count c = let h = c.before.before.before in omega (arith, first-is (at h.before), mid-is (at h.before))
+slice_bounds-put_words-count c = let h = c.before.before.before in omega (arith, first_is (at h.before), mid_is (at h.before))
 
 pub slice_bounds-put_words-start : goal.slice_bounds-put_words-start
-slice_bounds-put_words-start c = let h = c.before.before.before in omega (arith, first-is (at h.before), mid-is (at h.before))
+slice_bounds-put_words-start c = let h = c.before.before.before in omega (arith, first_is (at h.before), mid_is (at h.before))
 
 pub slice_bounds-put_words-end-2 : goal.slice_bounds-put_words-end-2
-slice_bounds-put_words-end-2 c = mid-fits c.before.before.before
+slice_bounds-put_words-end-2 c = mid_fits c.before.before.before.before
 
 pub slice_bounds-put_words-count-2 : goal.slice_bounds-put_words-count-2
-slice_bounds-put_words-count-2 c = let h = headed c.before.before.before.before in omega (arith, mid-is (at h), end_is (at h))
+slice_bounds-put_words-count-2 c = let h = headed c.before.before.before.before in omega (arith, mid_is (at h), end_is (at h))
 
 pub slice_bounds-put_words-start-2 : goal.slice_bounds-put_words-start-2
-slice_bounds-put_words-start-2 c = let h = headed c.before.before.before.before in omega (arith, mid-is (at h), end_is (at h))
+slice_bounds-put_words-start-2 c = let h = headed c.before.before.before.before in omega (arith, mid_is (at h), end_is (at h))
 
 pub slice_bounds-put_words-end-4 : goal.slice_bounds-put_words-end-4
-slice_bounds-put_words-end-4 c = end_fits c.before.before.before
+slice_bounds-put_words-end-4 c = end_fits c.before.before.before.before

@@ -37,28 +37,28 @@ sound c = c.requires.0.sound
 
 -- ---- the copies
 abbrev first : After-fronted-forward → Start
-first c = c.before.before.before.before.before.before.before.before.before.before
+first c = c.before.before.before.before.before.before.before.before.before
 
 abbrev second : After-fronted-back → Start
-second c = first c.before.before.before
+second c = first c.before.before
 
 abbrev third : After-fronted-window → Start
-third c = second c.before.before.before
+third c = second c.before.before
 
 abbrev fourth : After-fronted-symbols → Start
-fourth c = third c.before.before.before
+fourth c = third c.before.before
 
-forward-copy : (c : After-fronted-forward) → let e = state (first c) in take (e.p - 0) c.fronted-forward.result ≡ forward e
-forward-copy c = let s = first c in copied_part _ (state s).p (first_part (state s).p (state s).weights) c.fronted-forward.ensures (sound s).forward_long
+forward_copy : (c : After-fronted-forward) → let e = state (first c) in take (e.p - 0) c.fronted-forward.result ≡ forward e
+forward_copy c = let s = first c in copied_part _ (state s).p (first_part (state s).p (state s).weights) c.fronted-forward.ensures (sound s).forward_long
 
-back-copy : (c : After-fronted-back) → let e = state (second c) in take (e.q - 0) c.fronted-back.result ≡ back e
-back-copy c = let s = second c in let e = state s in copied_part _ e.q (middle_part e.p e.q e.weights) c.fronted-back.ensures (sound s).back_long
+back_copy : (c : After-fronted-back) → let e = state (second c) in take (e.q - 0) c.fronted-back.result ≡ back e
+back_copy c = let s = second c in let e = state s in copied_part _ e.q (middle_part e.p e.q e.weights) c.fronted-back.ensures (sound s).back_long
 
-window-copy : (c : After-fronted-window) → let e = state (third c) in take (e.p - 0) c.fronted-window.result ≡ take e.p e.past
-window-copy c = let s = third c in copied_part _ (state s).p (first_part (state s).p (state s).past) c.fronted-window.ensures (past_long _ _ s.requires.0)
+window_copy : (c : After-fronted-window) → let e = state (third c) in take (e.p - 0) c.fronted-window.result ≡ take e.p e.past
+window_copy c = let s = third c in copied_part _ (state s).p (first_part (state s).p (state s).past) c.fronted-window.ensures (past_long _ _ s.requires.0)
 
-symbols-copy : (c : After-fronted-symbols) → let e = state (fourth c) in take (e.q - 0) c.fronted-symbols.result ≡ symbols e
-symbols-copy c = let s = fourth c in let e = state s in copied_part _ e.q (middle_part e.p e.q e.past) c.fronted-symbols.ensures (sound s).symbols_long
+symbols_copy : (c : After-fronted-symbols) → let e = state (fourth c) in take (e.q - 0) c.fronted-symbols.result ≡ symbols e
+symbols_copy c = let s = fourth c in let e = state s in copied_part _ e.q (middle_part e.p e.q e.past) c.fronted-symbols.ensures (sound s).symbols_long
 
 -- each has TAPS slots
 forward_long : (c : After-fronted-forward) → length c.fronted-forward.result ≡ tap_limit
@@ -87,26 +87,26 @@ pub slice_bounds-fronted-end-4 : goal.slice_bounds-fronted-end-4
 slice_bounds-fronted-end-4 c = past_room _ _ c.requires.0
 
 pub slice_bounds-forward-end : goal.slice_bounds-forward-end
-slice_bounds-forward-end c = let k = c.before.before.before.before.before.before.before.before.before in omega (arith, forward_long k, (sound (first k)).within.p_most)
+slice_bounds-forward-end c = let k = c.before.before.before.before.before.before.before in omega (arith, forward_long k, (sound (first k)).within.p_most)
 
 pub slice_bounds-back-end : goal.slice_bounds-back-end
-slice_bounds-back-end c = let k = c.before.before.before.before.before.before.before in omega (arith, back_long k, (sound (second k)).within.q_most)
+slice_bounds-back-end c = let k = c.before.before.before.before.before.before in omega (arith, back_long k, (sound (second k)).within.q_most)
 
 pub slice_bounds-window-end : goal.slice_bounds-window-end
 slice_bounds-window-end c = let k = c.before.before.before.before.before in omega (arith, window_long k, (sound (third k)).within.p_most)
 
 pub slice_bounds-symbols-end : goal.slice_bounds-symbols-end
-slice_bounds-symbols-end c = let k = c.before.before.before in omega (arith, symbols_long k, (sound (fourth k)).within.q_most)
+slice_bounds-symbols-end c = let k = c.before.before.before in omega (arith, symbols_long k.before, (sound (fourth k.before)).within.q_most)
 
 pub run_parts-requires : goal.run_parts-requires
 run_parts-requires c =
     let k = c.before.before.before.before.before.before.before.before.before in
-    let s = fourth k in
+    let s = fourth k.before in
     record {
       checked = s.requires.0;
-      forward_is = forward-copy k.before.before.before.before.before.before.before.before.before;
-      back_is = back-copy k.before.before.before.before.before.before;
-      window_is = window-copy k.before.before.before ∙ window_is _ _ s.requires.0;
-      symbols_are = symbols-copy k;
+      forward_is = forward_copy k.before.before.before.before.before.before.before;
+      back_is = back_copy k.before.before.before.before.before;
+      window_is = window_copy k.before.before.before ∙ window_is _ _ s.requires.0;
+      symbols_are = symbols_copy k.before;
       outputs_long = s.requires.1;
     }

@@ -29,8 +29,8 @@ Then-d-low = Lts.Then2 Reads.Pre Reads.Post
 abbrev Else-d-low : Type 0
 Else-d-low = Lts.Else2 Reads.Pre Reads.Post
 
-top-fits : (c : Start) → SFits w16 c.args.top
-top-fits c = fits_abs c.args.top c.requires
+top_fits : (c : Start) → SFits w16 c.args.top
+top_fits c = fits_abs c.args.top c.requires
 
 low_fits : (c : Start) → SFits w16 (neg_ℤ c.args.top)
 low_fits c = fits_abs (neg_ℤ c.args.top) (rw abs_neg c.requires)
@@ -48,8 +48,8 @@ overflow_sub-low c = simp (to_z-of_z c.ranges.top, +ℤ_idl) (low_wide c)
 above : (c : Then-top-d) → lt_z c.args.top c.args.d ≡ true
 above c = simp (to_z-of_z c.ranges.top, to_z-of_z c.ranges.d) at c.if-top-d.true
 
-not-above : (c : Else-top-d) → lt_z c.args.top c.args.d ≡ false
-not-above c = simp (to_z-of_z c.ranges.top, to_z-of_z c.ranges.d) at c.if-top-d.false
+not_above : (c : Else-top-d) → lt_z c.args.top c.args.d ≡ false
+not_above c = simp (to_z-of_z c.ranges.top, to_z-of_z c.ranges.d) at c.if-top-d.false
 
 below : (c : Then-d-low) → lt_z c.args.d (neg_ℤ c.args.top) ≡ true
 below c = simp (low c.before.before, to_z-of_z c.ranges.d) at c.if-d-low.true
@@ -60,10 +60,10 @@ not_below c = simp (low c.before.before, to_z-of_z c.ranges.d) at c.if-d-low.fal
 between : (c : Else-d-low) → SFits w16 c.args.d
 between c =
     let a = c.args in
-    fits_abs a.d (omega (arith, between_ends a.top a.d (lt_refuted (not-above c.before)) (lt_refuted (not_below c)), c.requires))
+    fits_abs a.d (omega (arith, between_ends a.top a.d (lt_refuted (not_above c.before)) (lt_refuted (not_below c)), c.requires))
 
 pub overflow_cast-result : goal.overflow_cast-result
-overflow_cast-result c = simp (to_z-of_z c.ranges.top) (top-fits c.before)
+overflow_cast-result c = simp (to_z-of_z c.ranges.top) (top_fits c.before)
 
 pub overflow_cast-result-then-d-low : goal.overflow_cast-result-then-d-low
 overflow_cast-result-then-d-low c = simp (low c.before.before) (low_fits c.before.before)
@@ -72,10 +72,10 @@ pub overflow_cast-result-else-d-low : goal.overflow_cast-result-else-d-low
 overflow_cast-result-else-d-low c = simp (to_z-of_z c.ranges.d) (between c)
 
 pub returns-then-top-d : goal.returns-then-top-d
-returns-then-top-d c = simp (to_z-of_z c.ranges.top, to_z-of_z (top-fits c.before), above c)
+returns-then-top-d c = simp (to_z-of_z c.ranges.top, to_z-of_z (top_fits c.before), above c)
 
 pub returns-then-d-low : goal.returns-then-d-low
-returns-then-d-low c = simp (low c.before.before, to_z-of_z (low_fits c.before.before), not-above c.before, below c)
+returns-then-d-low c = simp (low c.before.before, to_z-of_z (low_fits c.before.before), not_above c.before, below c)
 
 pub returns-else-d-low : goal.returns-else-d-low
-returns-else-d-low c = simp (to_z-of_z c.ranges.d, to_z-of_z (between c), not-above c.before, not_below c)
+returns-else-d-low c = simp (to_z-of_z c.ranges.d, to_z-of_z (between c), not_above c.before, not_below c)

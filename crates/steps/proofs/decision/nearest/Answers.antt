@@ -5,7 +5,6 @@ use lib.IntN.{ℤ, pos, nat_abs, ◌+ℤ◌, ◌*ℤ◌}
 use mir.Syntax.{w32}
 use mir.Val.{SFits}
 use mir.Facts.{to_z-of_z}
-use borrow.Author.Rules.{rules}
 use Rattle.laws.specs.Integers.{abs_mul}
 use Rattle.laws.specs.Machine.{fits_abs, fits_shr}
 use Rattle.steps.specs.Limits.{output_unit}
@@ -21,23 +20,23 @@ Start = Lts.Start Reads.Pre Reads.Post
 abbrev half : Start → ℤ
 half c = floor c.args.y (output_unit + 1 - c.args.xi)
 
-half-fits : (c : Start) → SFits w32 (half c)
-half-fits c = fits_shr c.args.y (2 ^ (output_unit + 1 - c.args.xi)) c.ranges.y
+half_fits : (c : Start) → SFits w32 (half c)
+half_fits c = fits_shr c.args.y (2 ^ (output_unit + 1 - c.args.xi)) c.ranges.y
 
-half-small : (c : Start) → nat_abs (half c) ≤ 2 ^ (output_unit - 1)
-half-small c = floor_most c.args.y (output_unit + 1 - c.args.xi) (2 ^ (output_unit - 1)) c.requires.2
+half_small : (c : Start) → nat_abs (half c) ≤ 2 ^ (output_unit - 1)
+half_small c = floor_most c.args.y (output_unit + 1 - c.args.xi) (2 ^ (output_unit - 1)) c.requires.2
 
-even-fits : (c : Start) → SFits w32 (pos 2 *ℤ half c)
-even-fits c = fits_abs (pos 2 *ℤ half c) (omega (arith, abs_mul (pos 2) (half c), half-small c))
+even_fits : (c : Start) → SFits w32 (pos 2 *ℤ half c)
+even_fits c = fits_abs (pos 2 *ℤ half c) (omega (arith, abs_mul (pos 2) (half c), half_small c))
 
-odd-fits : (c : Start) → SFits w32 (pos 2 *ℤ half c +ℤ pos 1)
-odd-fits c = fits_abs (pos 2 *ℤ half c +ℤ pos 1) (omega (arith, odd_most (half c) (2 ^ (output_unit - 1)) (half-small c)))
+odd_fits : (c : Start) → SFits w32 (pos 2 *ℤ half c +ℤ pos 1)
+odd_fits c = fits_abs (pos 2 *ℤ half c +ℤ pos 1) (omega (arith, odd_most (half c) (2 ^ (output_unit - 1)) (half_small c)))
 
 pub overflow_mul-result : goal.overflow_mul-result
-overflow_mul-result c = simp (to_z-of_z c.ranges.y, to_z-of_z (half-fits c)) (even-fits c)
+overflow_mul-result c = simp (to_z-of_z c.ranges.y, to_z-of_z (half_fits c)) (even_fits c)
 
 pub overflow_add-result-2 : goal.overflow_add-result-2
-overflow_add-result-2 c = simp (to_z-of_z c.ranges.y, to_z-of_z (half-fits c), to_z-of_z (even-fits c)) (odd-fits c)
+overflow_add-result-2 c = simp (to_z-of_z c.ranges.y, to_z-of_z (half_fits c), to_z-of_z (even_fits c)) (odd_fits c)
 
 pub returns : goal.returns
-returns c = simp (to_z-of_z c.ranges.y, to_z-of_z (half-fits c), to_z-of_z (even-fits c), to_z-of_z (odd-fits c))
+returns c = simp (to_z-of_z c.ranges.y, to_z-of_z (half_fits c), to_z-of_z (even_fits c), to_z-of_z (odd_fits c))
