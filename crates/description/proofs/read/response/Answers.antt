@@ -1,16 +1,13 @@
 -- One value a turn, into the next place.
 use mathlib.Core.Path.{refl, ◌∙◌}
-use mathlib.Core.List.{List}
-use Prim.Native.Nat.{ℕ, ◌+◌, ◌*◌, ◌-◌, ◌<◌}
+use Prim.Native.Nat.{◌+◌, ◌*◌, ◌<◌}
 use native.Mathlib.Omega.{arith}
 use lib.ListN.{length}
-use lib.IntN.{ℤ, pos}
+use lib.IntN.{pos}
 use mir.Syntax.{w16}
-use mir.Val.{to_z}
 use Rattle.laws.specs.Machine.{kept}
-use Rattle.laws.specs.Loops.{Written, written_none}
-use Rattle.laws.specs.Values.{values, values_written, values_all}
-use Rattle.words.specs.Words.{number_at}
+use Rattle.laws.specs.Loops.{written_none}
+use Rattle.laws.specs.Values.{values_written, values_all}
 use Rattle.description.specs.Description.{description_header_length}
 use Rattle.description.proofs.read.response.Goals as goal
 use Rattle.description.proofs.read.response.Goals.{In-loop-i}

@@ -1,16 +1,13 @@
 -- One symbol a turn, into the next place.
 use mathlib.Core.Path.{refl, ◌∙◌}
-use mathlib.Core.List.{List}
-use Prim.Native.Nat.{ℕ, ◌+◌, ◌-◌, ◌≤◌, ◌<◌}
+use Prim.Native.Nat.{◌+◌, ◌≤◌, ◌<◌}
 use native.Mathlib.Omega.{arith}
 use lib.ListN.{length}
-use lib.IntN.{ℤ, pos}
+use lib.IntN.{pos}
 use mir.Syntax.{w8}
-use mir.Val.{to_z}
 use Rattle.laws.specs.Machine.{kept}
-use Rattle.laws.specs.Loops.{Written, written_none}
-use Rattle.laws.specs.Values.{values, values_written, values_all}
-use Rattle.words.specs.Words.{byte_at}
+use Rattle.laws.specs.Loops.{written_none}
+use Rattle.laws.specs.Values.{values_written, values_all}
 use Rattle.description.proofs.read.symbols.Goals as goal
 use Rattle.description.proofs.read.symbols.Goals.{In-loop-i}
 
