@@ -114,6 +114,8 @@ zero_exponent (negsuc k) h = absurd (omega (arith, h, double k, positive k))
 -- a float with the value 0 and the sign + is +0
 pub zero_is_plus : (f : Format) (x : Float) (c : ℕ) → 0 < c → T (fits f x) → HasValue x false 0 c → x ≡ fin false 0 (pos 0)
 unfolding fits
+zero_is_plus f nan c C t h = absurd h
+zero_is_plus f (inf s) c C t h = absurd h
 zero_is_plus f (fin s zero e) c C t h = ap₂ (λ (u : Bool) (z : ℤ). fin u 0 z) h.0 (zero_exponent e (eqb→eq (up e * down e) 1 t))
 zero_is_plus f (fin s (suc m) e) c C t h = absurd (ne_of_gt (omega arith) (only_zero (suc m) (up e) c (h.1 ∙ zero-mul (down e)) (up_pos e) C))
 
