@@ -8,7 +8,7 @@ use lib.Dec.{T, lt→ltb, le→leb}
 use lib.IntN.{ℤ, pos, negsuc, neg_ℤ, nat_abs}
 use lib.Signed.{lt_z}
 use borrow.Author.Tests.{le-ltb}
-use lib.Ieee.{Float, fin, binary32, up, down, size, round, of_int, to_bits, in_float, is_nan}
+use lib.Ieee.{Float, nan, inf, fin, binary32, up, down, size, round, of_int, to_bits, in_float, is_nan}
 use lib.Ieee.Digits.{size-lt, size-le}
 use lib.Ieee.Exact.{HasValue}
 use lib.Ieee.Back.{round_whole}
@@ -70,6 +70,8 @@ written_is (suc n) h = go
 
 bits_of : (x : Float) (s : Bool) (a : ℕ) → HasValue x s a 1 → a < 2 ^ float_digits → to_bits binary32 x ≡ cond s (2 ^ 31) 0 + magnitude_bits a
 unfolding to_bits
+bits_of nan s a v h = elim v [ ]
+bits_of (inf _) s a v h = elim v [ ]
 bits_of (fin t m e) s a v h =
     ap (λ (n : ℕ). cond t (2 ^ 31) 0 + (size n - 24) * 2 ^ 23 + n / 2 ^ (size n - 24)) units
     ∙ add_assoc (cond t (2 ^ 31) 0) _ _ ∙ ap₂ (λ (u : Bool) (n : ℕ). cond u (2 ^ 31) 0 + n) v.0 (written_is a h)
@@ -88,6 +90,8 @@ float_whole (negsuc n) h = lt→ltb n (2 ^ float_digits) (omega arith)
 
 no_nan : (x : Float) (s : Bool) (a : ℕ) → HasValue x s a 1 → T (not (is_nan x))
 unfolding is_nan
+no_nan nan s a v = elim v [ ]
+no_nan (inf _) s a v = elim v [ ]
 no_nan (fin t m e) s a v = tt
 
 pub float_number : (z : ℤ) → nat_abs z < 2 ^ float_digits → T (not (is_nan (of_int binary32 z)))

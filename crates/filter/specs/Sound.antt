@@ -1,5 +1,5 @@
 -- What is sound at a sample.
-use Rattle.std.specs.Prelude.{◌≡◌, true, ℕ, ◌+◌, ◌*◌, ◌-◌, ◌^◌, ◌≤◌, ◌<◌, length, ℤ, nat_abs}
+use Rattle.std.specs.Prelude.{◌≡◌, true, ℕ, ◌+◌, ◌*◌, ◌^◌, ◌≤◌, ◌<◌, length, ℤ, nat_abs}
 use Rattle.laws.specs.Sums.{Each}
 use Rattle.steps.specs.Limits.{data_unit, exponent_limit, length_limit}
 use Rattle.steps.specs.Settings.{Settings, is_entry, scale_forward}

@@ -1,99 +1,153 @@
 #![tactic(auto)]
 
-// Standard input and output of a program, whole or with a line on standard error that says what went wrong.
-ghost use Rattle.std.specs.Prelude.{◌≡◌, leb, ltb, length, pos};
-ghost use Rattle.std.specs.Int.Signed.{lt_z};
-ghost use Rattle.io.specs.Counts.{IsPrefixLen};
-ghost use Rattle.libc.specs.Io.{Moved};
+// Standard input and output of a program, whole or with a line on standard error that says what went wrong. A program hands
+// in its streams: err is standard error.
+ghost use Rattle.std.specs.Prelude.{◌≡◌, ◌≤◌, ◌↔◌, leb, ltb, length, IfOk, IsErr, IsOk, IsTrue};
+ghost use Rattle.std.specs.Counts.{IsPrefixLen};
 
-use libc::{STDERR_FILENO, STDIN_FILENO, STDOUT_FILENO};
+use std::env::{Env, FillError};
+use std::io::{Input, IsTerminal, Print, Read, Write};
+use std::{io, str};
+
+// The system's reason for an error, as text in the room that is lent: what is printed of the error, without its number.
+fn reason<'a>(error: &io::Error, room: &'a mut [u8; 256]) -> &'a str {
+    let mut front = &mut room[..];
+    let _ = write!(front, "{error}");
+    let text = str::from_utf8(room).unwrap_or("");
+    match text.split_once(" (os error ") {
+        Some((words, _)) => words,
+        None => text.trim_end_matches('\0'),
+    }
+}
 
 // A line on standard error: the program's name, what failed, and the system's reason.
-fn tell(program: &[u8], what: &[u8]) {
-    io::write_all(STDERR_FILENO, program);
-    io::write_all(STDERR_FILENO, b": ");
-    os::fail(what);
+fn tell(err: &impl Print, program: &[u8], what: &[u8], error: &io::Error) {
+    let mut room = [0u8; 256];
+    let _ = err.write_all(program);
+    let _ = err.write_all(b": ");
+    let _ = err.write_all(what);
+    let _ = err.write_all(b": ");
+    let _ = err.write_all(reason(error, &mut room).as_bytes());
+    let _ = err.write_all(b"\n");
 }
 
-// Reads standard input to its end, or until buf is full, and answers how many bytes came.
-pub fn read(buf: &mut [u8]) -> usize
+// Reads standard input to its end, or until buf is full or reading fails, and answers how many bytes came.
+pub fn read(input: &impl Input, buf: &mut [u8]) -> usize
     ensures { IsPrefixLen result buf.new }
 {
-    io::read_full(STDIN_FILENO, buf)
+    let mut reader = input.reader();
+    let mut done = 0;
+    while done < buf.len() {
+        match reader.read(&mut buf[done..]) {
+            Ok(0) | Err(_) => break,
+            Ok(n) => done += n,
+        }
+    }
+    done
 }
 
-// What one read more answers where a read has stopped: -1 if reading failed. A terminal is not asked again: what is typed
-// there has ended.
-pub fn next() -> isize
-    ensures { Moved 1 result }
+// What one read more answers where a read has stopped: the error if reading failed. A terminal is not asked again: what is
+// typed there has ended.
+pub fn next<I: Input>(input: &I) -> io::Result<usize>
+where
+    I::Reader: IsTerminal,
+    ensures { IfOk result (λ n. n ≤ 1) }
 {
-    if libc::isatty(STDIN_FILENO) == 1 {
-        return 0;
+    let mut reader = input.reader();
+    if reader.is_terminal() {
+        return Ok(0);
     }
     let mut next = [0u8; 1];
-    libc::read(STDIN_FILENO, &mut next)
+    reader.read(&mut next)
 }
 
 // Whether reading has failed, by what one read more answered. Where it has, a line says why.
-pub fn failed(next: isize, program: &[u8]) -> bool
-    ensures { result ≡ lt_z next (pos 0) }
+pub fn failed(err: &impl Print, next: io::Result<usize>, program: &[u8]) -> bool
+    ensures { IsTrue result ↔ IsErr next }
 {
-    let negative = next < 0;
-    if negative {
-        tell(program, b"standard input can't be read");
+    match next {
+        Ok(_) => false,
+        Err(e) => {
+            tell(err, program, b"standard input can't be read", &e);
+            true
+        }
     }
-    negative
 }
 
 // Whether standard output took the whole text, as its writing answered. Where it did not, a line says why.
-pub fn written(whole: bool, program: &[u8]) -> bool
-    ensures { result ≡ whole }
+pub fn written(err: &impl Print, whole: io::Result<()>, program: &[u8]) -> bool
+    ensures { IsTrue result ↔ IsOk whole }
 {
-    if !whole {
-        tell(program, b"standard output can't be written whole");
+    match whole {
+        Ok(()) => true,
+        Err(e) => {
+            tell(err, program, b"standard output can't be written whole", &e);
+            false
+        }
     }
-    whole
 }
 
 // Writes the front of some bytes to standard output, and answers whether there are as many.
-pub fn write_front(bytes: &[u8], count: usize, program: &[u8]) -> bool
+pub fn write_front(
+    out: &impl Print,
+    err: &impl Print,
+    bytes: &[u8],
+    count: usize,
+    program: &[u8],
+) -> bool
     ensures { result ≡ leb count (length bytes.now) }
 {
     if bytes.len() < count {
         return false;
     }
-    written(io::write_all(STDOUT_FILENO, &bytes[0..count]), program);
+    written(err, out.write_all(&bytes[0..count]), program);
     true
+}
+
+// How many arguments a program has, its own name among them.
+pub fn arg_count(env: &impl Env) -> usize {
+    let mut room = [0u8; 1];
+    for i in 0..usize::MAX {
+        if let Err(FillError::NotPresent) = env.arg(i, &mut room) {
+            return i;
+        }
+    }
+    usize::MAX
 }
 
 // Whether a program has no argument, by the count that its own name is part of. Where it has, its usage is told: on standard
 // output if --help is the only one, else on standard error.
-pub fn no_arguments(count: usize, program: &[u8], usage: &[u8]) -> bool
+pub fn no_arguments(
+    rt: &(impl Env + Print),
+    err: &impl Print,
+    count: usize,
+    program: &[u8],
+    usage: &[u8],
+) -> bool
     ensures { result ≡ ltb count 2 }
 {
     let none = count < 2;
     if !none {
-        tell_usage(count, program, usage);
+        tell_usage(rt, err, count, program, usage);
     }
     none
 }
 
-fn tell_usage(count: usize, program: &[u8], usage: &[u8]) {
-    if count == 2 && is_help() {
-        written(io::write_all(STDOUT_FILENO, usage), program);
+fn tell_usage(
+    rt: &(impl Env + Print),
+    err: &impl Print,
+    count: usize,
+    program: &[u8],
+    usage: &[u8],
+) {
+    if count == 2 && is_help(rt) {
+        written(err, rt.write_all(usage), program);
     } else {
-        io::write_all(STDERR_FILENO, usage);
+        let _ = err.write_all(usage);
     }
 }
 
-fn is_help() -> bool {
+fn is_help(env: &impl Env) -> bool {
     let mut word = [0u8; 6];
-    let n = os::arg(1, &mut word);
-    n == 6
-        && word[0] == b'-'
-        && word[1] == b'-'
-        && word[2] == b'h'
-        && word[3] == b'e'
-        && word[4] == b'l'
-        && word[5] == b'p'
+    matches!(env.arg(1, &mut word), Ok(6)) && &word == b"--help"
 }

@@ -3,9 +3,9 @@
 // Sets a station up, runs two blocks and writes the image of the state in hexadecimal.
 ghost use Rattle.std.specs.Prelude.{◌<◌};
 
-use libc::STDOUT_FILENO;
 use one_sample::{IMAGE, run_sample};
 use state::equaliser::Equaliser;
+use std::io::Print;
 use steps::settings::Settings;
 
 const LAST: usize = IMAGE - 1;
@@ -24,21 +24,19 @@ fn digit(d: u8) -> u8
 }
 
 // A byte in two digits, with a space or the line's end after them.
-fn put(b: u8, after: u8) {
+fn put(rt: &impl Print, b: u8, after: u8) {
     let text = [digit(b / 16), digit(b % 16), after];
-    io::write_all(STDOUT_FILENO, &text);
+    let _ = rt.write_all(&text);
 }
 
-fn put_all(image: &[u8; IMAGE]) {
-    let mut i: usize = 0;
-    while i < LAST {
-        put(image[i], b' ');
-        i += 1;
+fn put_all(rt: &impl Print, image: &[u8; IMAGE]) {
+    for i in 0..LAST {
+        put(rt, image[i], b' ');
     }
-    put(image[LAST], b'\n');
+    put(rt, image[LAST], b'\n');
 }
 
-fn run() {
+fn run(rt: &impl Print) {
     let k = Settings {
         p: 1,
         q: 1,
@@ -53,14 +51,15 @@ fn run() {
     let mut image = [0u8; IMAGE];
     let saved = image::save::save(second, &mut image);
     if saved.length == IMAGE {
-        put_all(&image);
+        put_all(rt, &image);
     }
 }
 
-fn main() {
+fn main(rt: HostRuntime) {
     let usage =
         b"usage: worked_example\nWrites the image that the specification's two samples leave.\n";
-    if streams::no_arguments(os::arg_count(), b"worked_example", usage) {
-        run();
+    let err = rt.stderr();
+    if streams::no_arguments(&rt, &err, streams::arg_count(&rt), b"worked_example", usage) {
+        run(&rt);
     }
 }

@@ -1,13 +1,11 @@
 -- One element a turn, into the place before the last one.
 use mathlib.Core.Path.{sym, ◌∙◌}
-use Prim.Native.Nat.{◌-◌}
 use native.Mathlib.Omega.{arith}
-use lib.ListN.{length, get_or}
+use lib.ListN.{get_or}
 use lib.IntN.{pos}
 use mir.Syntax.{w16}
 use Rattle.laws.specs.Machine.{kept}
-use Rattle.block.specs.Line.{added}
-use Rattle.block.proofs.LineLaws.{Placed, placed_next, placed_all, added_none, added_next}
+use Rattle.block.proofs.LineLaws.{placed_next, placed_all, added_none, added_next}
 use Rattle.block.proofs.line.add.Goals as goal
 
 pub loop-i-preserved : goal.loop-i-preserved

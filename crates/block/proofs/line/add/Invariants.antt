@@ -1,12 +1,7 @@
-use mathlib.Core.Path.{sym, ◌∙◌}
 use Prim.Native.Nat.{◌-◌}
-use native.Mathlib.Omega.{arith}
-use lib.ListN.{length, get_or}
-use lib.IntN.{pos}
-use mir.Syntax.{w16}
-use Rattle.laws.specs.Machine.{kept}
+use lib.ListN.{length}
 use Rattle.block.specs.Line.{added}
-use Rattle.block.proofs.LineLaws.{Placed, placed_next, placed_all, added_none, added_next}
+use Rattle.block.proofs.LineLaws.{Placed}
 use Rattle.block.proofs.line.add.Given as goal
 
 abbrev pub invariant-loop-i : goal.invariant-loop-i

@@ -6,8 +6,7 @@ use lib.ListN.{length, get_or, drop, length-drop}
 use lib.Seq.{length-take-le, get_or-take, get_or-drop}
 use lib.IntN.{pos}
 use mir.Syntax.{w16}
-use borrow.Author.Rules.{rules}
-use Rattle.laws.specs.Loops.{Written, written_none, written_next, written_all}
+use Rattle.laws.specs.Loops.{written_none, written_next, written_all}
 use Rattle.laws.specs.Machine.{kept}
 use Rattle.steps.specs.Limits.{block_limit}
 use Rattle.block.specs.Line.{newest}

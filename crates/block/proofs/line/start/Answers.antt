@@ -1,14 +1,13 @@
 -- One element a turn.
 use mathlib.Core.Path.{sym, ◌∙◌}
-use Prim.Native.Nat.{◌-◌}
 use native.Mathlib.Omega.{arith}
-use lib.ListN.{length, get_or}
-use lib.Seq.{paste, paste-zero, paste-suc}
+use lib.ListN.{get_or}
+use lib.Seq.{paste-zero, paste-suc}
 use lib.IntN.{pos}
 use mir.Syntax.{w16}
 use Rattle.laws.specs.Machine.{kept}
 use Rattle.steps.specs.Limits.{block_limit}
-use Rattle.block.proofs.LineLaws.{Placed, placed_next, placed_all}
+use Rattle.block.proofs.LineLaws.{placed_next, placed_all}
 use Rattle.block.proofs.line.start.Goals as goal
 
 pub loop-i-preserved : goal.loop-i-preserved

@@ -5,7 +5,6 @@ use lib.ListN.{length}
 use mir.Syntax.{w16}
 use mir.Val.{to_z, of_z}
 use mir.Facts.{to_z-of_z}
-use borrow.Author.Rules.{rules}
 use Rattle.laws.specs.Machine.{kept}
 use Rattle.filter.proofs.SampleLaws.{taken_of, taken_put}
 use Rattle.block.specs.Line.{place}

@@ -2,7 +2,6 @@
 use mathlib.Core.Path.{◌≡◌, ap, ap₂, ◌∙◌}
 use Prim.Native.Nat.{ℕ, ◌+◌, ◌≤◌, max}
 use native.Mathlib.Omega.{arith}
-use borrow.Author.Rules.{rules}
 use Rattle.numbers.specs.BitLength.{bit_length}
 use Rattle.numbers.proofs.BitLengthLaws.{bit_length_le}
 use Rattle.block.specs.Calls.{block_length}

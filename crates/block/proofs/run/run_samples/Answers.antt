@@ -1,6 +1,6 @@
 -- The samples one by one: when n are done, everything is as the definitions have it.
 use mathlib.Core.Path.{◌≡◌, sym, ap, ◌∙◌, subst}
-use Prim.Native.Nat.{ℕ, ◌-◌, ◌<◌}
+use Prim.Native.Nat.{ℕ, ◌<◌}
 use native.Mathlib.Omega.{arith}
 use native.Mathlib.Nat.{lt_of_lt_of_le}
 use lib.Dec.{lit<}
@@ -12,9 +12,8 @@ use Rattle.laws.specs.Machine.{kept}
 use Rattle.steps.specs.Limits.{block_limit}
 use Rattle.steps.specs.Sound.{line_length}
 use Rattle.steps.specs.Settings.{Settings}
-use Rattle.block.specs.Block.{Block, Memory, Outputs, outputs_of}
+use Rattle.block.specs.Block.{Outputs, outputs_of}
 use Rattle.block.specs.Line.{place}
-use Rattle.block.specs.Calls.{BegunOn}
 use Rattle.block.proofs.RunLaws.{Work, Passed, StoredAs, passed_none, forward_long, back_long, finished, advanceable, passed_next, stopped, place_fits, place_within, within, line_place, delay_fits, next_fits, fewer}
 use Rattle.block.proofs.run.run_samples.Lts
 use Rattle.block.proofs.run.run_samples.Tie

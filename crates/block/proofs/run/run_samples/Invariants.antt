@@ -1,20 +1,8 @@
-use mathlib.Core.Path.{◌≡◌, sym, ap, ◌∙◌, subst}
-use Prim.Native.Nat.{ℕ, ◌-◌, ◌<◌}
-use native.Mathlib.Omega.{arith}
-use native.Mathlib.Nat.{lt_of_lt_of_le}
-use lib.Dec.{lit<}
-use lib.ListN.{length, get_or, length-set}
-use lib.IntN.{pos}
-use mir.Syntax.{w8, w16, w32}
-use mir.Val.{to_z, of_z}
-use Rattle.laws.specs.Machine.{kept}
-use Rattle.steps.specs.Limits.{block_limit}
-use Rattle.steps.specs.Sound.{line_length}
-use Rattle.steps.specs.Settings.{Settings}
-use Rattle.block.specs.Block.{Block, Memory, Outputs, outputs_of}
-use Rattle.block.specs.Line.{place}
+use Prim.Native.Nat.{◌-◌}
+use lib.ListN.{length}
+use Rattle.block.specs.Block.{Block, Memory, outputs_of}
 use Rattle.block.specs.Calls.{BegunOn}
-use Rattle.block.proofs.RunLaws.{Work, Passed, StoredAs, passed_none, forward_long, back_long, finished, advanceable, passed_next, stopped, place_fits, place_within, within, line_place, delay_fits, next_fits, fewer}
+use Rattle.block.proofs.RunLaws.{Passed}
 use Rattle.block.proofs.run.run_samples.Given as goal
 
 -- of any block that has begun so

@@ -4,7 +4,6 @@ use mir.Syntax.{w16, w32}
 use mir.Val.{SFits}
 use mir.Facts.{to_z-of_z}
 use lib.IntN.{ℤ}
-use borrow.Author.Rules.{rules}
 use Rattle.laws.specs.Machine.{kept, fits_abs}
 use Rattle.numbers.specs.Cut.{cut, rescale}
 use Rattle.block.proofs.stored.shifted.Lts

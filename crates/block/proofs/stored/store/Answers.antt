@@ -1,18 +1,16 @@
 -- One sample a turn.
 use mathlib.Core.Path.{◌≡◌, sym, ◌∙◌}
 use mathlib.Core.List.{List}
-use Prim.Native.Nat.{◌-◌}
 use native.Mathlib.Omega.{arith}
 use lib.ListN.{length, get_or, length-map}
 use lib.IntN.{ℤ, pos}
 use mir.Syntax.{w16, w32}
 use mir.Val.{to_z, of_z}
-use borrow.Author.Rules.{rules}
 use Rattle.laws.specs.Lists.{map_at}
-use Rattle.laws.specs.Loops.{Written, written_none, written_next, written_all}
+use Rattle.laws.specs.Loops.{written_none, written_next, written_all}
 use Rattle.laws.specs.Machine.{kept}
 use Rattle.laws.specs.Sums.{each_at}
-use Rattle.block.specs.Block.{received_all, stored_all}
+use Rattle.block.specs.Block.{received_all}
 use Rattle.block.proofs.ReceivedLaws.{received_length, shifted_is, shift_bounds}
 use Rattle.block.proofs.stored.store.Lts
 use Rattle.block.proofs.stored.store.Tie

@@ -25,7 +25,7 @@ loop-i-init c = written_none _ _
 -- the s that is read
 read : (c : After-word-arg-1) →
     to_z w32 (of_z w32 (get_or c.loop-i.sums c.loop-i.i (pos 0))) ≡ get_or c.args.sums.now c.loop-i.i (pos 0)
-read c = let l = c.loop-i in kept w32 (get_or l.sums l.i (pos 0)) c.word_arg.given ∙ written_read l.invariant (pos 0)
+read c = let l = c.loop-i in kept w32 (get_or l.sums l.i (pos 0)) c.word-arg-1.given ∙ written_read l.invariant (pos 0)
 
 pub word-requires : goal.word-requires
 word-requires c =

@@ -1,15 +1,13 @@
 -- Each element is tested, as one of 16 bits.
 use mathlib.Core.Path.{◌∙◌}
-use Prim.Native.Nat.{◌-◌}
 use native.Mathlib.Omega.{arith}
-use lib.ListN.{length, get_or}
+use lib.ListN.{get_or}
 use lib.IntN.{pos}
 use mir.Syntax.{w8, w16}
 use mir.Val.{SFits}
 use mir.Facts.{to_z-of_z, sfits_widen}
-use borrow.Author.Rules.{rules, sfits_of}
-use Rattle.laws.specs.Loops.{Tested, tested_none, tested_next, tested_all}
-use Rattle.steps.specs.Settings.{is_entry}
+use borrow.Author.Rules.{sfits_of}
+use Rattle.laws.specs.Loops.{tested_none, tested_next, tested_all}
 use Rattle.checks.proofs.lists.all_entries.Lts
 use Rattle.checks.proofs.lists.all_entries.Tie
 use Rattle.checks.proofs.lists.all_entries.Reads

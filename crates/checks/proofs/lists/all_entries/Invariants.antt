@@ -1,13 +1,6 @@
-use mathlib.Core.Path.{◌∙◌}
 use Prim.Native.Nat.{◌-◌}
-use native.Mathlib.Omega.{arith}
-use lib.ListN.{length, get_or}
-use lib.IntN.{pos}
-use mir.Syntax.{w8, w16}
-use mir.Val.{SFits}
-use mir.Facts.{to_z-of_z, sfits_widen}
-use borrow.Author.Rules.{rules, sfits_of}
-use Rattle.laws.specs.Loops.{Tested, tested_none, tested_next, tested_all}
+use lib.ListN.{length}
+use Rattle.laws.specs.Loops.{Tested}
 use Rattle.steps.specs.Settings.{is_entry}
 use Rattle.checks.proofs.lists.all_entries.Given as goal
 

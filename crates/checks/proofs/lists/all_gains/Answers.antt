@@ -1,10 +1,8 @@
 -- The lowest and the highest gain passed.
 use mathlib.Core.Path.{◌≡◌, sym, subst}
-use mathlib.Core.Logic.{⊎_elim}
-use Prim.Native.Nat.{ℕ, ◌+◌, ◌-◌, min, max}
+use Prim.Native.Nat.{ℕ, ◌+◌, min, max}
 use native.Mathlib.Omega.{arith}
-use lib.ListN.{length, get_or}
-use borrow.Author.Rules.{rules}
+use lib.ListN.{get_or}
 use borrow.Author.Tests.{le-leb}
 use Rattle.laws.specs.Loops.{tested_all}
 use Rattle.checks.proofs.GainLaws.{Ranged, ranged_next}

@@ -1,12 +1,6 @@
-use mathlib.Core.Path.{◌≡◌, sym, subst}
-use mathlib.Core.Logic.{⊎_elim}
-use Prim.Native.Nat.{ℕ, ◌+◌, ◌-◌, min, max}
-use native.Mathlib.Omega.{arith}
-use lib.ListN.{length, get_or}
-use borrow.Author.Rules.{rules}
-use borrow.Author.Tests.{le-leb}
-use Rattle.laws.specs.Loops.{tested_all}
-use Rattle.checks.proofs.GainLaws.{Ranged, ranged_next}
+use Prim.Native.Nat.{◌-◌}
+use lib.ListN.{length}
+use Rattle.checks.proofs.GainLaws.{Ranged}
 use Rattle.checks.proofs.lists.all_gains.Given as goal
 
 abbrev pub invariant-loop-i : goal.invariant-loop-i

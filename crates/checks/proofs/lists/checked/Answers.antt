@@ -1,8 +1,6 @@
 -- Each check answers its number; the last one comes where all others passed.
 use mathlib.Core.Path.{◌≡◌, sym, ◌∙◌}
 use mathlib.Core.Bool.{true, false}
-use borrow.Author.Rules.{rules}
-use borrow.Author.Tests.{not-true, not-false}
 use Rattle.laws.specs.Lists.{all}
 use Rattle.state.specs.State.{settings}
 use Rattle.checks.specs.Checks.{Buffers, lengths_fit, gain_fits, buffers_of}

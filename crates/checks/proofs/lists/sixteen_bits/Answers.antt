@@ -1,10 +1,9 @@
 -- Each sample that was read has 16 bits.
 use mathlib.Core.Path.{subst}
 use mathlib.Core.List.{[], ◌∷◌}
-use Prim.Native.Nat.{◌-◌}
 use native.Mathlib.Omega.{arith}
 use native.Mathlib.Numerals.{add-one}
-use lib.ListN.{length, get_or, take}
+use lib.ListN.{get_or, take}
 use lib.Seq.{take-suc, take_all}
 use lib.IntN.{pos}
 use lib.Signed.{nat_abs-le}

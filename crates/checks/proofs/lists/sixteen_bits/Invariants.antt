@@ -1,13 +1,5 @@
-use mathlib.Core.Path.{subst}
-use mathlib.Core.List.{[], ◌∷◌}
 use Prim.Native.Nat.{◌-◌}
-use native.Mathlib.Omega.{arith}
-use native.Mathlib.Numerals.{add-one}
-use lib.ListN.{length, get_or, take}
-use lib.Seq.{take-suc, take_all}
-use lib.IntN.{pos}
-use lib.Signed.{nat_abs-le}
-use Rattle.laws.specs.Sums.{each_append}
+use lib.ListN.{length, take}
 use Rattle.checks.specs.Calls.{Sampled}
 use Rattle.checks.proofs.lists.sixteen_bits.Given as goal
 

@@ -1,5 +1,4 @@
 -- A symbol of the largest bit length that there can be, or a search.
-use borrow.Author.Rules.{rules}
 use Rattle.filter.proofs.DelayLaws.{reached}
 use Rattle.filter.proofs.sample.reach.Goals as goal
 

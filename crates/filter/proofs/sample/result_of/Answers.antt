@@ -4,7 +4,6 @@ use native.Mathlib.Omega.{arith}
 use mir.Syntax.{w8, w16, w32}
 use mir.Val.{SFits, to_z, of_z}
 use mir.Facts.{to_z-of_z}
-use borrow.Author.Rules.{rules}
 use Rattle.laws.specs.Machine.{kept, fits_abs}
 use Rattle.filter.proofs.sample.result_of.Lts
 use Rattle.filter.proofs.sample.result_of.Reads

@@ -9,7 +9,6 @@ use lib.IntN.{ℤ}
 use mir.Syntax.{w16, w32}
 use mir.Val.{to_z, of_z}
 use mir.Facts.{to_z-of_z}
-use borrow.Author.Rules.{rules}
 use Rattle.laws.specs.Machine.{kept}
 use Rattle.steps.specs.Settings.{Settings}
 use Rattle.filter.specs.Sample.{FilterState}

@@ -6,7 +6,6 @@ use lib.IntN.{ℤ}
 use mir.Syntax.{w32, w64}
 use mir.Val.{SFits, to_z, of_z}
 use mir.Facts.{to_z-of_z}
-use borrow.Author.Rules.{rules}
 use Rattle.laws.specs.Machine.{kept, fits_abs}
 use Rattle.numbers.specs.Cut.{raise}
 use Rattle.steps.specs.Limits.{data_unit}

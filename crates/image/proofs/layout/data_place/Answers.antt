@@ -1,6 +1,5 @@
 -- Small numbers.
 use native.Mathlib.Omega.{arith}
-use borrow.Author.Rules.{rules}
 use Rattle.image.proofs.LayoutLaws.{placed_few}
 use Rattle.image.proofs.layout.data_place.Goals as goal
 

@@ -1,6 +1,5 @@
 -- The one that there has been.
 use mathlib.Core.Path.{sym, ◌∙◌}
-use borrow.Author.Rules.{rules}
 use Rattle.image.proofs.LayoutLaws.{only_current}
 use Rattle.image.proofs.layout.layout_of.Goals as goal
 

@@ -2,7 +2,6 @@
 use mathlib.Core.Path.{◌≡◌, sym, ◌∙◌}
 use mathlib.Core.List.{List}
 use Prim.Native.Nat.{ℕ}
-use borrow.Author.Rules.{rules}
 use Rattle.image.specs.Load.{frame_number}
 use Rattle.image.proofs.FrameLaws.{framed_least, framed_long, framed_few}
 use Rattle.image.proofs.LoadAnswers.{load_frame, load_refused, load_done}

@@ -1,5 +1,4 @@
 -- The bytes one by one, and the four of M.
-use borrow.Author.Rules.{rules}
 use Rattle.image.proofs.FrameLaws.{settings_made}
 use Rattle.image.proofs.load.settings_in.Goals as goal
 

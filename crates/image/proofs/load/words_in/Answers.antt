@@ -1,11 +1,9 @@
 -- One word a turn, into the next of the slots.
 use mathlib.Core.Path.{◌∙◌}
-use Prim.Native.Nat.{◌-◌}
 use native.Mathlib.Omega.{arith}
 use mir.Syntax.{w16}
-use borrow.Author.Rules.{rules}
 use Rattle.laws.specs.Machine.{kept}
-use Rattle.image.proofs.WordLaws.{Worded, worded_none, worded_next, worded_all}
+use Rattle.image.proofs.WordLaws.{worded_none, worded_next, worded_all}
 use Rattle.image.proofs.load.words_in.Goals as goal
 
 pub loop-i-init : goal.loop-i-init

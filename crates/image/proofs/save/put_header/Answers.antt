@@ -2,7 +2,6 @@
 use mathlib.Core.Path.{sym, ap, ◌∙◌}
 use lib.Dec.{lit<}
 use lib.ListN.{length}
-use borrow.Author.Rules.{rules}
 use Rattle.image.proofs.ImageLaws.{header_length, header_room, header_long, header_put}
 use Rattle.image.proofs.save.put_header.Goals as goal
 

@@ -1,7 +1,6 @@
 -- The bit length of the magnitude.
 use mathlib.Core.Path.{ap, ◌∙◌}
 use mir.Facts.{to_z-of_z}
-use borrow.Author.Rules.{rules}
 use Rattle.numbers.specs.BitLength.{bit_length}
 use Rattle.numbers.proofs.bit_length.signed_bit_length.Goals as goal
 

@@ -1,6 +1,5 @@
 -- The product with a shifted one.
 use mir.Syntax.{w64}
-use borrow.Author.Rules.{rules}
 use Rattle.numbers.proofs.CutLaws.{raise_kept}
 use Rattle.numbers.proofs.cut.raise.Goals as goal
 

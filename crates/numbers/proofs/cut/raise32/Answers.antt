@@ -1,6 +1,5 @@
 -- The product with a shifted one.
 use mir.Syntax.{w32}
-use borrow.Author.Rules.{rules}
 use Rattle.numbers.proofs.CutLaws.{raise_kept}
 use Rattle.numbers.proofs.cut.raise32.Goals as goal
 

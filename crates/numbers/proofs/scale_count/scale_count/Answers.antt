@@ -1,7 +1,6 @@
 -- The rule at 0, and the bit length of 2k − 1.
 use mathlib.Core.Path.{sym, ap, ◌∙◌}
 use native.Mathlib.Omega.{arith}
-use borrow.Author.Rules.{rules}
 use Rattle.numbers.specs.BitLength.{bit_length}
 use Rattle.numbers.proofs.ScaleCountLaws.{scale_least, scale_bits}
 use Rattle.numbers.proofs.scale_count.scale_count.Goals as goal

@@ -3,7 +3,6 @@ use mathlib.Core.Path.{◌≡◌}
 use Prim.Native.Nat.{◌+◌, ◌*◌, ◌^◌, ◌%◌}
 use native.Mathlib.Omega.{arith}
 use mir.Syntax.{w64}
-use borrow.Author.Rules.{rules}
 use Rattle.laws.specs.Machine.{one_shifted}
 use Rattle.steps.specs.Limits.{step_unit}
 use Rattle.state.proofs.SizesLaws.{terms_most, bound_most, product_most}

@@ -3,7 +3,6 @@ use mathlib.Core.Path.{ap, ◌∙◌}
 use Prim.Native.Nat.{ℕ, ◌+◌, ◌-◌}
 use native.Mathlib.Omega.{arith}
 use lib.Dec.{leb}
-use borrow.Author.Rules.{rules}
 use Rattle.steps.specs.Limits.{data_unit}
 use Rattle.state.proofs.ElementTests.{stored_largest_bits, stored_zero}
 use Rattle.state.proofs.sound.all_stored.Goals as goal

@@ -2,7 +2,6 @@
 use mathlib.Core.Path.{◌≡◌, sym, ap, ◌∙◌}
 use mathlib.Core.Bool.{Bool, true, cond}
 use Prim.Native.Nat.{ℕ}
-use borrow.Author.Rules.{rules}
 use Rattle.state.specs.Sizes.{sizes_fit, admits, settings_number}
 use Rattle.state.specs.State.{settings}
 use Rattle.state.specs.Answers.{examined}

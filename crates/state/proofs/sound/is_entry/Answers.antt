@@ -7,7 +7,6 @@ use lib.Dec.{leb, eqb}
 use lib.IntN.{nat_abs}
 use mir.Syntax.{w16}
 use mir.Facts.{to_z-of_z}
-use borrow.Author.Rules.{rules}
 use Rattle.laws.specs.Machine.{abs_fits, one_shifted}
 use Rattle.laws.specs.Powers.{positive}
 use Rattle.steps.proofs.FirLaws.{fits_64}

@@ -1,7 +1,6 @@
 -- The three tests.
 use mathlib.Core.Path.{ap₂}
 use mathlib.Core.Bool.{Bool, ◌&&◌}
-use borrow.Author.Rules.{rules}
 use Rattle.state.specs.State.{is_sound}
 use Rattle.state.proofs.sound.is_sound.Goals as goal
 

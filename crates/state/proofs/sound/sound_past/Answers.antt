@@ -48,8 +48,8 @@ returns c =
     let e = c.args.e in
     let l : length e.past ≡ slots = search rules in
     let stored : c.all_stored.result ≡ all (is_stored (scale_forward (settings e)) e.b e.bmax) (samples e) =
-        c.all_stored.ensures
-        ∙ ap₂ (λ (s : ℕ) (l : List ℤ). all (is_stored s e.b e.bmax) l) c.scale_count-s.ensures (front_is (e.p - 1) e.past) in
+    c.all_stored.ensures
+    ∙ ap₂ (λ (s : ℕ) (l : List ℤ). all (is_stored s e.b e.bmax) l) c.scale_count-s.ensures (front_is (e.p - 1) e.past) in
     ap₂ (λ (a b : Bool). a && b)
     (ap₂ (λ (a b : Bool). a && b) (ap₂ (λ (a b : Bool). a && b) stored (zero_test {w = w16} {z = filler e} (sfits_of c.result-1.given)))
     (c.all_symbols.ensures ∙ ap (all (is_entry e.r)) (part_is e.p e.q e.past)))

@@ -1,12 +1,9 @@
 -- One element a turn.
-use Prim.Native.Nat.{◌-◌}
 use native.Mathlib.Omega.{arith}
-use lib.ListN.{length}
 use lib.IntN.{pos}
 use mir.Syntax.{w8}
-use borrow.Author.Rules.{rules}
 use Rattle.laws.specs.Machine.{kept}
-use Rattle.laws.specs.Loops.{Written, written_none, written_all}
+use Rattle.laws.specs.Loops.{written_none, written_all}
 use Rattle.station.proofs.CopyLaws.{copied_next}
 use Rattle.station.proofs.copies.copy8.Goals as goal
 

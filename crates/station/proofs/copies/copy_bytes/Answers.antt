@@ -1,10 +1,7 @@
 -- One element a turn.
 use mathlib.Core.Path.{refl}
-use Prim.Native.Nat.{◌-◌}
 use native.Mathlib.Omega.{arith}
-use lib.ListN.{length}
-use borrow.Author.Rules.{rules}
-use Rattle.laws.specs.Loops.{Written, written_none, written_all}
+use Rattle.laws.specs.Loops.{written_none, written_all}
 use Rattle.station.proofs.CopyLaws.{copied_next}
 use Rattle.station.proofs.copies.copy_bytes.Goals as goal
 

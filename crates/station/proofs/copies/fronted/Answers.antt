@@ -1,6 +1,5 @@
 -- The list is copied to the front of an array of zeros.
 use lib.IntN.{pos}
-use borrow.Author.Rules.{rules}
 use Rattle.steps.specs.Limits.{tap_limit}
 use Rattle.station.proofs.CopyLaws.{fronted_is}
 use Rattle.station.proofs.copies.fronted.Goals as goal

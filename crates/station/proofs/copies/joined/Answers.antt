@@ -1,7 +1,6 @@
 -- The first list is copied to the front of an array of zeros, the second behind it.
 use native.Mathlib.Omega.{arith}
 use lib.IntN.{pos}
-use borrow.Author.Rules.{rules}
 use Rattle.steps.specs.Limits.{slots}
 use Rattle.station.proofs.CopyLaws.{fronted_long, joined_is}
 use Rattle.station.proofs.copies.joined.Goals as goal

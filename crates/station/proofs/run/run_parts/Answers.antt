@@ -5,7 +5,6 @@ use Prim.Native.Nat.{ℕ, ◌+◌, ◌≤◌}
 use native.Mathlib.Omega.{arith}
 use lib.ListN.{length, length-set}
 use lib.IntN.{ℤ, pos}
-use borrow.Author.Rules.{rules}
 use Rattle.steps.specs.Limits.{slots}
 use Rattle.block.specs.Block.{Block, Outputs, block_of, outputs_of}
 use Rattle.block.specs.Calls.{BlockResultIs}

@@ -5,7 +5,6 @@ use lib.IntN.{ℤ, pos, nat_abs, ◌+ℤ◌, ◌*ℤ◌}
 use mir.Syntax.{w32}
 use mir.Val.{SFits}
 use mir.Facts.{to_z-of_z}
-use borrow.Author.Rules.{rules}
 use Rattle.laws.specs.Integers.{abs_mul}
 use Rattle.laws.specs.Machine.{fits_abs, fits_shr}
 use Rattle.steps.specs.Limits.{output_unit}

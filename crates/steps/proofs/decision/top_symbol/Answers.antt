@@ -1,7 +1,6 @@
 -- One less than a power of two.
 use mathlib.Core.Path.{◌∙◌}
 use mir.Syntax.{w32}
-use borrow.Author.Rules.{rules}
 use Rattle.laws.specs.Machine.{kept}
 use Rattle.steps.proofs.decision.top_symbol.Goals as goal
 

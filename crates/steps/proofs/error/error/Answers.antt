@@ -5,7 +5,6 @@ use native.Mathlib.Omega.{arith}
 use lib.IntN.{nat_abs}
 use mir.Syntax.{w32, w64}
 use mir.Facts.{to_z-of_z, sfits_widen}
-use borrow.Author.Rules.{rules}
 use Rattle.laws.specs.Machine.{kept}
 use Rattle.numbers.specs.BitLength.{bit_length}
 use Rattle.steps.specs.Limits.{output_unit}

@@ -6,7 +6,6 @@ use lib.IntN.{pos, ◌*ℤ◌}
 use mir.Syntax.{w64}
 use mir.Val.{SFits, to_z}
 use mir.Facts.{to_z-of_z, to_z_pos, sfits_widen}
-use borrow.Author.Rules.{rules}
 use Rattle.laws.specs.Integers.{abs_mul}
 use Rattle.laws.specs.Machine.{kept, fits_abs}
 use Rattle.steps.proofs.factor.factor.Lts

@@ -6,7 +6,6 @@ use native.Mathlib.Nat.{max-le, le-max_left, le-max_right, mul-le-mul_left}
 use lib.IntN.{nat_abs}
 use mir.Syntax.{w32}
 use mir.Facts.{to_z-of_z}
-use borrow.Author.Rules.{rules}
 use Rattle.laws.specs.Machine.{kept}
 use Rattle.laws.specs.Powers.{rises}
 use Rattle.steps.specs.Limits.{data_unit, output_unit, received_unit, mantissa_unit, data_exponent_limit}

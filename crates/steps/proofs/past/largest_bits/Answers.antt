@@ -1,6 +1,5 @@
 -- The bits of the magnitudes together are as many as the largest has.
 use mathlib.Core.Path.{ap, ◌∙◌}
-use borrow.Author.Rules.{rules}
 use Rattle.numbers.specs.BitLength.{bit_length}
 use Rattle.steps.proofs.LargestLaws.{or_all_largest_bits}
 use Rattle.steps.proofs.past.largest_bits.Goals as goal

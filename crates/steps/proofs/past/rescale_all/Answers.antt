@@ -1,15 +1,13 @@
 -- One sample a turn, read before it is replaced.
 use mathlib.Core.Path.{◌≡◌, ap, ◌∙◌}
-use mathlib.Core.List.{map}
-use Prim.Native.Nat.{◌-◌}
 use native.Mathlib.Omega.{arith}
-use lib.ListN.{length, get_or}
+use lib.ListN.{get_or}
 use lib.IntN.{ℤ, pos}
 use mir.Syntax.{w16, w64}
 use mir.Val.{SFits, to_z, of_z}
 use mir.Facts.{to_z-of_z, sfits_widen}
-use borrow.Author.Rules.{rules, sfits_of}
-use Rattle.laws.specs.Loops.{Written, written_none, written_read}
+use borrow.Author.Rules.{sfits_of}
+use Rattle.laws.specs.Loops.{written_none, written_read}
 use Rattle.laws.specs.Machine.{kept}
 use Rattle.laws.specs.Sums.{each_at}
 use Rattle.numbers.specs.Cut.{rescale}

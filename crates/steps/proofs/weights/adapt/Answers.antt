@@ -1,7 +1,6 @@
 -- The same weights and bits for few taps and for many.
 use mathlib.Core.Path.{◌∙◌}
 use mir.Facts.{to_z-of_z}
-use borrow.Author.Rules.{rules}
 use Rattle.steps.proofs.weights.adapt.Goals as goal
 
 pub returns-then-w-le-FEW : goal.returns-then-w-le-FEW

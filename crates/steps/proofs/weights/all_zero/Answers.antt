@@ -2,7 +2,6 @@
 use mathlib.Core.Path.{ap, ◌∙◌}
 use Prim.Native.Nat.{ℕ}
 use lib.Dec.{ltb}
-use borrow.Author.Rules.{rules}
 use Rattle.steps.proofs.LargestLaws.{or_all_below}
 use Rattle.steps.proofs.weights.all_zero.Goals as goal
 

@@ -1,13 +1,11 @@
 -- The bits seen are those of the magnitudes passed together.
 use mathlib.Core.Path.{ap, ◌∙◌}
-use Prim.Native.Nat.{◌-◌}
 use native.Mathlib.Omega.{arith}
-use lib.ListN.{length, get_or}
+use lib.ListN.{get_or}
 use lib.IntN.{pos, nat_abs}
 use mir.Syntax.{w16}
-use borrow.Author.Rules.{rules}
 use Rattle.laws.specs.Machine.{kept}
-use Rattle.steps.proofs.LargestLaws.{Seen, seen_none, seen_next, seen_all}
+use Rattle.steps.proofs.LargestLaws.{seen_none, seen_next, seen_all}
 use Rattle.steps.proofs.weights.bits.Goals as goal
 
 pub loop-i-preserved : goal.loop-i-preserved

@@ -1,12 +1,6 @@
-use mathlib.Core.Path.{ap, ◌∙◌}
 use Prim.Native.Nat.{◌-◌}
-use native.Mathlib.Omega.{arith}
-use lib.ListN.{length, get_or}
-use lib.IntN.{pos, nat_abs}
-use mir.Syntax.{w16}
-use borrow.Author.Rules.{rules}
-use Rattle.laws.specs.Machine.{kept}
-use Rattle.steps.proofs.LargestLaws.{Seen, seen_none, seen_next, seen_all}
+use lib.ListN.{length}
+use Rattle.steps.proofs.LargestLaws.{Seen}
 use Rattle.steps.proofs.weights.bits.Given as goal
 
 abbrev pub invariant-loop-i : goal.invariant-loop-i

@@ -1,17 +1,15 @@
 -- One weight a turn, read before it is replaced.
 use mathlib.Core.Path.{◌≡◌, ap, ◌∙◌}
-use Prim.Native.Nat.{◌-◌}
 use native.Mathlib.Omega.{arith}
-use lib.ListN.{length, get_or}
+use lib.ListN.{get_or}
 use lib.IntN.{ℤ, pos}
 use mir.Syntax.{w16}
 use mir.Val.{to_z, of_z}
-use borrow.Author.Rules.{rules}
-use Rattle.laws.specs.Loops.{Written, written_none, written_read}
+use Rattle.laws.specs.Loops.{written_none, written_read}
 use Rattle.laws.specs.Machine.{kept}
 use Rattle.laws.specs.Sums.{each_at}
 use Rattle.numbers.specs.Cut.{raise}
-use Rattle.steps.specs.Fir.{Small, doubled}
+use Rattle.steps.specs.Fir.{Small}
 use Rattle.steps.proofs.FirLaws.{mapped_next, mapped_all}
 use Rattle.steps.proofs.weights.double.Lts
 use Rattle.steps.proofs.weights.double.Tie

@@ -4,7 +4,6 @@ use native.Mathlib.Omega.{arith}
 use mir.Syntax.{w16, w64}
 use mir.Val.{SFits, to_z, of_z}
 use mir.Facts.{to_z-of_z}
-use borrow.Author.Rules.{rules}
 use Rattle.laws.specs.Machine.{fits_abs, abs_fits, kept}
 use Rattle.numbers.specs.Cut.{cut}
 use Rattle.numbers.proofs.CutLaws.{cut_lt}

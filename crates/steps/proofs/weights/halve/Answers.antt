@@ -1,16 +1,13 @@
 -- One weight a turn, read before it is replaced.
 use mathlib.Core.Path.{◌≡◌, ap, ◌∙◌}
-use Prim.Native.Nat.{◌-◌}
 use native.Mathlib.Omega.{arith}
-use lib.ListN.{length, get_or}
+use lib.ListN.{get_or}
 use lib.IntN.{ℤ, pos}
 use mir.Syntax.{w16}
 use mir.Val.{to_z, of_z}
-use borrow.Author.Rules.{rules}
-use Rattle.laws.specs.Loops.{Written, written_none, written_read}
+use Rattle.laws.specs.Loops.{written_none, written_read}
 use Rattle.laws.specs.Machine.{kept}
 use Rattle.numbers.specs.Cut.{cut}
-use Rattle.steps.specs.Fir.{halved}
 use Rattle.steps.proofs.FirLaws.{mapped_next, mapped_all}
 use Rattle.steps.proofs.weights.halve.Lts
 use Rattle.steps.proofs.weights.halve.Tie

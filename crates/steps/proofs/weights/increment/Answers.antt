@@ -3,7 +3,6 @@ use Prim.Native.Nat.{◌+◌, ◌*◌, ◌-◌, ◌/◌, ◌^◌, ◌<◌}
 use native.Mathlib.Omega.{arith}
 use mir.Syntax.{w16}
 use mir.Facts.{to_z_pos}
-use borrow.Author.Rules.{rules}
 use Rattle.laws.specs.Powers.{rises}
 use Rattle.steps.specs.Limits.{weight_unit, data_unit, output_unit, update_shift}
 use Rattle.steps.proofs.IncrementLaws.{increment_small}

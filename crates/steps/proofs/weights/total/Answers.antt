@@ -1,12 +1,11 @@
 -- The total is the sum of the products passed, and each partial sum fits 32 bits.
 use mathlib.Core.Path.{◌≡◌, sym, ◌∙◌, subst}
-use Prim.Native.Nat.{◌+◌, ◌-◌, ◌^◌, ◌<◌}
+use Prim.Native.Nat.{◌+◌, ◌^◌, ◌<◌}
 use native.Mathlib.Omega.{arith}
-use lib.ListN.{length, get_or, take}
+use lib.ListN.{get_or, take}
 use lib.IntN.{ℤ, pos, nat_abs, ◌+ℤ◌, ◌*ℤ◌}
 use mir.Syntax.{w16, w32}
 use mir.Val.{to_z, of_z}
-use borrow.Author.Rules.{rules}
 use Rattle.laws.specs.Sums.{dot, dot_none, dot_turn, dot_all}
 use Rattle.laws.specs.Machine.{kept}
 use Rattle.steps.proofs.FirLaws.{sum_bound}

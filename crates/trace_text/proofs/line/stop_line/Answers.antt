@@ -1,52 +1,58 @@
 -- The word, then two fields, each behind what is there.
 use mathlib.Core.Path.{◌≡◌, ap}
 use mathlib.Core.List.{List, [], ◌∷◌, ◌++◌}
-use Prim.Native.Nat.{ℕ, ◌+◌, ◌≤◌}
+use Prim.Native.Nat.{ℕ, ◌+◌, ◌^◌, ◌≤◌, ◌<◌}
 use native.Mathlib.Omega.{arith}
 use lib.ListN.{length}
 use mir.Syntax.{w32}
 use mir.Val.{to_z}
 use mir.Facts.{to_z_pos}
-use borrow.Author.Rules.{rules}
 use Rattle.trace_text.specs.Text.{space, newline, field, stop_line}
-use Rattle.trace_text.specs.Calls.{TextAt}
+use Rattle.trace_text.specs.Calls.{line_limit, TextAt}
 use Rattle.trace_text.proofs.LineLaws.{stop_short}
 use Rattle.trace_text.proofs.TextAtLaws.{text_same, text_then, text_room, room_front}
-use Rattle.trace_text.proofs.line.stop_line.Lts
-use Rattle.trace_text.proofs.line.stop_line.Tie
-use Rattle.trace_text.proofs.line.stop_line.Reads
 use Rattle.trace_text.proofs.line.stop_line.Goals as goal
+use Rattle.trace_text.proofs.line.stop_line.Goals.{After-field-b}
 
-abbrev After-word-a : Type 0
-After-word-a = Lts.After-word Tie.the-claims Reads.Pre Reads.Post
+-- ---- the fields of the numbers that are passed on
 
-abbrev Start : Type 0
-Start = Lts.Start Tie.the-claims Reads.Pre Reads.Post
+abbrev A : List ℕ
+A = 115 ∷ 116 ∷ 111 ∷ 112 ∷ space ∷ []
 
-abbrev After-field-b : Type 0
-After-field-b = Lts.After-field Tie.the-claims Reads.Pre Reads.Post
+abbrev B : ℕ → List ℕ
+B number = field (to_z w32 number) space
 
-abbrev start : After-word-a → Start
-start c = c.before.before.before.before.before
+abbrev C : ℕ → List ℕ
+C block = field (to_z w32 block) newline
 
-abbrev start₂ : After-field-b → Start
-start₂ c = start c.before.before.before.before
+module _ (number block : ℕ) (number_most : number ≤ 9) (block_below : block < 2 ^ 16) where
+  same : A ++ B number ++ C block ≡ stop_line number block
+  unfolding stop_line
+  same = simp (to_z_pos w32 {n = number} (omega (arith, number_most)), to_z_pos w32 {n = block} (omega (arith, block_below)))
 
-text₂ : (c : After-field-b) → TextAt (start₂ c).args.at (A (start₂ c) ++ B (start₂ c)) (start₂ c).args.out.now c.field-b.result c.field-b.new.1.1.1.0
+  room : (at count : ℕ) → at + line_limit ≤ count → at + length (A ++ B number ++ C block) ≤ count
+  room at count h = omega (arith, ap length same, stop_short number block number_most block_below)
+
+-- ---- the text so far
+
+text₂ : (c : After-field-b) → TextAt c.args.at (A ++ B c.args.number) c.args.out.now c.field-b.result c.field-b.new.out
 text₂ c = text_then c.word-a.ensures (omega arith) c.field-b.ensures
+
+-- ---- the goals
 
 pub field-b-requires : goal.field-b-requires
 field-b-requires c =
-    let w = c.before.before.before in
-    let s = start w in
-    text_room w.word-a.ensures (B s) (room_front s.args.at (A s ++ B s) (C s) (room s))
+    let p = c.requires in
+    let number = c.args.number in
+    let block = c.args.block in
+    text_room c.word-a.ensures (B number) (room_front c.args.at (A ++ B number) (C block) (room number block p.0 p.1 c.args.at _ p.2))
 
 pub field-requires : goal.field-requires
 field-requires c =
-    let f = c.before.before.before in
-    text_room (text₂ f) (C (start₂ f)) (room (start₂ f))
+    let p = c.requires in
+    text_room (text₂ (goal.at.field-requires c).After-field-b) (C c.args.block) (room c.args.number c.args.block p.0 p.1 c.args.at _ p.2)
 
 pub returns : goal.returns
 returns c =
-    let f = c.before.before.before.before.before.before in
-    text_same (same (start₂ f)) (text_then (text₂ f) (omega (arith, (start₂ f).requires.2)) c.field.ensures)
+    let p = c.requires in
+    text_same (same c.args.number c.args.block p.0 p.1) (text_then (text₂ (goal.at.returns c).After-field-b) (omega (arith, p.2)) c.field.ensures)

@@ -6,7 +6,6 @@ use lib.IntN.{negsuc, ◌-ℤ◌}
 use mir.Syntax.{w8}
 use mir.Val.{to_z}
 use mir.Facts.{to_z-of_z, sfits_to_z}
-use borrow.Author.Rules.{rules}
 use Rattle.laws.specs.Machine.{upper}
 use Rattle.words.proofs.read.signed8.Lts
 use Rattle.words.proofs.read.signed8.Reads

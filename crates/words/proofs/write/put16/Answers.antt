@@ -1,7 +1,6 @@
 -- Two stores.
 use native.Mathlib.Omega.{arith}
 use lib.ListN.{length-set}
-use borrow.Author.Rules.{rules}
 use Rattle.words.proofs.PutLaws.{two_put}
 use Rattle.words.proofs.write.put16.Goals as goal
 

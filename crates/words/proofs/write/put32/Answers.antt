@@ -1,7 +1,6 @@
 -- Four stores.
 use native.Mathlib.Omega.{arith}
 use lib.ListN.{length-set}
-use borrow.Author.Rules.{rules}
 use Rattle.words.proofs.PutLaws.{four_put}
 use Rattle.words.proofs.write.put32.Goals as goal
 

@@ -1,12 +1,11 @@
 -- One number a turn.
 use mathlib.Core.Path.{◌≡◌, sym, ap, ◌∙◌, subst}
-use Prim.Native.Nat.{◌+◌, ◌*◌, ◌-◌, ◌^◌, ◌≤◌, ◌<◌}
+use Prim.Native.Nat.{◌+◌, ◌*◌, ◌^◌, ◌≤◌, ◌<◌}
 use native.Mathlib.Omega.{arith}
 use lib.ListN.{length, get_or}
 use lib.IntN.{pos}
 use mir.Syntax.{w16}
 use mir.Val.{of_z}
-use borrow.Author.Rules.{rules}
 use Rattle.laws.specs.Machine.{kept}
 use Rattle.words.proofs.PutLaws.{Put, put_none, put_next, put_all}
 use Rattle.words.proofs.write.put_words.Lts

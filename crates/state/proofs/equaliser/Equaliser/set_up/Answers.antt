@@ -1,5 +1,4 @@
 -- The fresh state of the settings, or of the smallest ones.
-use borrow.Author.Rules.{rules}
 use Rattle.state.proofs.SetUpLaws.{set_up_fresh, set_up_refused}
 use Rattle.state.proofs.equaliser.Equaliser.set_up.Goals as goal
 
