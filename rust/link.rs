@@ -6,8 +6,12 @@ use std::process::{exit, Command, Stdio};
 
 /// The path that the command prints; what it tells goes to the error stream.
 fn library(root: &Path, name: &str, variable: &str) -> PathBuf {
-    println!("cargo:rerun-if-changed={}", root.join("crates").display());
-    println!("cargo:rerun-if-changed={}", root.join("crates.txt").display());
+    let crates = std::fs::read_dir(root.join("crates")).into_iter().flatten().flatten();
+    // What rt keeps in a crate's out/ is no source.
+    let parts = crates.flat_map(|each| ["src", "specs", "proofs"].map(|part| each.path().join(part)));
+    for path in parts.filter(|part| part.is_dir()).chain([root.join("crates.txt")]) {
+        println!("cargo:rerun-if-changed={}", path.display());
+    }
     let mut command = Command::new(root.join("tigbulode"));
     match command.args(["library", name]).stderr(Stdio::inherit()).output() {
         Ok(output) if output.status.success() => String::from_utf8_lossy(&output.stdout).trim_end().into(),

@@ -9,7 +9,7 @@ use std::process::{Command, Stdio};
 /// What a program of target/bin writes for an input. It may end without reading it all.
 fn piped(name: &str, input: &[u8]) -> Vec<u8> {
     let program = Path::new(env!("CARGO_MANIFEST_DIR")).join("../../target/bin").join(name);
-    assert!(program.is_file(), "there is no target/bin/{name}: rt check {name} proves and builds it");
+    assert!(program.is_file(), "there is no target/bin/{name}: ./tigbulode check programs makes it");
     let mut child = Command::new(program).stdin(Stdio::piped()).stdout(Stdio::piped()).spawn().unwrap();
     let (mut stdin, mut stdout) = (child.stdin.take().unwrap(), child.stdout.take().unwrap());
     let mut written = Vec::new();

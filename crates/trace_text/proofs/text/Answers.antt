@@ -1,12 +1,8 @@
 -- The text of a trace: a trace that is not well formed, refused settings, and the blocks.
 use mathlib.Core.Path.{◌≡◌, sym, ◌∙◌, subst}
 use mathlib.Core.Bool.{true}
-use mathlib.Core.List.{List}
-use Prim.Native.Nat.{ℕ, ◌≤◌}
 use native.Mathlib.Omega.{arith}
-use lib.ListN.{length}
-use borrow.Author.Rules.{rules}
-use Rattle.trace_layout.specs.Trace.{trace_header_length, settings_in, well_formed}
+use Rattle.trace_layout.specs.Trace.{settings_in, well_formed}
 use Rattle.trace_layout.proofs.ReadLaws.{well_long}
 use Rattle.steps.specs.Settings.{Settings}
 use Rattle.state.specs.Answers.{SetUp}

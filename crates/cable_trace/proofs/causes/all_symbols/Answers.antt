@@ -1,12 +1,10 @@
 -- Each element is tested.
 use mathlib.Core.Path.{ap, ◌∙◌}
-use Prim.Native.Nat.{◌-◌}
 use native.Mathlib.Omega.{arith}
-use lib.ListN.{length, get_or}
+use lib.ListN.{get_or}
 use lib.IntN.{pos}
 use mir.Syntax.{w8}
-use borrow.Author.Rules.{rules}
-use Rattle.laws.specs.Loops.{Tested, tested_none, tested_next, tested_all}
+use Rattle.laws.specs.Loops.{tested_none, tested_next, tested_all}
 use Rattle.laws.specs.Machine.{kept}
 use Rattle.steps.specs.Settings.{is_symbol}
 use Rattle.cable_trace.proofs.causes.all_symbols.Goals as goal

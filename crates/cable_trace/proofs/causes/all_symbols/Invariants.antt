@@ -1,12 +1,6 @@
-use mathlib.Core.Path.{ap, ◌∙◌}
 use Prim.Native.Nat.{◌-◌}
-use native.Mathlib.Omega.{arith}
-use lib.ListN.{length, get_or}
-use lib.IntN.{pos}
-use mir.Syntax.{w8}
-use borrow.Author.Rules.{rules}
-use Rattle.laws.specs.Loops.{Tested, tested_none, tested_next, tested_all}
-use Rattle.laws.specs.Machine.{kept}
+use lib.ListN.{length}
+use Rattle.laws.specs.Loops.{Tested}
 use Rattle.steps.specs.Settings.{is_symbol}
 use Rattle.cable_trace.proofs.causes.all_symbols.Given as goal
 

@@ -3,7 +3,6 @@ use mathlib.Core.Path.{◌≡◌, ap₂, ◌∙◌}
 use mathlib.Core.Bool.{Bool, ◌&&◌, not}
 use mir.Syntax.{w16}
 use mir.Facts.{to_z-of_z, sfits_widen}
-use borrow.Author.Rules.{rules}
 use Rattle.laws.specs.Tests.{zero_test}
 use Rattle.steps.specs.Settings.{is_entry}
 use Rattle.cable_trace.proofs.PutLaws.{entry_symbol}

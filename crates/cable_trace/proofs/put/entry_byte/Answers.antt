@@ -4,7 +4,6 @@ use Prim.Native.Nat.{ℕ, ◌%◌}
 use mir.Syntax.{w16}
 use mir.Val.{SFits, of_z}
 use mir.Facts.{to_z-of_z, sfits_widen}
-use borrow.Author.Rules.{rules}
 use Rattle.cable_trace.proofs.PutLaws.{lower_byte}
 use Rattle.cable_trace.proofs.put.entry_byte.Lts
 use Rattle.cable_trace.proofs.put.entry_byte.Tie

@@ -1,5 +1,4 @@
 -- The words, and the trace that is made of them.
-use borrow.Author.Rules.{rules}
 use Rattle.cable_trace.proofs.put.trace.Goals as goal
 
 pub words-requires : goal.words-requires

@@ -36,7 +36,7 @@ lent c = mid_of trace_header_length (end (goal.at.After-put_header c).Start - tr
 buffers_long : (c : After-put_header) → length (lent c) ≡ 4 * length c.args.words.now
 buffers_long c =
     mid_len trace_header_length (end (goal.at.After-put_header c).Start) (c.put_header.new.out ++ drop trace_header_length c.args.out.now)
-        (omega (arith, headed_long c, c.requires.room))
+    (omega (arith, headed_long c, c.requires.room))
     ∙ omega (arith, c.requires.same_length)
 
 some : (c : After-put_header) → 3 * length c.args.words.now < length (lent c)

@@ -1,6 +1,5 @@
 -- One symbol a turn, into the place before the last one.
 use mathlib.Core.Path.{refl, sym, ap, ◌∙◌}
-use Prim.Native.Nat.{◌-◌}
 use native.Mathlib.Omega.{arith}
 use lib.ListN.{length, get_or}
 use lib.IntN.{pos}
@@ -8,7 +7,7 @@ use mir.Syntax.{w8, w16}
 use mir.Val.{SFits}
 use mir.Facts.{to_z-of_z, sfits_widen}
 use borrow.Author.Rules.{sfits_of}
-use Rattle.cable_trace.proofs.LineLaws.{empty_line_lem, Lined, lined_none, lined_next, lined_all}
+use Rattle.cable_trace.proofs.LineLaws.{empty_line_lem, lined_none, lined_next, lined_all}
 use Rattle.cable_trace.proofs.sums.line.Lts
 use Rattle.cable_trace.proofs.sums.line.Reads
 use Rattle.cable_trace.proofs.sums.line.Goals as goal

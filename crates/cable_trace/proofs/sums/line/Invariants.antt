@@ -1,13 +1,6 @@
-use mathlib.Core.Path.{refl, sym, ap, ◌∙◌}
 use Prim.Native.Nat.{◌-◌}
-use native.Mathlib.Omega.{arith}
-use lib.ListN.{length, get_or}
-use lib.IntN.{pos}
-use mir.Syntax.{w8, w16}
-use mir.Val.{SFits}
-use mir.Facts.{to_z-of_z, sfits_widen}
-use borrow.Author.Rules.{sfits_of}
-use Rattle.cable_trace.proofs.LineLaws.{empty_line_lem, Lined, lined_none, lined_next, lined_all}
+use lib.ListN.{length}
+use Rattle.cable_trace.proofs.LineLaws.{Lined}
 use Rattle.cable_trace.proofs.sums.line.Given as goal
 
 abbrev pub invariant-loop-i : goal.invariant-loop-i

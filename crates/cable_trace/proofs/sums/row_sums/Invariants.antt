@@ -1,19 +1,7 @@
-use mathlib.Core.Path.{◌≡◌, sym, ap₂, ◌∙◌}
-use Prim.Native.Nat.{◌*◌, ◌-◌, ◌%◌, ◌<◌}
-use native.Mathlib.Omega.{arith}
-use lib.ListN.{length, get_or}
-use lib.IntN.{pos}
-use mir.Syntax.{w32}
-use mir.Val.{to_z, of_z}
-use borrow.Author.Rules.{rules}
-use Rattle.laws.specs.Loops.{Written, written_none, written_next, written_all}
-use Rattle.laws.specs.Machine.{kept}
-use Rattle.laws.specs.Sums.{dot}
-use Rattle.laws.specs.Tests.{part_is}
-use Rattle.laws.specs.Values.{values_length, values_at}
-use Rattle.cable_trace.specs.Limits.{response_limit}
-use Rattle.cable_trace.specs.Calls.{sent_place, window, row, row_sums}
-use Rattle.cable_trace.proofs.RowLaws.{row_summable}
+use Prim.Native.Nat.{◌-◌}
+use lib.ListN.{length}
+use Rattle.laws.specs.Loops.{Written}
+use Rattle.cable_trace.specs.Calls.{row_sums}
 use Rattle.cable_trace.proofs.sums.row_sums.Given as goal
 
 abbrev pub invariant-loop-i : goal.invariant-loop-i

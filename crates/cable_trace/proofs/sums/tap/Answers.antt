@@ -2,7 +2,6 @@
 use mathlib.Core.Path.{sym}
 use lib.ListN.{get_or-eq_default}
 use lib.IntN.{pos}
-use borrow.Author.Rules.{rules}
 use Rattle.cable_trace.proofs.sums.tap.Goals as goal
 
 pub returns-else-i-h : goal.returns-else-i-h

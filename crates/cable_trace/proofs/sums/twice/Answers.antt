@@ -1,14 +1,12 @@
 -- One value a turn.
-use mathlib.Core.Path.{◌≡◌, sym, ◌∙◌}
-use Prim.Native.Nat.{◌-◌, ◌<◌}
+use mathlib.Core.Path.{sym, ◌∙◌}
+use Prim.Native.Nat.{◌<◌}
 use native.Mathlib.Omega.{arith}
-use lib.ListN.{length}
 use lib.IntN.{pos}
 use mir.Syntax.{w16}
-use borrow.Author.Rules.{rules}
-use Rattle.laws.specs.Loops.{Written, written_none, written_next, written_all}
+use Rattle.laws.specs.Loops.{written_none, written_next, written_all}
 use Rattle.laws.specs.Machine.{kept}
-use Rattle.cable_trace.specs.Calls.{taps_length, twice}
+use Rattle.cable_trace.specs.Calls.{taps_length}
 use Rattle.cable_trace.proofs.RowLaws.{twice_long, twice_at}
 use Rattle.cable_trace.proofs.sums.twice.Lts
 use Rattle.cable_trace.proofs.sums.twice.Tie

@@ -1,7 +1,6 @@
 -- By the two cases of the definition.
 use Prim.Native.Nat.{◌-◌}
 use native.Mathlib.Omega.{arith}
-use borrow.Author.Rules.{rules}
 use borrow.Author.Tests.{le-leb, lt-leb}
 use Rattle.cable_trace.specs.Calls.{float_offset}
 use Rattle.cable_trace.proofs.word.gain.Goals as goal

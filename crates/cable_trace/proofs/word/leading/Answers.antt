@@ -6,7 +6,6 @@ use lib.IntN.{ℤ, pos, neg_ℤ, ◌-ℤ◌, +ℤ_idl}
 use mir.Syntax.{w32}
 use mir.Val.{SFits, to_z, of_z}
 use mir.Facts.{to_z-of_z, to_z_pos}
-use borrow.Author.Rules.{rules}
 use Rattle.laws.specs.Integers.{abs_neg}
 use Rattle.laws.specs.Machine.{fits_abs}
 use Rattle.cable_trace.specs.Calls.{float_bits}

@@ -6,7 +6,6 @@ use lib.IntN.{pos, nat_abs}
 use mir.Syntax.{w16, w32}
 use mir.Val.{SFits, of_z}
 use mir.Facts.{to_z-of_z, to_z_pos}
-use borrow.Author.Rules.{rules}
 use Rattle.laws.specs.Machine.{kept, fits_abs}
 use Rattle.numbers.specs.BitLength.{bit_length}
 use Rattle.steps.specs.Limits.{gain_limit}

@@ -1,16 +1,15 @@
 -- One s a turn.
 use mathlib.Core.Path.{◌≡◌, sym, ap, ◌∙◌}
-use Prim.Native.Nat.{◌-◌, ◌<◌}
+use Prim.Native.Nat.{◌<◌}
 use native.Mathlib.Omega.{arith}
 use lib.ListN.{length, get_or, length-map, get_or-map}
 use lib.IntN.{ℤ, pos}
 use mir.Syntax.{w32}
 use mir.Val.{to_z, of_z}
-use borrow.Author.Rules.{rules}
-use Rattle.laws.specs.Loops.{Written, written_none, written_read, written_next, written_all}
+use Rattle.laws.specs.Loops.{written_none, written_read, written_next, written_all}
 use Rattle.laws.specs.Machine.{kept}
 use Rattle.laws.specs.Sums.{each_at}
-use Rattle.cable_trace.specs.Calls.{Gainable, sample_word, sample_words}
+use Rattle.cable_trace.specs.Calls.{Gainable, sample_word}
 use Rattle.cable_trace.proofs.word.words.Lts
 use Rattle.cable_trace.proofs.word.words.Tie
 use Rattle.cable_trace.proofs.word.words.Reads

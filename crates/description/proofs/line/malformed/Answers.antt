@@ -1,5 +1,4 @@
 -- The bytes of the line.
-use borrow.Author.Rules.{rules}
 use Rattle.description.specs.Texts.{text}
 use Rattle.description.specs.Description.{malformed_line}
 use Rattle.description.proofs.line.malformed.Goals as goal

@@ -10,20 +10,11 @@ use Rattle.description.proofs.line.refusal.Goals as goal
 
 pub returns-in-1 : goal.returns-in-1
 unfolding refusal_line text
-returns-in-1 c =
-    let w = c.before.before in
-    let m = w.before.before.before in
-    text_same (sym (ap (λ (n : ℕ). refusal_line n m.args.reason) m.in-1.keys1)) w.word.ensures
+returns-in-1 c = text_same (sym (ap (λ (n : ℕ). refusal_line n c.args.reason) c.in-1.is)) c.word.ensures
 
 pub returns-in-2 : goal.returns-in-2
 unfolding refusal_line text
-returns-in-2 c =
-    let w = c.before.before in
-    let m = w.before.before.before in
-    text_same (sym (ap (λ (n : ℕ). refusal_line n m.args.reason) m.in-1.keys2)) w.word-in-2.ensures
+returns-in-2 c = text_same (sym (ap (λ (n : ℕ). refusal_line n c.args.reason) c.in-2.is)) c.word-in-2.ensures
 
 pub returns-in_default : goal.returns-in_default
-returns-in_default c =
-    let w = c.before.before in
-    let r = w.in-1.rest in
-    text_same (other_number _ _ r.0.1 r.1) w.cause.ensures
+returns-in_default c = text_same (other_number c.args.number c.args.reason (search rules) (search rules)) c.cause.ensures

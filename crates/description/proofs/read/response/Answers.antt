@@ -1,67 +1,54 @@
 -- One value a turn, into the next place.
 use mathlib.Core.Path.{refl, ◌∙◌}
-use mathlib.Core.List.{List}
-use Prim.Native.Nat.{ℕ, ◌+◌, ◌*◌, ◌-◌, ◌<◌}
+use Prim.Native.Nat.{◌+◌, ◌*◌, ◌<◌}
 use native.Mathlib.Omega.{arith}
 use lib.ListN.{length}
-use lib.IntN.{ℤ, pos}
+use lib.IntN.{pos}
 use mir.Syntax.{w16}
-use mir.Val.{to_z}
-use borrow.Author.Rules.{rules}
 use Rattle.laws.specs.Machine.{kept}
-use Rattle.laws.specs.Loops.{Written, written_none}
-use Rattle.laws.specs.Values.{values, values_written, values_all}
-use Rattle.words.specs.Words.{number_at}
+use Rattle.laws.specs.Loops.{written_none}
+use Rattle.laws.specs.Values.{values_written, values_all}
 use Rattle.description.specs.Description.{description_header_length}
-use Rattle.description.proofs.read.response.Lts
-use Rattle.description.proofs.read.response.Tie
-use Rattle.description.proofs.read.response.Reads
 use Rattle.description.proofs.read.response.Goals as goal
-
-abbrev In-loop-i : Type 0
-In-loop-i = Lts.In-loop Tie.the-claims Reads.Pre Reads.Post goal.the-invariant-loop-i goal.the-decreases-loop-i
-
-abbrev value : List ℕ → ℕ → ℤ
-value t i = to_z w16 (number_at 2 t (description_header_length + 2 * i))
+use Rattle.description.proofs.read.response.Goals.{In-loop-i}
 
 -- a turn is inside both lists
 inside : (c : In-loop-i) → let a = c.args in
     (c.loop-i.i < length a.out.now) × (description_header_length + 2 * c.loop-i.i + 1 < length a.t.now)
 inside c =
-    let s = c.before.before.before in
-    let below : c.loop-i.i < length s.args.out.now = omega (arith, c.loop-i-test.true, c.loop-i.invariant.long) in
-    (below, omega (arith, s.requires))
+    let below : c.loop-i.i < length c.args.out.now = omega (arith, c.loop-i-test.true, c.loop-i.invariant.long) in
+    (below, omega (arith, c.requires))
 
 pub overflow_mul-at : goal.overflow_mul-at
-overflow_mul-at c = omega (arith, inside c)
+overflow_mul-at c = omega (arith, inside (goal.at.overflow_mul-at c).In-loop-i)
 
 pub overflow_add-at : goal.overflow_add-at
-overflow_add-at c = omega (arith, inside c)
+overflow_add-at c = omega (arith, inside (goal.at.overflow_add-at c).In-loop-i)
 
 pub bounds-t-at : goal.bounds-t-at
-bounds-t-at c = omega (arith, inside c.before)
+bounds-t-at c = omega (arith, inside (goal.at.bounds-t-at c).In-loop-i)
 
 pub overflow_add-at-in-loop-i : goal.overflow_add-at-in-loop-i
-overflow_add-at-in-loop-i c = omega (arith, inside c.before)
+overflow_add-at-in-loop-i c = omega (arith, inside (goal.at.overflow_add-at-in-loop-i c).In-loop-i)
 
 pub bounds-t-at-in-loop-i : goal.bounds-t-at-in-loop-i
-bounds-t-at-in-loop-i c = omega (arith, inside c.before.before)
+bounds-t-at-in-loop-i c = omega (arith, inside (goal.at.bounds-t-at-in-loop-i c).In-loop-i)
 
 pub offset_bounds-out-i : goal.offset_bounds-out-i
-offset_bounds-out-i c = omega (arith, inside c.before.before.before)
+offset_bounds-out-i c = omega (arith, inside (goal.at.offset_bounds-out-i c).In-loop-i)
 
 pub bounds-out-i : goal.bounds-out-i
-bounds-out-i c = omega (arith, inside c.before.before.before, c.loop-i.invariant.long)
+bounds-out-i c = omega (arith, inside (goal.at.bounds-out-i c).In-loop-i, c.loop-i.invariant.long)
 
 pub overflow_add-i : goal.overflow_add-i
-overflow_add-i c = omega (arith, inside c.before.before.before)
+overflow_add-i c = omega (arith, inside (goal.at.overflow_add-i c).In-loop-i)
 
 pub loop-i-smaller : goal.loop-i-smaller
-loop-i-smaller c = omega (arith, inside c.before.before.before)
+loop-i-smaller c = omega (arith, inside (goal.at.loop-i-smaller c).In-loop-i)
 
 pub loop-i-preserved : goal.loop-i-preserved
 loop-i-preserved c =
-    let h = (inside c.before.before.before).0 in
+    let h = (inside (goal.at.loop-i-preserved c).In-loop-i).0 in
     values_written _ _ c.loop-i.invariant (pos 0) _ h h (kept w16 _ c.signed16.type_inv ∙ c.signed16.ensures)
 
 pub returns : goal.returns

@@ -1,54 +1,41 @@
 -- One symbol a turn, into the next place.
 use mathlib.Core.Path.{refl, ◌∙◌}
-use mathlib.Core.List.{List}
-use Prim.Native.Nat.{ℕ, ◌+◌, ◌-◌, ◌≤◌, ◌<◌}
+use Prim.Native.Nat.{◌+◌, ◌≤◌, ◌<◌}
 use native.Mathlib.Omega.{arith}
 use lib.ListN.{length}
-use lib.IntN.{ℤ, pos}
+use lib.IntN.{pos}
 use mir.Syntax.{w8}
-use mir.Val.{to_z}
-use borrow.Author.Rules.{rules}
 use Rattle.laws.specs.Machine.{kept}
-use Rattle.laws.specs.Loops.{Written, written_none}
-use Rattle.laws.specs.Values.{values, values_written, values_all}
-use Rattle.words.specs.Words.{byte_at}
-use Rattle.description.proofs.read.symbols.Lts
-use Rattle.description.proofs.read.symbols.Tie
-use Rattle.description.proofs.read.symbols.Reads
+use Rattle.laws.specs.Loops.{written_none}
+use Rattle.laws.specs.Values.{values_written, values_all}
 use Rattle.description.proofs.read.symbols.Goals as goal
-
-abbrev In-loop-i : Type 0
-In-loop-i = Lts.In-loop Tie.the-claims Reads.Pre Reads.Post goal.the-invariant-loop-i goal.the-decreases-loop-i
-
-abbrev symbol : List ℕ → ℕ → ℕ → ℤ
-symbol t start i = to_z w8 (byte_at t (start + i))
+use Rattle.description.proofs.read.symbols.Goals.{In-loop-i}
 
 -- a turn is inside both lists
 inside : (c : In-loop-i) → let a = c.args in
     (c.loop-i.i < length a.out.now) × (a.start + c.loop-i.i < length a.t.now) × (a.start + length a.out.now ≤ length a.t.now)
 inside c =
-    let s = c.before.before.before in
-    let below : c.loop-i.i < length s.args.out.now = omega (arith, c.loop-i-test.true, c.loop-i.invariant.long) in
-    (below, omega (arith, s.requires), s.requires)
+    let below : c.loop-i.i < length c.args.out.now = omega (arith, c.loop-i-test.true, c.loop-i.invariant.long) in
+    (below, omega (arith, c.requires), c.requires)
 
 pub overflow_add-start : goal.overflow_add-start
-overflow_add-start c = omega (arith, inside c)
+overflow_add-start c = omega (arith, inside (goal.at.overflow_add-start c).In-loop-i)
 
 pub bounds-t-start : goal.bounds-t-start
-bounds-t-start c = omega (arith, inside c.before)
+bounds-t-start c = omega (arith, inside (goal.at.bounds-t-start c).In-loop-i)
 
 pub bounds-out-i : goal.bounds-out-i
-bounds-out-i c = omega (arith, inside c.before.before, c.loop-i.invariant.long)
+bounds-out-i c = omega (arith, inside (goal.at.bounds-out-i c).In-loop-i, c.loop-i.invariant.long)
 
 pub overflow_add-i : goal.overflow_add-i
-overflow_add-i c = omega (arith, inside c.before.before)
+overflow_add-i c = omega (arith, inside (goal.at.overflow_add-i c).In-loop-i)
 
 pub loop-i-smaller : goal.loop-i-smaller
-loop-i-smaller c = omega (arith, inside c.before.before)
+loop-i-smaller c = omega (arith, inside (goal.at.loop-i-smaller c).In-loop-i)
 
 pub loop-i-preserved : goal.loop-i-preserved
 loop-i-preserved c =
-    let h = (inside c.before.before).0 in
+    let h = (inside (goal.at.loop-i-preserved c).In-loop-i).0 in
     values_written _ _ c.loop-i.invariant (pos 0) _ h h (kept w8 _ c.signed8.type_inv ∙ c.signed8.ensures)
 
 pub returns : goal.returns

@@ -3,7 +3,6 @@ use mathlib.Core.Path.{◌∙◌}
 use Prim.Native.Nat.{◌≤◌}
 use native.Mathlib.Omega.{arith}
 use lib.ListN.{length}
-use borrow.Author.Rules.{rules}
 use Rattle.description.specs.Description.{description_header_length}
 use Rattle.description.proofs.ReadLaws.{well_long, well_most}
 use Rattle.description.proofs.WriteLaws.{from_zero, cable_in_lem, simulation_same}
@@ -53,14 +52,14 @@ pub settings_in-requires : goal.settings_in-requires
 settings_in-requires c = omega (arith, long (start (listed c.before)))
 
 -- ---- the lists
-response-long : (c : After-symbols-sent) → c.response_count-k.result ≤ length c.response-h.result
-response-long c = omega (arith, c.response-h.type_inv, c.response_count-k.ensures, well_long _ (start c).requires, well_most _ (start c).requires)
+response_long : (c : After-symbols-sent) → c.response_count-k.result ≤ length c.response-h.result
+response_long c = omega (arith, c.response-h.type_inv, c.response_count-k.ensures, well_long _ (start c).requires, well_most _ (start c).requires)
 
 symbols_long : (c : After-symbols-sent) → c.symbol_count-n.result ≤ length c.symbols-sent.result
 symbols_long c = omega (arith, c.symbols-sent.type_inv, c.symbol_count-n.ensures, well_long _ (start c).requires, well_most _ (start c).requires)
 
 pub slice_bounds-simulate-end : goal.slice_bounds-simulate-end
-slice_bounds-simulate-end c = response-long (listed c.before.before)
+slice_bounds-simulate-end c = response_long (listed c.before.before)
 
 pub slice_bounds-simulate-end-2 : goal.slice_bounds-simulate-end-2
 slice_bounds-simulate-end-2 c = symbols_long (listed c.before.before.before)

@@ -4,45 +4,35 @@ use Prim.Native.Nat.{◌-◌, ◌≤◌}
 use native.Mathlib.Omega.{arith}
 use lib.ListN.{length, take}
 use lib.Seq.{take_at}
-use borrow.Author.Rules.{rules}
 use borrow.Rule.Slice.PartMut.{mid_len}
 use Rattle.laws.specs.Values.{values_length, values}
 use Rattle.description.proofs.ReadLaws.{well_long, well_most}
 use Rattle.description.proofs.WriteLaws.{symbols_in_lem}
-use Rattle.description.proofs.write.symbols.Lts
-use Rattle.description.proofs.write.symbols.Tie
-use Rattle.description.proofs.write.symbols.Reads
 use Rattle.description.proofs.write.symbols.Goals as goal
-
-abbrev After-symbol_room-room : Type 0
-After-symbol_room-room = Lts.After-symbol_room Tie.the-claims Reads.Pre Reads.Post
-
-abbrev Start : Type 0
-Start = Lts.Start Tie.the-claims Reads.Pre Reads.Post
-
-abbrev start : After-symbol_room-room → Start
-start c = c.before.before
+use Rattle.description.proofs.write.symbols.Goals.{Start, After-symbol_room-room}
 
 within : (s : Start) → s.args.n ≤ length s.args.t.now
-within s = omega (arith, s.requires.count_is, well_long _ s.requires.well_described)
+within s = omega (arith, s.requires.count_is, well_long _ s.requires.well_described_lem)
 
-part-room-end : (c : After-symbol_room-room) → (start c).args.n ≤ length c.symbol_room-room.result
-part-room-end c = omega (arith, c.symbol_room-room.ensures, within (start c), well_most _ (start c).requires.well_described)
+room_end : (c : After-symbol_room-room) → c.args.n ≤ length c.symbol_room-room.result
+room_end c = omega (arith, c.symbol_room-room.ensures, within (goal.at.After-symbol_room-room c).Start, well_most _ c.requires.well_described_lem)
 
-part-long : (c : After-symbol_room-room) → length (take ((start c).args.n - 0) c.symbol_room-room.result) ≡ (start c).args.n
-part-long c = mid_len 0 (start c).args.n c.symbol_room-room.result (part-room-end c) ∙ omega arith
+pub slice_bounds-room-end : goal.slice_bounds-room-end
+slice_bounds-room-end c = room_end (goal.at.slice_bounds-room-end c).After-symbol_room-room
+
+part_long : (c : After-symbol_room-room) → length (take (c.args.n - 0) c.symbol_room-room.result) ≡ c.args.n
+part_long c = mid_len 0 c.args.n c.symbol_room-room.result (room_end c) ∙ omega arith
+
+pub overflow_sub-start : goal.overflow_sub-start
+overflow_sub-start c = within (goal.at.overflow_sub-start c).Start
 
 pub symbols-requires : goal.symbols-requires
-symbols-requires c = omega (arith, part-long c.before, within (start c.before))
+symbols-requires c =
+    let at = goal.at.symbols-requires c in
+    omega (arith, part_long at.After-symbol_room-room, within at.Start)
 
 pub returns : goal.returns
 returns c =
-    let r = c.before in
-    let a = r.before.before in
-    let s = start a.before in
-    let e = r.symbols.ensures ∙ ap (values _) (part-long a) in
-    take_at r.symbols.new.1.1.0 _ s.args.n (ap length e ∙ values_length _ s.args.n) ∙ e
-    ∙ symbols_in_lem _ _ s.args.n (omega (arith, s.requires.count_is, well_long _ s.requires.well_described)) s.requires.count_is
-
-pub overflow_sub-start : goal.overflow_sub-start
-overflow_sub-start c = within c.before
+    let e = c.symbols.ensures ∙ ap (values _) (part_long (goal.at.returns c).After-symbol_room-room) in
+    take_at c.symbols.new.out _ c.args.n (ap length e ∙ values_length _ c.args.n) ∙ e
+    ∙ symbols_in_lem _ _ c.args.n (omega (arith, c.requires.count_is, well_long _ c.requires.well_described_lem)) c.requires.count_is

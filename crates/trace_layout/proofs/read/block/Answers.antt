@@ -1,16 +1,15 @@
 -- One sample a turn, with its gain and its training entry, into the next place of each list.
 use mathlib.Core.Path.{refl, ap, ◌∙◌}
-use Prim.Native.Nat.{ℕ, ◌+◌, ◌-◌, ◌≤◌, ◌<◌}
+use Prim.Native.Nat.{ℕ, ◌+◌, ◌≤◌, ◌<◌}
 use native.Mathlib.Omega.{arith}
 use lib.ListN.{length, get_or}
 use lib.IntN.{pos}
 use mir.Syntax.{w8, w16}
 use mir.Val.{to_z}
-use borrow.Author.Rules.{rules}
 use Rattle.laws.specs.Machine.{kept}
-use Rattle.laws.specs.Loops.{Written, written_none}
+use Rattle.laws.specs.Loops.{written_none}
 use Rattle.laws.specs.Values.{values_written, values_all}
-use Rattle.trace_layout.specs.Trace.{trace_limit, sample_start, samples_from, gains_from, entries_from}
+use Rattle.trace_layout.specs.Trace.{trace_limit, sample_start}
 use Rattle.trace_layout.proofs.ReadLaws.{well_long, well_most}
 use Rattle.trace_layout.proofs.read.block.Goals as goal
 use Rattle.trace_layout.proofs.read.block.Goals.{In-loop-i}

@@ -2,7 +2,6 @@
 use mathlib.Core.Path.{ap}
 use Prim.Native.Nat.{ℕ, ◌*◌}
 use native.Mathlib.Omega.{arith}
-use borrow.Author.Rules.{rules}
 use Rattle.words.specs.Words.{byte_at}
 use Rattle.trace_layout.proofs.ReadLaws.{few}
 use Rattle.trace_layout.proofs.read.samples.Goals as goal

@@ -1,6 +1,5 @@
 -- The bytes one by one, and the four of M.
 use mathlib.Core.Path.{ap}
-use borrow.Author.Rules.{rules}
 use Rattle.words.specs.Words.{byte_at}
 use Rattle.steps.specs.Settings.{given}
 use Rattle.trace_layout.proofs.read.settings_in.Goals as goal

@@ -6,7 +6,6 @@ use Prim.Native.Nat.{ℕ, ◌+◌, ◌*◌, ◌≤◌}
 use native.Mathlib.Omega.{arith}
 use lib.Dec.{eqb}
 use lib.ListN.{length, get_or}
-use borrow.Author.Rules.{rules}
 use borrow.Author.Tests.{eq-eqb, ne_eqb}
 use Rattle.trace_layout.specs.Trace.{trace_header_length, samples_in, count_in, well_formed}
 use Rattle.trace_layout.proofs.ReadLaws.{well_short, well_large, well_tested, few}

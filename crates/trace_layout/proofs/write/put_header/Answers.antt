@@ -5,7 +5,6 @@ use Prim.Native.Nat.{ℕ, ◌+◌, ◌≤◌}
 use lib.Dec.{lit<}
 use lib.ListN.{length}
 use lib.Seq.{sets}
-use borrow.Author.Rules.{rules}
 use Rattle.words.specs.Words.{bytes}
 use Rattle.trace_layout.proofs.WriteLaws.{header_length, header_room, headed_long, counted_long, header_put}
 use Rattle.trace_layout.proofs.write.put_header.Lts

@@ -1,6 +1,6 @@
 -- One block a turn, behind the blocks before it.
 use mathlib.Core.Path.{◌≡◌, ◌∙◌, subst}
-use Prim.Native.Nat.{ℕ, ◌-◌, ◌≤◌, ◌<◌}
+use Prim.Native.Nat.{ℕ, ◌≤◌, ◌<◌}
 use native.Mathlib.Omega.{arith}
 use lib.ListN.{length}
 use borrow.Author.Rules.{rules}
@@ -9,7 +9,7 @@ use Rattle.steps.specs.Limits.{slots}
 use Rattle.trace_layout.specs.Trace.{count_in}
 use Rattle.trace_layout.proofs.ReadLaws.{well_long}
 use Rattle.trace_text.specs.Calls.{OfTrace}
-use Rattle.trace_text.proofs.TextLaws.{Going, going_none, going_next, going_stops, going_all, going_long, going_room}
+use Rattle.trace_text.proofs.TextLaws.{going_none, going_next, going_stops, going_all, going_long, going_room}
 use Rattle.trace_text.proofs.blocks.all_blocks.Goals as goal
 use Rattle.trace_text.proofs.blocks.all_blocks.Goals.{After-count_in-count, At-loop-i, In-loop-i}
 

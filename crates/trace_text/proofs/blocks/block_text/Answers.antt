@@ -1,10 +1,9 @@
 -- A block that is run, then its lines or the line of its refusal.
 use mathlib.Core.Path.{◌≡◌, sym, ap, ◌∙◌, subst}
-use mathlib.Core.List.{List}
 use Prim.Native.Nat.{ℕ, ◌+◌, ◌*◌, ◌^◌, ◌<◌}
 use native.Mathlib.Omega.{arith}
 use lib.ListN.{length, take, drop, replicate}
-use lib.IntN.{ℤ, pos}
+use lib.IntN.{pos}
 use borrow.Author.Rules.{rules}
 use Rattle.words.specs.Words.{byte_at}
 use Rattle.steps.specs.Limits.{block_limit, slots}
@@ -13,7 +12,7 @@ use Rattle.checks.specs.Checks.{Buffers}
 use Rattle.station.proofs.NumberLaws.{run_most}
 use Rattle.trace_text.specs.Buffers.{buffers_at}
 use Rattle.trace_text.specs.Text.{stop_line}
-use Rattle.trace_text.specs.Calls.{OfTrace, RanIs}
+use Rattle.trace_text.specs.Calls.{RanIs}
 use Rattle.trace_text.proofs.TextAtLaws.{text_same}
 use Rattle.trace_text.proofs.BlockLaws.{zeros_long, front_long, front_within, sampled, buffers_zeros, block_within, block_few, accepts, block_long, front_printable, front_lines, refused_text, accepted_text}
 use Rattle.trace_text.proofs.blocks.block_text.Goals as goal

@@ -1,7 +1,6 @@
 -- From the last digit to the first.
 use native.Mathlib.Omega.{arith}
-use borrow.Author.Rules.{rules}
-use Rattle.trace_text.proofs.DecimalLaws.{DigitsFrom, digits_none, digits_next, digits_all}
+use Rattle.trace_text.proofs.DecimalLaws.{digits_none, digits_next, digits_all}
 use Rattle.trace_text.proofs.decimal.decimal.Goals as goal
 
 pub loop-i-init : goal.loop-i-init

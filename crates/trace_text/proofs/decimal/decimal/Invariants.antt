@@ -1,6 +1,4 @@
-use native.Mathlib.Omega.{arith}
-use borrow.Author.Rules.{rules}
-use Rattle.trace_text.proofs.DecimalLaws.{DigitsFrom, digits_none, digits_next, digits_all}
+use Rattle.trace_text.proofs.DecimalLaws.{DigitsFrom}
 use Rattle.trace_text.proofs.decimal.decimal.Given as goal
 
 abbrev pub invariant-loop-i : goal.invariant-loop-i

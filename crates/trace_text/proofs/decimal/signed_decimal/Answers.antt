@@ -8,7 +8,6 @@ use lib.IntN.{nat_abs}
 use mir.Syntax.{w64}
 use mir.Val.{SFits}
 use mir.Facts.{to_z-of_z, sfits_widen}
-use borrow.Author.Rules.{rules}
 use Rattle.laws.specs.Machine.{abs_fits, lt_tested, lt_refuted}
 use Rattle.trace_text.specs.Decimal.{decimal, signed_decimal}
 use Rattle.trace_text.specs.Calls.{TextAt}

@@ -1,9 +1,5 @@
 -- Digits counted and digits of what is left make up all digits, and one more.
-use mathlib.Core.Path.{◌≡◌}
-use Prim.Native.Nat.{◌+◌}
 use native.Mathlib.Omega.{arith}
-use lib.ListN.{length}
-use Rattle.trace_text.specs.Decimal.{decimal}
 use Rattle.trace_text.proofs.DecimalLaws.{length_one, length_more, decimal_short}
 use Rattle.trace_text.proofs.decimal.width.Goals as goal
 

@@ -4,12 +4,11 @@ use mathlib.Core.List.{List, ◌++◌}
 use Prim.Native.Nat.{ℕ, ◌+◌, ◌≤◌}
 use native.Mathlib.Omega.{arith}
 use lib.ListN.{length}
-use lib.IntN.{ℤ}
 use mir.Syntax.{w8, w32}
 use mir.Val.{SFits, to_z, of_z}
 use mir.Facts.{to_z_pos, to_z-of_z, sfits_widen}
 use Rattle.trace_text.specs.Text.{space, newline, field, line}
-use Rattle.trace_text.specs.Calls.{line_limit, TextAt, Printable}
+use Rattle.trace_text.specs.Calls.{TextAt}
 use Rattle.trace_text.proofs.LineLaws.{line_short}
 use Rattle.trace_text.proofs.TextAtLaws.{text_same, text_then, text_room, room_front}
 use Rattle.trace_text.proofs.line.line.Goals as goal

@@ -1,6 +1,6 @@
 -- One line a turn, behind the lines before it.
 use mathlib.Core.Path.{◌≡◌, sym, ap, ap₂}
-use Prim.Native.Nat.{◌+◌, ◌-◌, ◌*◌, ◌≤◌}
+use Prim.Native.Nat.{◌+◌, ◌*◌, ◌≤◌}
 use native.Mathlib.Omega.{arith}
 use native.Mathlib.Nat.{le_antisymm}
 use native.Mathlib.Numerals.{add-one}
@@ -11,7 +11,7 @@ use mir.Val.{SFits}
 use mir.Facts.{to_z-of_z}
 use borrow.Author.Rules.{sfits_of}
 use Rattle.trace_text.specs.Text.{line, lines}
-use Rattle.trace_text.specs.Calls.{line_limit, TextAt}
+use Rattle.trace_text.specs.Calls.{line_limit}
 use Rattle.trace_text.proofs.TextAtLaws.{text_none, text_same, text_long, text_then}
 use Rattle.trace_text.proofs.LineLaws.{lines_short}
 use Rattle.trace_text.proofs.line.lines.Lts
@@ -60,11 +60,11 @@ turn c = c.before.before.before.before
 abbrev start : At-loop-i → Start
 start c = c.before.before.before
 
-Y-fits : (c : After-line-arg-in-loop-i-2-1) → let l = (turn c).before in SFits w32 (get_or (start l).args.y.now l.loop-i.i (pos 0))
-Y-fits c = sfits_of c.line-arg-1.given
+Y_fits : (c : After-line-arg-in-loop-i-2-1) → let l = (turn c).before in SFits w32 (get_or (start l).args.y.now l.loop-i.i (pos 0))
+Y_fits c = sfits_of c.line-arg-1.given
 
-decision-fits : (c : After-line-arg-in-loop-i-2-1) → let l = (turn c).before in SFits w8 (get_or (start l).args.decision.now l.loop-i.i (pos 0))
-decision-fits c = sfits_of c.line-arg-in-loop-i-1.given
+decision_fits : (c : After-line-arg-in-loop-i-2-1) → let l = (turn c).before in SFits w8 (get_or (start l).args.decision.now l.loop-i.i (pos 0))
+decision_fits c = sfits_of c.line-arg-in-loop-i-1.given
 
 -- the lines so far are short, and the bytes as many as at the start
 so_far : (c : At-loop-i) → let s = start c in
@@ -79,7 +79,7 @@ pub line-end-requires : goal.line-end-requires
 line-end-requires c =
     let l = (turn c.before).before in
     let h = (turn c.before).loop-i-test.true in
-    simp (to_z-of_z (Y-fits c.before), to_z-of_z (decision-fits c.before))
+    simp (to_z-of_z (Y_fits c.before), to_z-of_z (decision_fits c.before))
     ((start l).requires.0.each l.loop-i.i h, omega (arith, (start l).requires.1, h, l.loop-i.invariant.1.end_is, so_far l))
 
 pub overflow_add-i : goal.overflow_add-i
@@ -102,7 +102,7 @@ loop-i-preserved c =
       omega (arith, h),
       text_same (ap (lines s.args.place s.args.y.now s.args.xi.now s.args.decision.now) (sym (add-one l.loop-i.i)))
           (text_then l.loop-i.invariant.1 (omega (arith, s.requires.1))
-          (text_same (ap₂ (λ (Y d : ℤ). line (s.args.place + l.loop-i.i) Y (get_or s.args.xi.now l.loop-i.i 0) d) (to_z-of_z (Y-fits b.before)) (to_z-of_z (decision-fits b.before)))
+          (text_same (ap₂ (λ (Y d : ℤ). line (s.args.place + l.loop-i.i) Y (get_or s.args.xi.now l.loop-i.i 0) d) (to_z-of_z (Y_fits b.before)) (to_z-of_z (decision_fits b.before)))
           c.line-end.ensures)),
     )
 

@@ -1,18 +1,7 @@
-use mathlib.Core.Path.{◌≡◌, sym, ap, ap₂}
-use Prim.Native.Nat.{◌+◌, ◌-◌, ◌*◌, ◌≤◌}
-use native.Mathlib.Omega.{arith}
-use native.Mathlib.Nat.{le_antisymm}
-use native.Mathlib.Numerals.{add-one}
-use lib.ListN.{length, get_or}
-use lib.IntN.{ℤ, pos}
-use mir.Syntax.{w8, w32}
-use mir.Val.{SFits}
-use mir.Facts.{to_z-of_z}
-use borrow.Author.Rules.{sfits_of}
-use Rattle.trace_text.specs.Text.{line, lines}
-use Rattle.trace_text.specs.Calls.{line_limit, TextAt}
-use Rattle.trace_text.proofs.TextAtLaws.{text_none, text_same, text_long, text_then}
-use Rattle.trace_text.proofs.LineLaws.{lines_short}
+use Prim.Native.Nat.{◌-◌, ◌≤◌}
+use lib.ListN.{length}
+use Rattle.trace_text.specs.Text.{lines}
+use Rattle.trace_text.specs.Calls.{TextAt}
 use Rattle.trace_text.proofs.line.lines.Given as goal
 
 abbrev pub invariant-loop-i : goal.invariant-loop-i

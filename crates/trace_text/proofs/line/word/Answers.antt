@@ -1,10 +1,9 @@
 -- One byte a turn.
 use mathlib.Core.Path.{◌≡◌, ap, ◌∙◌}
-use Prim.Native.Nat.{◌-◌, ◌≤◌}
 use native.Mathlib.Omega.{arith}
 use native.Mathlib.Nat.{le_antisymm}
 use lib.ListN.{length}
-use lib.Seq.{paste, paste-zero, length-paste}
+use lib.Seq.{paste-zero, length-paste}
 use Rattle.trace_text.proofs.TextAtLaws.{pasted_next, pasted_all}
 use Rattle.trace_text.proofs.line.word.Lts
 use Rattle.trace_text.proofs.line.word.Reads

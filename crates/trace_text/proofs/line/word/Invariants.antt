@@ -1,10 +1,7 @@
-use mathlib.Core.Path.{◌≡◌, ap, ◌∙◌}
+use mathlib.Core.Path.{◌≡◌}
 use Prim.Native.Nat.{◌-◌, ◌≤◌}
-use native.Mathlib.Omega.{arith}
-use native.Mathlib.Nat.{le_antisymm}
 use lib.ListN.{length}
-use lib.Seq.{paste, paste-zero, length-paste}
-use Rattle.trace_text.proofs.TextAtLaws.{pasted_next, pasted_all}
+use lib.Seq.{paste}
 use Rattle.trace_text.proofs.line.word.Given as goal
 
 abbrev pub invariant-loop-i : goal.invariant-loop-i
