@@ -1,10 +1,6 @@
-use mathlib.Core.Path.{refl, ap₂}
-use mathlib.Core.Bool.{◌&&◌}
-use Prim.Native.Nat.{◌-◌, ◌<◌}
-use native.Mathlib.Omega.{arith}
+use Prim.Native.Nat.{◌-◌}
 use lib.ListN.{length}
-use borrow.Author.Rules.{rules}
-use Rattle.laws.specs.Loops.{Tested, tested_none, tested_next, tested_all}
+use Rattle.laws.specs.Loops.{Tested}
 use Rattle.readings.specs.Readings.{exponent_fits}
 use Rattle.readings.proofs.check.exponents_fit.Given as goal
 

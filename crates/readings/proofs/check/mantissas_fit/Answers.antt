@@ -1,16 +1,14 @@
 -- Each magnitude of both lists is tested.
 use mathlib.Core.Path.{ap, ap₂, ◌∙◌}
 use mathlib.Core.Bool.{◌&&◌}
-use Prim.Native.Nat.{ℕ, ◌-◌, ◌<◌}
+use Prim.Native.Nat.{ℕ, ◌<◌}
 use native.Mathlib.Omega.{arith}
 use lib.Dec.{ltb}
 use lib.IntN.{pos, nat_abs}
 use lib.ListN.{length, get_or}
 use mir.Syntax.{w32}
-use borrow.Author.Rules.{rules}
-use Rattle.laws.specs.Loops.{Tested, tested_none, tested_next, tested_all}
+use Rattle.laws.specs.Loops.{tested_none, tested_next, tested_all}
 use Rattle.laws.specs.Machine.{kept}
-use Rattle.steps.specs.Fir.{is_below}
 use Rattle.readings.specs.Limits.{output_limit, error_limit}
 use Rattle.readings.proofs.check.mantissas_fit.Lts
 use Rattle.readings.proofs.check.mantissas_fit.Tie

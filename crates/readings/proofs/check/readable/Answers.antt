@@ -1,10 +1,10 @@
 -- The lengths first, then the values.
-use mathlib.Core.Path.{◌≡◌, sym, ap₂, ◌∙◌}
-use mathlib.Core.Bool.{true, ◌&&◌}
+use mathlib.Core.Path.{sym, ap₂, ◌∙◌}
+use mathlib.Core.Bool.{◌&&◌}
 use Rattle.laws.specs.Lists.{all}
 use Rattle.steps.specs.Fir.{all_below}
 use Rattle.readings.specs.Limits.{output_limit, error_limit}
-use Rattle.readings.specs.Readings.{exponent_fits, lengths_readable, lists_of}
+use Rattle.readings.specs.Readings.{exponent_fits, lists_of}
 use Rattle.readings.proofs.ReadableLaws.{lengths_say, readable_short, readable_long, reordered}
 use Rattle.readings.proofs.check.readable.Goals as goal
 

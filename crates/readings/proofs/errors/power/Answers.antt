@@ -1,7 +1,5 @@
 -- The quotient of the sum, in the case that the test of every a gives.
 use mathlib.Core.Path.{sym, ap, ◌∙◌}
-use borrow.Author.Rules.{rules}
-use Rattle.readings.specs.Readings.{quotient}
 use Rattle.readings.specs.declared.Power.TheVariants.{Mean, Floor}
 use Rattle.readings.proofs.ListLaws.{power_chosen}
 use Rattle.readings.proofs.errors.power.Goals as goal

@@ -1,6 +1,5 @@
 -- Both numbers are exact, and one division rounds.
 use native.Mathlib.Omega.{arith}
-use borrow.Author.Rules.{rules}
 use Rattle.floats.specs.ValueLaws.{whole_fits}
 use Rattle.readings.proofs.ValueLaws.{quotient_is}
 use Rattle.readings.proofs.errors.quotient.Goals as goal

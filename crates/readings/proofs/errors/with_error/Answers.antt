@@ -5,7 +5,6 @@ use Prim.Native.Nat.{ℕ, ◌+◌, ◌*◌, ◌≤◌}
 use native.Mathlib.Omega.{arith}
 use lib.IntN.{ℤ}
 use mir.Facts.{to_z-of_z}
-use borrow.Author.Rules.{rules}
 use Rattle.readings.specs.Readings.{amplitude, counted, is_uncut}
 use Rattle.readings.specs.declared.errors.Sum.{Sum}
 use Rattle.readings.proofs.ListLaws.{square_small}

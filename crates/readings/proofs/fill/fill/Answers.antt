@@ -9,7 +9,7 @@ use lib.ListN.{length, get_or}
 use mir.Syntax.{w32}
 use Rattle.laws.specs.Machine.{kept}
 use Rattle.laws.specs.Loops.{written_none, written_next, written_all}
-use Rattle.readings.specs.Readings.{Lists, pairs, pair_of, reading_of, amplitude, amplitudes, lists_of}
+use Rattle.readings.specs.Readings.{pairs, pair_of, reading_of, amplitude, amplitudes, lists_of}
 use Rattle.readings.specs.Calls.{Long}
 use Rattle.readings.specs.declared.errors.Sum.{Sum}
 use Rattle.readings.proofs.ListLaws.{exponent_at, pairs_length, pairs_at, Summed, summed_none, summed_small, summed_next, summed_all, amplitudes_length, amplitudes_at}
@@ -59,14 +59,14 @@ loop-i-preserved c =
     let theta_at : i < length θ = omega arith in
     -- the reading and the error of this place
     let reading_is : pair_of c.reading_of-r.result ≡ get_or (pairs Y ξ Z θ) i [] =
-        ap pair_of
-        (c.reading_of-r.ensures
-        ∙ ap₂ (λ (m k : ℤ). reading_of m (get_or ξ i 0) k (get_or θ i 0)) (kept w32 (get_or Y i (pos 0)) c.reading_of-arg-1.given)
-        (kept w32 (get_or Z i (pos 0)) c.reading_of-arg-in-loop-i-1.given))
-        ∙ sym (pairs_at Y ξ Z θ i [] y_at xi_at z_at theta_at) in
+    ap pair_of
+    (c.reading_of-r.ensures
+    ∙ ap₂ (λ (m k : ℤ). reading_of m (get_or ξ i 0) k (get_or θ i 0)) (kept w32 (get_or Y i (pos 0)) c.reading_of-arg-1.given)
+    (kept w32 (get_or Z i (pos 0)) c.reading_of-arg-in-loop-i-1.given))
+    ∙ sym (pairs_at Y ξ Z θ i [] y_at xi_at z_at theta_at) in
     let a_is =
-        ap (λ (x : ℤ). amplitude x (get_or θ i 0)) (kept w32 (get_or Z i (pos 0)) c.with_error-arg-1.given)
-        ∙ sym (amplitudes_at Z θ i z_at theta_at) in
+    ap (λ (x : ℤ). amplitude x (get_or θ i 0)) (kept w32 (get_or Z i (pos 0)) c.with_error-arg-1.given)
+    ∙ sym (amplitudes_at Z θ i z_at theta_at) in
     let p = pairs_long Y ξ Z θ n c.requires.long in
     let q = sums_long Y ξ Z θ n c.requires.long in (
       v.0,

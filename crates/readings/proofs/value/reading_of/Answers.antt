@@ -3,7 +3,6 @@ use mathlib.Core.Path.{ap, ap₂, ◌∙◌}
 use lib.IntN.{ℤ}
 use lib.Ieee.{Float}
 use mir.Facts.{to_z-of_z}
-use borrow.Author.Rules.{rules}
 use Rattle.readings.specs.Readings.{value_of}
 use Rattle.readings.specs.declared.Reading.{Reading}
 use Rattle.readings.proofs.value.reading_of.Goals as goal

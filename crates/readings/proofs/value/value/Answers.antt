@@ -5,7 +5,6 @@ use native.Mathlib.Omega.{arith}
 use lib.ListN.{get_or}
 use lib.Ieee.{binary64, nan, mul, of_int}
 use mir.Facts.{to_z-of_z}
-use borrow.Author.Rules.{rules}
 use Rattle.laws.specs.Machine.{abs_fits}
 use Rattle.steps.specs.Limits.{output_exponent_limit}
 use Rattle.readings.proofs.ValueLaws.{power_at, product_is}
