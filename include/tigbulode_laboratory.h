@@ -21,6 +21,16 @@
 #define TIGBULODE_LABORATORY_VERSION_MINOR 0
 #define TIGBULODE_LABORATORY_VERSION "1.0"
 
+/* The names of 0.2 for what tigbulode_common.h has. */
+#define TIGBULODE_LABORATORY_NUMBER TIGBULODE_NUMBER
+#define TIGBULODE_LABORATORY_ASSERT(name, holds) TIGBULODE_ASSERT(laboratory_##name, holds)
+
+enum tigbulode_laboratory_number {
+    TIGBULODE_LABORATORY_ACCEPTED = 0,
+    TIGBULODE_LABORATORY_SIZES = 1,
+    TIGBULODE_LABORATORY_STEP = 2
+};
+
 /* The limits beside those of the settings. */
 enum tigbulode_laboratory_limit {
     TIGBULODE_MOST_RESPONSE = 32, /* values of a response */
@@ -161,6 +171,18 @@ static inline tigbulode_power tigbulode_readings_of(const tigbulode_outputs *o) 
                               o->z ? o->z : &no_mantissa, o->z ? o->length : 0,
                               o->theta ? o->theta : &no_exponent, o->theta ? o->length : 0,
                               o->readings ? o->readings : &no_reading, o->readings ? o->length : 0);
+}
+
+/* What a number of the laboratory says, in words. */
+static inline const char *tigbulode_laboratory_number_text(uint8_t number) {
+    switch (number) {
+    case TIGBULODE_LABORATORY_ACCEPTED:
+    case TIGBULODE_LABORATORY_SIZES:
+    case TIGBULODE_LABORATORY_STEP:
+    case TIGBULODE_CABLE:
+    case TIGBULODE_READINGS: return tigbulode_number_text(number);
+    default: return "no number of the laboratory";
+    }
 }
 
 #endif

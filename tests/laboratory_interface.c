@@ -9,6 +9,12 @@ static const int16_t quiet[TIGBULODE_MOST_RESPONSE + 1] = {100, -20, 3};
 static int8_t ones[TIGBULODE_MOST_SYMBOLS + 1];
 static uint8_t trace[ROOM], other[ROOM];
 
+static void try_number_texts(void) {
+    int number;
+    for (number = 0; number <= 12; number++)
+        printf("number %d: %s\n", number, tigbulode_laboratory_number_text((uint8_t)number));
+}
+
 /* Blocks of one sample over a quiet cable. */
 static tigbulode_cable_description plain_cable(size_t values, size_t symbols) {
     tigbulode_cable_description c;
@@ -269,8 +275,8 @@ static void try_readings_left_out(void) {
 
 int main(int argc, char **argv) {
     static void (*const parts[])(void) = {
-        try_trace_lengths, try_response_lengths, try_cables, try_left_out,          try_exponents,
-        try_mantissas,     try_reading_lengths,  try_blocks, try_readings_left_out,
+        try_number_texts, try_trace_lengths, try_response_lengths, try_cables, try_left_out,
+        try_exponents,    try_mantissas,     try_reading_lengths,  try_blocks, try_readings_left_out,
     };
     size_t i;
     take_arguments(argc, argv, 0, "laboratory_interface, without arguments: tries the plain C of its header");

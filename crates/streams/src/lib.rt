@@ -46,8 +46,8 @@ pub fn read(input: &impl Input, buf: &mut [u8]) -> usize
     done
 }
 
-// What one read more answers where a read has stopped: the error if reading failed. A terminal is not asked again: what is
-// typed there has ended.
+// What one read more answers where a read has stopped: its own error, and no other, if reading failed. A terminal is not
+// asked again: what is typed there has ended.
 pub fn next<I: Input>(input: &I) -> io::Result<usize>
 where
     I::Reader: IsTerminal,
