@@ -25,7 +25,13 @@ fn main(rt: HostRuntime) {
     let usage =
         b"usage: cable < DESCRIPTION > TRACE\nThe trace that a station receives over the cable; or one line that begins with cable: and a number, where it is turned down.\ndocs/EQUALISER.md has the layout; lab/run tries step sizes on a cable that a text describes.\n";
     let err = rt.stderr();
-    if streams::no_arguments(&rt, &err, streams::arg_count(&rt), b"cable", usage) {
+    if streams::no_arguments(
+        &rt,
+        &err,
+        streams::arg_count(&rt, streams::MANY),
+        b"cable",
+        usage,
+    ) {
         run(&rt, &err);
     }
 }

@@ -240,7 +240,13 @@ fn run(rt: &impl Print) {
 fn main(rt: HostRuntime) {
     let usage = b"usage: limit_cases\nWrites a line for each case beside the limits.\n";
     let err = rt.stderr();
-    if streams::no_arguments(&rt, &err, streams::arg_count(&rt), b"limit_cases", usage) {
+    if streams::no_arguments(
+        &rt,
+        &err,
+        streams::arg_count(&rt, streams::MANY),
+        b"limit_cases",
+        usage,
+    ) {
         run(&rt);
     }
 }

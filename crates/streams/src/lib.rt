@@ -104,15 +104,20 @@ pub fn write_front(
     true
 }
 
-// How many arguments a program has, its own name among them.
-pub fn arg_count(env: &impl Env) -> usize {
+// Enough to tell a program's name alone from one argument and from more.
+pub const MANY: usize = 3;
+
+// How many arguments a program has, its own name among them; no more than `most` are looked for.
+pub fn arg_count(env: &impl Env, most: usize) -> usize
+    ensures { result ≤ most }
+{
     let mut room = [0u8; 1];
-    for i in 0..usize::MAX {
+    for i in 0..most {
         if let Err(FillError::NotPresent) = env.arg(i, &mut room) {
             return i;
         }
     }
-    usize::MAX
+    most
 }
 
 // Whether a program has no argument, by the count that its own name is part of. Where it has, its usage is told: on standard

@@ -25,7 +25,13 @@ fn main(rt: HostRuntime) {
     let usage =
         b"usage: trace < TRACE > TEXT\nOne line a sample: its place, Y, xi and the decision; a line of stop, a number and a block where it is turned down.\ndocs/EQUALISER.md has the layout, traces/make makes a trace from a text.\n";
     let err = rt.stderr();
-    if streams::no_arguments(&rt, &err, streams::arg_count(&rt), b"trace", usage) {
+    if streams::no_arguments(
+        &rt,
+        &err,
+        streams::arg_count(&rt, streams::MANY),
+        b"trace",
+        usage,
+    ) {
         run(&rt, &err);
     }
 }

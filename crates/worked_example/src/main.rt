@@ -59,7 +59,13 @@ fn main(rt: HostRuntime) {
     let usage =
         b"usage: worked_example\nWrites the image that the specification's two samples leave.\n";
     let err = rt.stderr();
-    if streams::no_arguments(&rt, &err, streams::arg_count(&rt), b"worked_example", usage) {
+    if streams::no_arguments(
+        &rt,
+        &err,
+        streams::arg_count(&rt, streams::MANY),
+        b"worked_example",
+        usage,
+    ) {
         run(&rt);
     }
 }
