@@ -1,7 +1,7 @@
 /* The station equaliser for firmware: set-up, running a block, trying one, saving, loading. C99 and C++98, and later.
  *
- * Link target/staticlib/libfirmware.a, which `./tigbulode library firmware` writes; firmware/README.md has the lines for C and
- * Rust, docs/EQUALISER.md what the numbers mean.
+ * Link target/staticlib/libfirmware.a, which `./tigbulode library firmware` writes; firmware/README.md has the lines
+ * for C and Rust, docs/EQUALISER.md what the numbers mean.
  *
  * What a caller owes: a pointer is not null, even beside a length of 0; it is aligned for its type and valid for as many
  * elements as its length says; what is written (the five lists, the buffer, and the record where a block is run) overlaps

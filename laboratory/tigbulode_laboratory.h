@@ -1,8 +1,8 @@
 /* The surface laboratory's operations: a cable on paper, and readings for plots. C99 and later, C++98 and later. It needs no
  * other header, and goes with firmware/tigbulode.h in one file, in either order.
  *
- * Link target/staticlib/liblaboratory.a, which `./tigbulode library laboratory` writes; laboratory/README.md has the lines for C and
- * Rust, docs/EQUALISER.md what the numbers mean.
+ * Link target/staticlib/liblaboratory.a, which `./tigbulode library laboratory` writes; laboratory/README.md
+ * has the lines for C and Rust, docs/EQUALISER.md what the numbers mean.
  *
  * What a caller owes: a pointer is not null, even beside a length of 0; it is aligned for its type and valid for as many
  * elements as its length says; what is written overlaps nothing else that is lent to the same call; until the call returns,
