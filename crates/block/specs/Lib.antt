@@ -3,3 +3,4 @@ pub mod Sound
 pub mod Line
 pub mod Calls
 pub mod Swapped
+pub mod Lists

@@ -1,12 +1,18 @@
 // One block.
 ghost use Rattle.std.specs.Prelude.{◌≡◌, suc};
 ghost use Rattle.filter.specs.Calls.{SampleResultIs};
-ghost use Rattle.block.specs.Block.{stored_all, block_of, outputs_of};
+ghost use Rattle.filter.specs.Lent.{SameLists};
+ghost use Rattle.block.specs.Block.{stored_all};
 ghost use Rattle.block.specs.Line.{newest};
-ghost use Rattle.block.specs.Calls.{memory_of, BlockExponentsIs, Startable, FillBounds, filled, filter_state_at, Advanceable, Begun, Progressed, Runnable, BlockResultIs};
+ghost use Rattle.block.specs.Lists.{block_in, outputs_in, memory_in, SameOutputs, SameMemory};
+ghost use Rattle.block.specs.Calls.{BlockExponentsIs, Startable, FillBounds, filled, filter_state_at, Advanceable, Begun, Progressed, Runnable, BlockResultIs};
 
+use super::lists::{Block, Memory, Outputs};
 use filter::sample::{BlockExponents, SampleResult};
-use steps::limits;
+use filter::weights::Weights;
+use numbers::bit_length::bit_length;
+use numbers::scale_count::scale_count;
+use steps::limits::{BLOCK, EXPONENT, LINE, TAPS};
 use steps::settings::Settings;
 
 // How many samples are run, and ψ after them.
@@ -29,33 +35,27 @@ pub fn begin(k: Settings, was: u32, m: &[i16], gains: &[u8]) -> BlockExponents
     requires { Startable k was m.now gains.now }
     ensures { BlockExponentsIs k was m.now gains.now result }
 {
-    let s = numbers::scale_count::scale_count(k.p as usize);
-    let sb = numbers::scale_count::scale_count(k.q as usize);
-    let b = numbers::bit_length::bit_length(super::stored::received_bits(m, gains) as u64);
-    let bmax = steps::exponent::larger(b, was);
+    let s = scale_count(k.p as usize);
+    let sb = scale_count(k.q as usize);
+    let b = bit_length(u64::from(super::stored::received_bits(m, gains)));
+    let bmax = b.max(was);
     BlockExponents {
-        s: s,
-        sb: sb,
-        b: b,
-        bmax: bmax,
-        gamma30: (k.r as u32) + bmax + s,
+        s,
+        sb,
+        b,
+        bmax,
+        gamma30: u32::from(k.r) + bmax + s,
     }
 }
 
 // The samples of a block as stored, and in a line before the old ones.
-fn fill(m: &[i16], gains: &[u8], shift: u32, old: &[i16], stored: &mut [i16], line: &mut [i16])
+fn fill(m: &[i16], gains: &[u8], shift: u32, old: &[i16], stored: &mut [i16], line: &mut [i16; LINE])
     requires { FillBounds m.now gains.now shift old.now stored.old line.old }
     ensures { (stored.new ≡ stored_all shift m.now gains.now) × (line.new ≡ filled shift m.now gains.now old.now line.old) }
 {
     super::stored::store(m, gains, shift, stored);
     super::line::start(old, line);
     super::line::add(stored, line);
-}
-
-fn wide(x: i8) -> i16
-    ensures { result ≡ x }
-{
-    x as i16
 }
 
 // Sample n, on the lines of stored samples and of symbols.
@@ -66,15 +66,15 @@ fn advance(
     delay: usize,
     n: usize,
     entry: i8,
-    forward: &mut [i16],
-    back: &mut [i16],
-    samples: &[i16],
-    symbols: &mut [i16],
+    weights: &mut Weights,
+    samples: &[i16; LINE],
+    symbols: &mut [i16; LINE],
 ) -> SampleResult
-    requires { Advanceable k e delay n entry samples.now symbols.old (filter_state_at k n forward.old back.old samples.now symbols.old psi) }
-    ensures { SampleResultIs k e.gamma30 (filter_state_at k n forward.old back.old samples.now symbols.old psi) entry result forward.new back.new (newest (suc k.q) (suc n) symbols.new) }
+    requires { Advanceable k e delay n entry samples.now symbols.old (filter_state_at k n weights.old.forward.now weights.old.back.now samples.now symbols.old psi) }
+    ensures lists { SameLists weights.old weights.new }
+    ensures sample { SampleResultIs k e.gamma30 (filter_state_at k n weights.old.forward.now weights.old.back.now samples.now symbols.old psi) entry result weights.new.forward.now weights.new.back.now (newest (suc k.q) (suc n) symbols.new) }
 {
-    let first = limits::BLOCK - 1 - n;
+    let first = BLOCK - 1 - n;
     let oldest = first + (k.p as usize);
     let last = first + (k.q as usize) + 1;
     filter::sample::step(
@@ -82,9 +82,8 @@ fn advance(
         e,
         psi,
         delay,
-        wide(entry),
-        forward,
-        back,
+        i16::from(entry),
+        weights,
         &samples[first..oldest],
         &mut symbols[first..last],
     )
@@ -96,99 +95,72 @@ fn run_samples(
     e: BlockExponents,
     psi: u32,
     entries: &[i8],
-    forward: &mut [i16],
-    back: &mut [i16],
-    samples: &[i16],
-    symbols: &mut [i16],
-    y: &mut [i32],
-    xi: &mut [u8],
-    decision: &mut [i8],
-    z: &mut [i32],
-    theta: &mut [u8],
+    weights: &mut Weights,
+    samples: &[i16; LINE],
+    symbols: &mut [i16; LINE],
+    outputs: &mut Outputs,
 ) -> Progress
-    requires { Begun k e psi entries.now forward.old back.old samples.now symbols.old (outputs_of y.old xi.old decision.old z.old theta.old) }
-    ensures { Progressed k e psi entries.now forward.old back.old samples.now symbols.old (outputs_of y.old xi.old decision.old z.old theta.old) result forward.new back.new symbols.new (outputs_of y.new xi.new decision.new z.new theta.new) }
+    requires { Begun k e psi entries.now weights.old.forward.now weights.old.back.now samples.now symbols.old (outputs_in outputs.old) }
+    ensures lists { SameLists weights.old weights.new × SameOutputs outputs.old outputs.new }
+    ensures progress { Progressed k e psi entries.now weights.old.forward.now weights.old.back.now samples.now symbols.old (outputs_in outputs.old) result weights.new.forward.now weights.new.back.now symbols.new (outputs_in outputs.new) }
 {
     let mut at = psi;
     // No symbol is known to have the largest bit length.
-    let mut delay: usize = limits::TAPS;
-    let mut n: usize = 0;
-    while n < entries.len() {
-        let t = advance(
-            k, e, at, delay, n, entries[n], forward, back, samples, symbols,
-        );
-        let ty = t.y;
-        let td = t.decision;
-        let tz = t.z;
-        y[n] = ty;
-        xi[n] = t.xi;
-        decision[n] = td;
-        z[n] = tz;
-        theta[n] = t.theta;
-        delay = filter::sample::next_delay(k.r, delay, symbols[limits::BLOCK - 1 - n]);
+    let mut delay = TAPS;
+    for (n, entry) in entries.iter().enumerate() {
+        let t = advance(k, e, at, delay, n, *entry, weights, samples, symbols);
+        outputs.y[n] = t.y;
+        outputs.xi[n] = t.xi;
+        outputs.decision[n] = t.decision;
+        outputs.z[n] = t.z;
+        outputs.theta[n] = t.theta;
+        delay = filter::sample::next_delay(k.r, delay, symbols[BLOCK - 1 - n]);
         at = t.psi;
-        n += 1;
-        if limits::EXPONENT < at {
-            return Progress { count: n, psi: at };
+        if EXPONENT < at {
+            return Progress {
+                count: n + 1,
+                psi: at,
+            };
         }
     }
-    Progress { count: n, psi: at }
+    Progress {
+        count: entries.len(),
+        psi: at,
+    }
 }
 
 // The run of a block, which leaves the newest samples and symbols where the old ones were.
-pub fn run(
-    k: Settings,
-    psi: u32,
-    b: u32,
-    bmax: u32,
-    m: &[i16],
-    gains: &[u8],
-    entries: &[i8],
-    forward: &mut [i16],
-    back: &mut [i16],
-    samples: &mut [i16],
-    symbols: &mut [i16],
-    y: &mut [i32],
-    xi: &mut [u8],
-    decision: &mut [i8],
-    z: &mut [i32],
-    theta: &mut [u8],
-) -> BlockResult
-    requires { Runnable k (memory_of forward.old back.old samples.old symbols.old psi b bmax) (block_of m.now gains.now entries.now) samples.old (outputs_of y.old xi.old decision.old z.old theta.old) }
-    ensures { BlockResultIs k (memory_of forward.old back.old samples.old symbols.old psi b bmax) (block_of m.now gains.now entries.now) (outputs_of y.old xi.old decision.old z.old theta.old) result forward.new back.new samples.new symbols.new (outputs_of y.new xi.new decision.new z.new theta.new) }
+pub fn run(k: Settings, memory: &mut Memory, block: Block, outputs: &mut Outputs) -> BlockResult
+    requires { Runnable k (memory_in memory.old) (block_in block) memory.old.samples.now (outputs_in outputs.old) }
+    ensures lists { SameMemory memory.old memory.new × SameOutputs outputs.old outputs.new }
+    ensures block { BlockResultIs k (memory_in memory.old) (block_in block.entry) (outputs_in outputs.old) result memory.new.weights.forward.now memory.new.weights.back.now memory.new.samples.now memory.new.symbols.now (outputs_in outputs.new) }
 {
-    let e = begin(k, b, m, gains);
-    steps::past::rescale_all(samples, bmax, e.bmax);
-    let n = m.len();
-    let mut stored = [0i16; limits::BLOCK];
-    let mut sample_line = [0i16; limits::LINE];
+    let e = begin(k, memory.b, block.m, block.gains);
+    steps::past::rescale_all(memory.samples, memory.bmax, e.bmax);
+    let mut stored = [0i16; BLOCK];
+    let mut sample_line = [0i16; LINE];
     fill(
-        m,
-        gains,
+        block.m,
+        block.gains,
         e.bmax + e.s,
-        samples,
-        &mut stored[0..n],
+        memory.samples,
+        &mut stored[..block.m.len()],
         &mut sample_line,
     );
-    let mut symbol_line = [0i16; limits::LINE];
-    super::line::start(symbols, &mut symbol_line);
+    let mut symbol_line = [0i16; LINE];
+    super::line::start(memory.symbols, &mut symbol_line);
     let r = run_samples(
         k,
         e,
-        psi,
-        entries,
-        forward,
-        back,
+        memory.psi,
+        block.entries,
+        &mut memory.weights,
         &sample_line,
         &mut symbol_line,
-        y,
-        xi,
-        decision,
-        z,
-        theta,
+        outputs,
     );
-    super::line::newest(&sample_line, r.count, samples);
-    super::line::newest(&symbol_line, r.count, symbols);
+    super::line::newest(&sample_line, r.count, memory.samples);
+    super::line::newest(&symbol_line, r.count, memory.symbols);
     BlockResult {
         psi: r.psi,
         b: e.b,

@@ -3,95 +3,60 @@ ghost use Rattle.std.specs.Prelude.{◌≡◌, ◌≤◌};
 ghost use Rattle.laws.specs.Lists.{all};
 ghost use Rattle.steps.specs.Limits.{symbol_limit};
 ghost use Rattle.steps.specs.Settings.{is_entry};
-ghost use Rattle.checks.specs.Checks.{gain_fits, lengths_fit, check_number, buffers_of};
+ghost use Rattle.state.specs.Refusal.{number_in};
+ghost use Rattle.checks.specs.Checks.{gain_fits, lengths_fit, check_number};
 ghost use Rattle.checks.specs.Calls.{Sampled};
+ghost use Rattle.checks.specs.Lists.{buffers_in};
 
+use block::lists::{Block, Outputs};
 use state::equaliser::Equaliser;
+use state::refusal::Refusal;
 
 pub fn all_entries(xs: &[i8], r: u32) -> bool
     requires { r ≤ symbol_limit }
     ensures { result ≡ all (is_entry r) xs.now }
 {
-    let mut fit = true;
-    let mut i: usize = 0;
-    while i < xs.len() {
-        fit = fit & state::sound::is_entry(xs[i] as i16, r);
-        i += 1;
-    }
-    fit
+    xs.iter()
+        .fold(true, |fit, x| fit & state::sound::is_entry(i16::from(*x), r))
 }
 
 pub fn all_gains(gains: &[u8], l: u8) -> bool
     ensures { result ≡ all (gain_fits l) gains.now }
 {
-    let mut low: u8 = 255;
-    let mut high: u8 = 0;
-    let mut i: usize = 0;
-    while i < gains.len() {
-        let g = gains[i];
-        if g < low {
-            low = g;
-        }
-        if high < g {
-            high = g;
-        }
-        i += 1;
-    }
-    (l <= low) & (high <= Equaliser::GAIN)
+    gains
+        .iter()
+        .fold(true, |fit, g| fit & (l <= *g) & (*g <= Equaliser::GAIN))
 }
 
-// 3: whether every lent list is N long.
-pub fn lengths_fit(
-    n: usize,
-    m: &[i16],
-    gains: &[u8],
-    entries: &[i8],
-    y: &[i32],
-    xi: &[u8],
-    decision: &[i8],
-    z: &[i32],
-    theta: &[u8],
-) -> bool
-    ensures { result ≡ lengths_fit n (buffers_of m.now gains.now entries.now y.now xi.now decision.now z.now theta.now) }
+// Whether every lent list is N long.
+pub fn lengths_fit(n: usize, block: Block, outputs: &Outputs) -> bool
+    ensures { result ≡ lengths_fit n (buffers_in block.entry outputs.now) }
 {
-    (m.len() == n)
-        & (gains.len() == n)
-        & (entries.len() == n)
-        & (y.len() == n)
-        & (xi.len() == n)
-        & (decision.len() == n)
-        & (z.len() == n)
-        & (theta.len() == n)
+    (block.m.len() == n)
+        & (block.gains.len() == n)
+        & (block.entries.len() == n)
+        & (outputs.y.len() == n)
+        & (outputs.xi.len() == n)
+        & (outputs.decision.len() == n)
+        & (outputs.z.len() == n)
+        & (outputs.theta.len() == n)
 }
 
-// 1, 2, 9, then 3, 4, 5, or 0.
-pub fn checked(
-    e: Equaliser,
-    m: &[i16],
-    gains: &[u8],
-    entries: &[i8],
-    y: &[i32],
-    xi: &[u8],
-    decision: &[i8],
-    z: &[i32],
-    theta: &[u8],
-) -> u8
-    ensures { result ≡ check_number e (buffers_of m.now gains.now entries.now y.now xi.now decision.now z.now theta.now) }
+// What is examined before a block is run: the state, then the lengths, the gains and the training entries.
+pub fn checked(e: Equaliser, block: Block, outputs: &Outputs) -> Result<(), Refusal>
+    ensures { number_in result ≡ check_number e (buffers_in block.entry outputs.now) }
 {
-    let number = state::sound::examined(e);
-    if number != 0 {
-        return number;
+    state::sound::examined(e)?;
+    if !lengths_fit(usize::from(e.n), block, outputs) {
+        return Err(Refusal::Length);
     }
-    if !lengths_fit(e.n as usize, m, gains, entries, y, xi, decision, z, theta) {
-        return 3;
+    if !all_gains(block.gains, e.l) {
+        return Err(Refusal::Gain);
     }
-    if !all_gains(gains, e.l) {
-        return 4;
-    }
-    if all_entries(entries, e.r as u32) {
-        0
+    if all_entries(block.entries, u32::from(e.r)) {
+        Ok(())
     } else {
-        5
+        Err(Refusal::Entry)
     }
 }
 
@@ -99,9 +64,7 @@ pub fn checked(
 pub fn sixteen_bits(m: &[i16])
     ensures { Sampled m.now }
 {
-    let mut i: usize = 0;
-    while i < m.len() {
-        let x = m[i];
-        i += 1;
+    for x in m {
+        let _x = *x;
     }
 }

@@ -1,3 +1,4 @@
 pub mod Sample
 pub mod Sound
 pub mod Calls
+pub mod Lent

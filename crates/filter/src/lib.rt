@@ -2,3 +2,4 @@
 
 // One sample of the equaliser.
 pub mod sample;
+pub mod weights;

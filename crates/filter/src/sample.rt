@@ -1,12 +1,13 @@
 // One sample.
 ghost use Rattle.std.specs.Prelude.{◌≡◌, ◌+◌, ◌^◌, ◌<◌, ◌≤◌, nat_abs, drop};
-ghost use Rattle.std.specs.Int.Bits.{bit_or};
-ghost use Rattle.laws.specs.Sums.{Each};
-ghost use Rattle.steps.specs.Limits.{symbol_limit, exponent_limit, output_exponent_limit};
+ghost use Rattle.steps.specs.Limits.{symbol_limit, output_exponent_limit};
 ghost use Rattle.steps.specs.Sound.{line_length, or_all};
-ghost use Rattle.steps.specs.Fir.{Small, halved, doubled, largest_bits, magnitudes};
-ghost use Rattle.filter.specs.Calls.{LargestBitsAt, next_delay, SymbolBounds, FilterBounds, OutputIs, DecisionBounds, DecisionIs, chosen, UpdateBounds, updated, NormalisedIs, ChangeBounds, ChangedIs, result_of, Ready, SampleResultIs, filter_state_of};
+ghost use Rattle.steps.specs.Fir.{largest_bits, magnitudes};
+ghost use Rattle.filter.specs.Calls.{LargestBitsAt, next_delay, SymbolBounds, FilterBounds, OutputIs, DecisionBounds, DecisionIs, chosen, UpdateBounds, updated, ChangeBounds, ChangedIs, result_of, Ready, SampleResultIs, filter_state_of};
+ghost use Rattle.filter.specs.Lent.{SameLists};
 
+use super::weights::Weights;
+use steps::limits::{DATA_UNIT, RECEIVED_UNIT, STEP_UNIT};
 use steps::settings::Settings;
 
 // The scale counts of a block, its b and B, and γ + RECEIVED_UNIT.
@@ -17,6 +18,13 @@ pub struct BlockExponents {
     pub b: u32,
     pub bmax: u32,
     pub gamma30: u32,
+}
+
+// The data of both filters: stored samples, and past symbols.
+#[derive(Clone, Copy)]
+pub struct Data<'a> {
+    pub samples: &'a [i16],
+    pub symbols: &'a [i16],
 }
 
 // What steps 1 to 3 give.
@@ -52,7 +60,7 @@ pub fn next_delay(r: u8, delay: usize, v: i16) -> usize
     requires { (r ≤ symbol_limit) × (delay ≤ line_length) }
     ensures { result ≡ next_delay r delay v }
 {
-    if numbers::bit_length::magnitude16(v) >> (r as u32) == 0 {
+    if v.unsigned_abs() >> u32::from(r) == 0 {
         delay + 1
     } else {
         0
@@ -72,25 +80,16 @@ fn reach(r: u32, delay: usize, symbols: &[i16]) -> u32
 }
 
 // Steps 1 to 3: ν, Y and ξ.
-pub fn filter_output(
-    r: u32,
-    delay: usize,
-    e: BlockExponents,
-    psi: u32,
-    forward: &[i16],
-    back: &[i16],
-    samples: &[i16],
-    symbols: &[i16],
-) -> Output
-    requires { FilterBounds e psi forward.now back.now samples.now symbols.now × SymbolBounds r delay symbols.now }
-    ensures { OutputIs e psi forward.now back.now samples.now symbols.now result }
+pub fn filter_output(r: u32, delay: usize, e: BlockExponents, psi: u32, weights: &Weights, data: Data) -> Output
+    requires { FilterBounds e psi weights.now.forward.now weights.now.back.now data.samples.now data.symbols.now × SymbolBounds r delay data.symbols.now }
+    ensures { OutputIs e psi weights.now.forward.now weights.now.back.now data.entry.samples.now data.entry.symbols.now result }
 {
-    let nu = e.sb + reach(r, delay, symbols);
-    let f = steps::weights::sum(forward, samples);
-    let h = steps::weights::sum(back, symbols);
+    let nu = e.sb + reach(r, delay, data.symbols);
+    let f = steps::weights::sum(weights.forward, data.samples);
+    let h = steps::weights::sum(weights.back, data.symbols);
     let o = steps::output::output(f, h, e.gamma30, nu, psi);
     Output {
-        nu: nu,
+        nu,
         y: o.y,
         xi: o.xi,
     }
@@ -113,7 +112,7 @@ pub fn decision_error(r: u32, sb: u32, y: i32, xi: u32, entry: i16) -> Decision
     let e = steps::error::error(r, sb, v, y, xi);
     Decision {
         decision: d,
-        v: v,
+        v,
         z: e.z,
         theta: e.theta,
     }
@@ -137,78 +136,30 @@ pub fn update(
     let j = steps::factor::factor(
         m,
         z,
-        steps::limits::STEP_UNIT + steps::limits::RECEIVED_UNIT + psi + scale - (exponent + theta),
+        STEP_UNIT + RECEIVED_UNIT + psi + scale - (exponent + theta),
     );
-    steps::weights::adapt(w, a, j as i32, steps::limits::DATA_UNIT - (scale + more))
-}
-
-// Half of each weight of both filters.
-fn halve_both(forward: &mut [i16], back: &mut [i16])
-    ensures { (forward.new ≡ halved forward.old) × (back.new ≡ halved back.old) }
-{
-    steps::weights::halve(forward);
-    steps::weights::halve(back);
-}
-
-// Twice each weight of both filters.
-fn double_both(forward: &mut [i16], back: &mut [i16])
-    requires { (Each Small forward.old) × (Each Small back.old) }
-    ensures { (forward.new ≡ doubled forward.old) × (back.new ≡ doubled back.old) }
-{
-    steps::weights::double(forward);
-    steps::weights::double(back);
-}
-
-// Step 7 and what follows it: the new ψ, where seen has the bits of all new magnitudes together.
-pub fn normalise(forward: &mut [i16], back: &mut [i16], seen: u16, psi: u32) -> u32
-    requires { (psi ≤ exponent_limit) × (seen ≡ bit_or (or_all (magnitudes forward.old)) (or_all (magnitudes back.old))) }
-    ensures { NormalisedIs psi forward.old back.old result forward.new back.new }
-{
-    if steps::limits::HALVING <= seen {
-        halve_both(forward, back);
-        return psi + 1;
-    }
-    if psi == 0 {
-        return psi;
-    }
-    if steps::limits::DOUBLING <= seen {
-        return psi;
-    }
-    double_both(forward, back);
-    psi - 1
+    steps::weights::adapt(w, a, j as i32, DATA_UNIT - (scale + more))
 }
 
 // Steps 6 and 7: the new weights and the new ψ.
-pub fn change(
-    m: u32,
-    e: BlockExponents,
-    psi: u32,
-    h: Output,
-    j: Decision,
-    forward: &mut [i16],
-    back: &mut [i16],
-    samples: &[i16],
-    symbols: &[i16],
-) -> u32
-    requires { ChangeBounds m e psi h j forward.old back.old samples.now symbols.now }
-    ensures { ChangedIs m e psi h j forward.old back.old samples.now symbols.now result forward.new back.new }
+pub fn change(m: u32, e: BlockExponents, psi: u32, h: Output, j: Decision, weights: &mut Weights, data: Data) -> u32
+    requires { ChangeBounds m e psi h j weights.old.forward.now weights.old.back.now data.samples.now data.symbols.now }
+    ensures lists { SameLists weights.old weights.new }
+    ensures changed { ChangedIs m e psi h j weights.old.forward.now weights.old.back.now data.entry.samples.now data.entry.symbols.now result weights.new.forward.now weights.new.back.now }
 {
-    let nu = h.nu;
-    let z = j.z;
-    let theta = j.theta;
-    let ahead = update(forward, samples, m, z, psi, theta, e.s, e.gamma30, 0);
+    let ahead = update(weights.forward, data.samples, m, j.z, psi, j.theta, e.s, e.gamma30, 0);
     let behind = update(
-        back,
-        symbols,
+        weights.back,
+        data.symbols,
         m,
-        z,
+        j.z,
         psi,
-        theta,
+        j.theta,
         e.sb,
-        nu + steps::limits::RECEIVED_UNIT,
-        steps::limits::DATA_UNIT - nu,
+        h.nu + RECEIVED_UNIT,
+        DATA_UNIT - h.nu,
     );
-    normalise(forward, back, ahead | behind, psi)
+    weights.normalise(ahead | behind, psi)
 }
 
 // What is handed out, in its final widths.
@@ -222,7 +173,7 @@ fn result_of(h: Output, j: Decision, psi: u32) -> SampleResult
         decision: j.decision as i8,
         z: j.z,
         theta: j.theta as u8,
-        psi: psi,
+        psi,
     }
 }
 
@@ -233,19 +184,26 @@ pub fn step(
     psi: u32,
     delay: usize,
     entry: i16,
-    forward: &mut [i16],
-    back: &mut [i16],
+    weights: &mut Weights,
     samples: &[i16],
     symbols: &mut [i16],
 ) -> SampleResult
-    requires { Ready k e (filter_state_of forward.old back.old samples.now (drop 1 symbols.old) psi) entry × LargestBitsAt k.r delay (drop 1 symbols.old) }
-    ensures { SampleResultIs k e.gamma30 (filter_state_of forward.old back.old samples.now (drop 1 symbols.old) psi) entry result forward.new back.new symbols.new }
+    requires { Ready k e (filter_state_of weights.old.forward.now weights.old.back.now samples.now (drop 1 symbols.old) psi) entry × LargestBitsAt k.r delay (drop 1 symbols.old) }
+    ensures lists { SameLists weights.old weights.new }
+    ensures sample { SampleResultIs k e.gamma30 (filter_state_of weights.old.forward.now weights.old.back.now samples.now (drop 1 symbols.old) psi) entry result weights.new.forward.now weights.new.back.now symbols.new }
 {
-    let r = k.r as u32;
-    let h = filter_output(r, delay, e, psi, forward, back, samples, &symbols[1..]);
+    let r = u32::from(k.r);
+    let before = Data {
+        samples,
+        symbols: &symbols[1..],
+    };
+    let h = filter_output(r, delay, e, psi, weights, before);
     let j = decision_error(r, e.sb, h.y, h.xi, entry);
-    let v = j.v;
-    symbols[0] = v;
-    let next = change(k.M, e, psi, h, j, forward, back, samples, &symbols[1..]);
+    symbols[0] = j.v;
+    let after = Data {
+        samples,
+        symbols: &symbols[1..],
+    };
+    let next = change(k.M, e, psi, h, j, weights, after);
     result_of(h, j, next)
 }

@@ -8,8 +8,9 @@ ghost use Rattle.block.specs.Block.{outputs_of};
 ghost use Rattle.image.specs.Load.{Load};
 ghost use Rattle.firmware.specs.Held.{InPlace, Trial, Saving};
 
+use block::lists::{Block, Outputs};
 use image::save::Saved;
-use state::equaliser::{Answer, Equaliser};
+use state::equaliser::{Answer, Equaliser, refused};
 use steps::settings::Settings;
 
 // A fresh state, or the number of the refusal beside the smallest one.
@@ -17,14 +18,15 @@ use steps::settings::Settings;
 pub extern "C" fn tigbulode_set_up(p: u8, q: u8, n: u8, r: u8, l: u8, m: u32) -> Answer
     ensures { SetUp (given p q n r l m) result }
 {
-    Equaliser::set_up(Settings {
-        p: p,
-        q: q,
+    let made = Equaliser::set_up(Settings {
+        p,
+        q,
         N: n,
-        r: r,
+        r,
         L: l,
         M: m,
-    })
+    });
+    Answer::with(refused(), made)
 }
 
 // The image at the front of a lent buffer, or the number of the refusal and the buffer as it was. The record is only read.
@@ -32,7 +34,7 @@ pub extern "C" fn tigbulode_set_up(p: u8, q: u8, n: u8, r: u8, l: u8, m: u32) ->
 pub extern "C" fn tigbulode_save(s: &Equaliser, buffer: &mut [u8]) -> Saved
     ensures { Saving s.now buffer.old result s.now buffer.new }
 {
-    image::save::save(*s, buffer)
+    Saved::from(image::save::save(*s, buffer))
 }
 
 // The state that bytes hold, or the number of the refusal beside the smallest one.
@@ -40,7 +42,7 @@ pub extern "C" fn tigbulode_save(s: &Equaliser, buffer: &mut [u8]) -> Saved
 pub extern "C" fn tigbulode_load(bytes: &[u8]) -> Answer
     ensures { Load bytes.now result }
 {
-    image::load::load(bytes)
+    Answer::with(refused(), image::load::load(bytes))
 }
 
 // One block in place: the next state and the block's outputs, or the number of the refusal and everything as it was.
@@ -58,9 +60,21 @@ pub extern "C" fn tigbulode_run(
 ) -> u8
     ensures { InPlace s.old (buffers_of m.now gains.now entries.now y.old xi.old decision.old z.old theta.old) result s.new (outputs_of y.new xi.new decision.new z.new theta.new) }
 {
-    let r = station::run::run(*s, m, gains, entries, y, xi, decision, z, theta);
-    *s = r.state;
-    r.number
+    let block = Block { m, gains, entries };
+    let mut outputs = Outputs {
+        y,
+        xi,
+        decision,
+        z,
+        theta,
+    };
+    match station::run::run(*s, block, &mut outputs) {
+        Ok(next) => {
+            *s = next;
+            0
+        }
+        Err(refusal) => u8::from(refusal),
+    }
 }
 
 // A trial of a block: the state that would follow and the block's outputs, or the number of the refusal, the given state and the lists as they were. The record is only read.
@@ -78,6 +92,13 @@ pub extern "C" fn tigbulode_trial(
 ) -> Answer
     ensures { Trial s.now (buffers_of m.now gains.now entries.now y.old xi.old decision.old z.old theta.old) result s.now (outputs_of y.new xi.new decision.new z.new theta.new) }
 {
-    let r = station::run::run(*s, m, gains, entries, y, xi, decision, z, theta);
-    r
+    let block = Block { m, gains, entries };
+    let mut outputs = Outputs {
+        y,
+        xi,
+        decision,
+        z,
+        theta,
+    };
+    Answer::with(*s, station::run::run(*s, block, &mut outputs))
 }

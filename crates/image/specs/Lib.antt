@@ -2,3 +2,4 @@ pub mod Layout
 pub mod Image
 pub mod Load
 pub mod Calls
+pub mod Result

@@ -3,15 +3,16 @@ ghost use Rattle.std.specs.Prelude.{◌≡◌, ◌+◌, ◌*◌, ◌≤◌, leng
 ghost use Rattle.std.specs.Int.{w16};
 ghost use Rattle.words.specs.Words.{words_of, width};
 ghost use Rattle.steps.specs.Limits.{slots};
-ghost use Rattle.state.specs.State.{settings, padded};
+ghost use Rattle.state.specs.Refusal.{number_in, answer_with};
+ghost use Rattle.state.specs.State.{settings, padded, refused};
 ghost use Rattle.image.specs.Layout.{least_header, end_place, taps_in, layout_of};
 ghost use Rattle.image.specs.Load.{weights_by, state_in, frame_number, Load};
 ghost use Rattle.image.specs.Calls.{Weighed};
 
 use super::layout::{LEAST_HEADER, Layout, data_place, end_place, layout_of};
-use state::equaliser::{Answer, Equaliser};
+use state::equaliser::Equaliser;
+use state::refusal::Refusal;
 use steps::settings::Settings;
-use words::read::{signed16, unsigned32};
 
 // Signed numbers of two bytes each, at the front of the slots.
 pub fn words_in(bytes: &[u8], n: usize) -> [i16; Equaliser::SLOTS]
@@ -19,10 +20,8 @@ pub fn words_in(bytes: &[u8], n: usize) -> [i16; Equaliser::SLOTS]
     ensures { result ≡ padded (words_of w16 n bytes.now) }
 {
     let mut out = [0i16; Equaliser::SLOTS];
-    let mut i: usize = 0;
-    while i < n {
-        out[i] = signed16(bytes[2 * i], bytes[2 * i + 1]);
-        i += 1;
+    for i in 0..n {
+        out[i] = i16::from_le_bytes([bytes[2 * i], bytes[2 * i + 1]]);
     }
     out
 }
@@ -38,7 +37,7 @@ fn settings_in(bytes: &[u8]) -> Settings
         N: bytes[2],
         r: bytes[3],
         L: bytes[4],
-        M: unsigned32(bytes[8], bytes[9], bytes[10], bytes[11]),
+        M: u32::from_le_bytes([bytes[8], bytes[9], bytes[10], bytes[11]]),
     }
 }
 
@@ -52,22 +51,22 @@ fn weights_in(y: Layout, bytes: &[u8], taps: usize) -> [i16; Equaliser::SLOTS]
     words_in(&bytes[start..mid], taps)
 }
 
-// 8 below the shortest header, 1 on the sizes, 8 if the length isn't exact, or 0.
-pub fn frame_number(bytes: &[u8]) -> u8
-    ensures { result ≡ frame_number bytes.now }
+// Whether bytes are as long as an image: bytes too short for a header are told first, then a size outside its limits.
+pub fn framed(bytes: &[u8]) -> Result<(), Refusal>
+    ensures { number_in result ≡ frame_number bytes.now }
 {
     if bytes.len() < LEAST_HEADER {
-        return 8;
+        return Err(Refusal::Bytes);
     }
     let k = settings_in(bytes);
     if !state::sizes::sizes_fit(k) {
-        return 1;
+        return Err(Refusal::Size);
     }
-    let taps = (k.p as usize) + (k.q as usize);
+    let taps = usize::from(k.p) + usize::from(k.q);
     if bytes.len() == end_place(layout_of(bytes), taps) {
-        0
+        Ok(())
     } else {
-        8
+        Err(Refusal::Bytes)
     }
 }
 
@@ -76,12 +75,10 @@ pub fn state_in(bytes: &[u8]) -> Equaliser
     requires { (least_header ≤ length bytes.now) × (length bytes.now ≡ end_place (layout_of bytes.now) (taps_in bytes.now)) × (taps_in bytes.now ≤ slots) }
     ensures { result ≡ state_in bytes.now }
 {
-    let taps = (bytes[0] as usize) + (bytes[1] as usize);
+    let taps = usize::from(bytes[0]) + usize::from(bytes[1]);
     let y = layout_of(bytes);
     let mid = data_place(y, taps);
     let end = end_place(y, taps);
-    let weights = weights_in(y, bytes, taps);
-    let past = words_in(&bytes[mid..end], taps);
     Equaliser {
         p: bytes[0],
         q: bytes[1],
@@ -91,33 +88,18 @@ pub fn state_in(bytes: &[u8]) -> Equaliser
         psi: bytes[5],
         b: bytes[6],
         bmax: bytes[7],
-        m: unsigned32(bytes[8], bytes[9], bytes[10], bytes[11]),
-        weights: weights,
-        past: past,
+        m: u32::from_le_bytes([bytes[8], bytes[9], bytes[10], bytes[11]]),
+        weights: weights_in(y, bytes, taps),
+        past: words_in(&bytes[mid..end], taps),
     }
 }
 
-// The state that bytes hold, or the number of the refusal beside the smallest one.
-pub fn load(bytes: &[u8]) -> Answer
-    ensures { Load bytes.now result }
+// The state that bytes hold, or why they are turned down.
+pub fn load(bytes: &[u8]) -> Result<Equaliser, Refusal>
+    ensures { Load bytes.now (answer_with refused result) }
 {
-    let frame = frame_number(bytes);
-    if frame != 0 {
-        return Answer {
-            number: frame,
-            state: state::equaliser::refused(),
-        };
-    }
+    framed(bytes)?;
     let e = state_in(bytes);
-    let number = state::sound::examined(e);
-    if number != 0 {
-        return Answer {
-            number: number,
-            state: state::equaliser::refused(),
-        };
-    }
-    Answer {
-        number: 0,
-        state: e,
-    }
+    state::sound::examined(e)?;
+    Ok(e)
 }

@@ -2,17 +2,33 @@
 ghost use Rattle.std.specs.Prelude.{◌≡◌, length};
 ghost use Rattle.image.specs.Image.{header_bytes, Save};
 ghost use Rattle.image.specs.Layout.{current};
+ghost use Rattle.image.specs.Result.{saved_of};
 
 use super::layout::{current, data_place, end_place};
 use state::equaliser::Equaliser;
-use words::write::{put_words, put32};
+use state::refusal::Refusal;
+use words::write::put_words;
 
-// A number beside the length of an image.
+// A number beside the length of an image, for C.
 #[repr(C)]
 #[derive(Clone, Copy)]
 pub struct Saved {
     pub number: u8,
     pub length: usize,
+}
+
+impl From<Result<usize, Refusal>> for Saved {
+    fn from(saved: Result<usize, Refusal>) -> Saved
+        ensures { result ≡ saved_of saved }
+    {
+        match saved {
+            Ok(length) => Saved { number: 0, length },
+            Err(refusal) => Saved {
+                number: u8::from(refusal),
+                length: 0,
+            },
+        }
+    }
 }
 
 // What stands before the weights.
@@ -28,38 +44,24 @@ pub fn put_header(e: Equaliser, out: &mut [u8])
     out[5] = e.psi;
     out[6] = e.b;
     out[7] = e.bmax;
-    put32(e.m, 8, out);
+    out[8..12].copy_from_slice(&e.m.to_le_bytes());
 }
 
-// The image at the front of a lent buffer, or the number of the refusal and the buffer as it was.
-pub fn save(e: Equaliser, buffer: &mut [u8]) -> Saved
-    ensures { Save e buffer.old result buffer.new }
+// The length of the image at the front of a lent buffer, or why it is turned down: the buffer is then as it was.
+pub fn save(e: Equaliser, buffer: &mut [u8]) -> Result<usize, Refusal>
+    ensures { Save e buffer.old (saved_of result) buffer.new }
 {
-    let number = state::sound::examined(e);
-    if number != 0 {
-        return Saved {
-            number: number,
-            length: 0,
-        };
-    }
-    let taps = (e.p as usize) + (e.q as usize);
+    state::sound::examined(e)?;
+    let taps = usize::from(e.p) + usize::from(e.q);
     let y = current();
     let start = y.header;
     let mid = data_place(y, taps);
     let end = end_place(y, taps);
     if buffer.len() < end {
-        return Saved {
-            number: 7,
-            length: 0,
-        };
+        return Err(Refusal::Buffer);
     }
-    let weights = e.weights;
-    let past = e.past;
     put_header(e, &mut buffer[..start]);
-    put_words(&weights[..taps], &mut buffer[start..mid]);
-    put_words(&past[..taps], &mut buffer[mid..end]);
-    Saved {
-        number: 0,
-        length: end,
-    }
+    put_words(&e.weights[..taps], &mut buffer[start..mid]);
+    put_words(&e.past[..taps], &mut buffer[mid..end]);
+    Ok(end)
 }

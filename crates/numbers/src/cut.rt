@@ -1,67 +1,54 @@
-ghost use Rattle.std.specs.Prelude.{◌≡◌, ◌*◌, ◌-◌, ◌^◌, ◌<◌, pos, nat_abs};
-ghost use Rattle.std.specs.Int.Signed.{shr_z};
+ghost use Rattle.std.specs.Prelude.{◌≡◌, ◌+◌, ◌*◌, ◌-◌, ◌^◌, ◌<◌, ℕ, ℤ, nat_abs};
 ghost use Rattle.numbers.specs.Cut.{cut, raise, rescale};
 
-// 2^k − 1, here and below in 64 bits and in 32.
-fn ones(k: u32) -> i64
-    requires { k < 64 }
-    ensures { result ≡ pos (2 ^ k - 1) }
-{
-    ((1u64 << k) - 1) as i64
+// A register of a signed whole number, of so many bits.
+pub trait Register: Copy {
+    ghost value: { Self → ℤ };
+
+    ghost bits: { ℕ };
+
+    // T(z / 2^k) for a k that a shift takes.
+    fn cut(self, k: u32) -> Self
+        requires { k < bits }
+        ensures { value result ≡ cut (value self) k };
+
+    // z·2^k.
+    fn raise(self, k: u32) -> Self
+        requires { (k + 1 < bits) × (nat_abs (value self) * 2 ^ k < 2 ^ (bits - 1)) }
+        ensures { value result ≡ raise (value self) k };
 }
 
-pub fn ones32(k: u32) -> i32
-    requires { k < 32 }
-    ensures { result ≡ pos (2 ^ k - 1) }
-{
-    ((1u32 << k) - 1) as i32
+// A negative number is raised by 2^k − 1, so that a shift, which rounds down, gives T.
+impl Register for i64 {
+    ghost value = { λ z. z };
+
+    ghost bits = { 64 };
+
+    fn cut(self, k: u32) -> i64 {
+        let low = ((1u64 << k) - 1) as i64;
+        let lifted = if self < 0 { self + low } else { self };
+        lifted >> k
+    }
+
+    fn raise(self, k: u32) -> i64 {
+        self * (1 << k)
+    }
 }
 
-// z, or a negative z raised by 2^k − 1, so that a shift, which rounds down, gives T.
-fn lifted(z: i64, k: u32) -> i64
-    requires { k < 64 }
-    ensures { shr_z result (2 ^ k) ≡ cut z k }
-{
-    let low = ones(k);
-    if z >= 0 { z } else { z + low }
-}
+impl Register for i32 {
+    ghost value = { λ z. z };
 
-fn lifted32(z: i32, k: u32) -> i32
-    requires { k < 32 }
-    ensures { shr_z result (2 ^ k) ≡ cut z k }
-{
-    let low = ones32(k);
-    if z >= 0 { z } else { z + low }
-}
+    ghost bits = { 32 };
 
-// T(z / 2^k) for a k that a shift takes.
-pub fn cut(z: i64, k: u32) -> i64
-    requires { k < 64 }
-    ensures { result ≡ cut z k }
-{
-    lifted(z, k) >> k
-}
+    fn cut(self, k: u32) -> i32 {
+        let low = ((1u32 << k) - 1) as i32;
+        let lifted = if self < 0 { self + low } else { self };
+        lifted >> k
+    }
 
-pub fn cut32(z: i32, k: u32) -> i32
-    requires { k < 32 }
-    ensures { result ≡ cut z k }
-{
-    lifted32(z, k) >> k
-}
-
-// z·2^k.
-pub fn raise(z: i64, k: u32) -> i64
-    requires { (k < 63) × (nat_abs z * 2 ^ k < 2 ^ 63) }
-    ensures { result ≡ raise z k }
-{
-    z * (1i64 << k)
-}
-
-pub fn raise32(z: i32, k: u32) -> i32
-    requires { (k < 31) × (nat_abs z * 2 ^ k < 2 ^ 31) }
-    ensures { result ≡ raise z k }
-{
-    z * (1i32 << k)
+    fn raise(self, k: u32) -> i32 {
+        self * (1 << k)
+    }
 }
 
 // T(z·2^(i−j)). Every number of 64 bits is below 2^64, so from there on nothing is left.
@@ -69,6 +56,6 @@ pub fn rescale(z: i64, i: u32, j: u32) -> i64
     requires { (i < 63) × (nat_abs z * 2 ^ i < 2 ^ 63) }
     ensures { result ≡ rescale z i j }
 {
-    let raised = raise(z, i);
-    if j < 64 { cut(raised, j) } else { 0 }
+    let raised = z.raise(i);
+    if j < 64 { raised.cut(j) } else { 0 }
 }

@@ -5,5 +5,5 @@ pub fn mac(sum: i32, w: i16, a: i16) -> i32
     requires { nat_abs (sum +ℤ w *ℤ a) < 2 ^ 31 }
     ensures { result ≡ sum +ℤ w *ℤ a }
 {
-    sum + (w as i32) * (a as i32)
+    sum + i32::from(w) * i32::from(a)
 }

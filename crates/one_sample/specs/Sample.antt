@@ -2,6 +2,7 @@
 use Rattle.std.specs.Prelude.{[], ◌∷◌, ℤ, pos}
 use Rattle.block.specs.Block.{outputs_of}
 use Rattle.checks.specs.Checks.{Buffers, buffers_of}
+use Rattle.state.specs.Refusal.{answer_with}
 use Rattle.state.specs.declared.equaliser.Equaliser.{Equaliser}
 use Rattle.station.specs.Answers.{Run}
 use Rattle.one_sample.specs.declared.SampleResult.{SampleResult}
@@ -12,4 +13,4 @@ sample_buffers sample entry =
 
 -- what running it answers and hands out
 abbrev pub SampleRun : Equaliser → ℤ → ℤ → SampleResult → Type 0
-SampleRun e sample entry r = Run e (sample_buffers sample entry) r.answer (outputs_of r.y r.xi r.decision r.z r.theta)
+SampleRun e sample entry r = Run e (sample_buffers sample entry) (answer_with e r.next) (outputs_of r.y r.xi r.decision r.z r.theta)

@@ -3,7 +3,9 @@
 // A block of one sample with the gain 0.
 ghost use Rattle.one_sample.specs.Sample.{SampleRun};
 
-use state::equaliser::{Answer, Equaliser};
+use block::lists::{Block, Outputs};
+use state::equaliser::Equaliser;
+use state::refusal::Refusal;
 
 // The length of the image of a state with one tap of each filter.
 pub const IMAGE: usize = Equaliser::IMAGE
@@ -12,7 +14,7 @@ pub const IMAGE: usize = Equaliser::IMAGE
 // What running it answers and hands out.
 #[derive(Clone, Copy)]
 pub struct SampleResult {
-    pub answer: Answer,
+    pub next: Result<Equaliser, Refusal>,
     pub y: [i32; 1],
     pub xi: [u8; 1],
     pub decision: [i8; 1],
@@ -23,31 +25,30 @@ pub struct SampleResult {
 pub fn run_sample(e: Equaliser, sample: i16, entry: i8) -> SampleResult
     ensures { SampleRun e sample entry result }
 {
-    let samples = [sample];
-    let gains = [0u8];
-    let entries = [entry];
     let mut y = [0i32];
     let mut xi = [0u8];
     let mut decision = [0i8];
     let mut z = [0i32];
     let mut theta = [0u8];
-    let answer = station::run::run(
-        e,
-        &samples,
-        &gains,
-        &entries,
-        &mut y,
-        &mut xi,
-        &mut decision,
-        &mut z,
-        &mut theta,
-    );
+    let block = Block {
+        m: &[sample],
+        gains: &[0],
+        entries: &[entry],
+    };
+    let mut outputs = Outputs {
+        y: &mut y,
+        xi: &mut xi,
+        decision: &mut decision,
+        z: &mut z,
+        theta: &mut theta,
+    };
+    let next = station::run::run(e, block, &mut outputs);
     SampleResult {
-        answer: answer,
-        y: y,
-        xi: xi,
-        decision: decision,
-        z: z,
-        theta: theta,
+        next,
+        y,
+        xi,
+        decision,
+        z,
+        theta,
     }
 }

@@ -2,7 +2,9 @@
 ghost use Rattle.std.specs.Prelude.{◌≡◌};
 ghost use Rattle.state.specs.State.{fresh, refused, settings};
 ghost use Rattle.state.specs.Answers.{SetUp};
+ghost use Rattle.state.specs.Refusal.{answer_with};
 
+use super::refusal::Refusal;
 use steps::limits;
 use steps::settings::Settings;
 
@@ -22,7 +24,7 @@ pub struct Equaliser {
     pub past: [i16; Equaliser::SLOTS],
 }
 
-// A number beside a state.
+// A number beside a state, for C.
 #[repr(C)]
 #[derive(Clone, Copy)]
 pub struct Answer {
@@ -30,17 +32,34 @@ pub struct Answer {
     pub state: Equaliser,
 }
 
+impl Answer {
+    // The number beside the state that was made, or beside the one that stands with a refusal.
+    pub fn with(state: Equaliser, made: Result<Equaliser, Refusal>) -> Answer
+        ensures { result ≡ answer_with state made }
+    {
+        match made {
+            Ok(state) => Answer { number: 0, state },
+            Err(refusal) => Answer {
+                number: u8::from(refusal),
+                state,
+            },
+        }
+    }
+}
+
 // The settings of a state.
-pub fn settings(e: Equaliser) -> Settings
-    ensures { result ≡ settings e }
-{
-    Settings {
-        p: e.p,
-        q: e.q,
-        N: e.n,
-        r: e.r,
-        L: e.l,
-        M: e.m,
+impl From<Equaliser> for Settings {
+    fn from(e: Equaliser) -> Settings
+        ensures { result ≡ settings e }
+    {
+        Settings {
+            p: e.p,
+            q: e.q,
+            N: e.n,
+            r: e.r,
+            L: e.l,
+            M: e.m,
+        }
     }
 }
 
@@ -102,20 +121,11 @@ impl Equaliser {
     pub const IMAGE: usize = Equaliser::HEADER
         + (Equaliser::WEIGHT + Equaliser::DATUM) * Equaliser::SLOTS;
 
-    // A fresh state, or the number of the refusal beside the smallest one.
-    pub fn set_up(k: Settings) -> Answer
-        ensures { SetUp k result }
+    // A fresh state, or why the settings are turned down.
+    pub fn set_up(k: Settings) -> Result<Equaliser, Refusal>
+        ensures { SetUp k (answer_with refused result) }
     {
-        let number = super::sizes::settings_number(k);
-        if number == 0 {
-            return Answer {
-                number: 0,
-                state: fresh(k),
-            };
-        }
-        Answer {
-            number: number,
-            state: refused(),
-        }
+        super::sizes::admitted(k)?;
+        Ok(fresh(k))
     }
 }

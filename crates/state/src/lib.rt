@@ -2,5 +2,6 @@
 
 // The state of a station: set-up and soundness.
 pub mod equaliser;
+pub mod refusal;
 pub mod sizes;
 pub mod sound;

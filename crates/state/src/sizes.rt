@@ -1,9 +1,11 @@
 // The sizes and the step admission.
 ghost use Rattle.std.specs.Prelude.{◌≡◌};
 ghost use Rattle.steps.specs.Sound.{Within};
+ghost use Rattle.state.specs.Refusal.{number_in};
 ghost use Rattle.state.specs.Sizes.{sizes_fit, admits, settings_number};
 
 use super::equaliser::Equaliser;
+use super::refusal::Refusal;
 use steps::settings::Settings;
 
 // Whether every size is within its limits.
@@ -34,13 +36,16 @@ pub fn admits(k: Settings) -> bool
     (k.M as u64) * d <= 1u64 << ((steps::limits::STEP_UNIT as u64) + l)
 }
 
-// 1 for a size outside its limits, then 2 for an M that is not admitted, else 0.
-pub fn settings_number(k: Settings) -> u8
-    ensures { result ≡ settings_number k }
+// Whether a station can be set up: a size outside its limits is told before an M that is not admitted.
+pub fn admitted(k: Settings) -> Result<(), Refusal>
+    ensures { number_in result ≡ settings_number k }
 {
-    if sizes_fit(k) {
-        if admits(k) { 0 } else { 2 }
+    if !sizes_fit(k) {
+        return Err(Refusal::Size);
+    }
+    if admits(k) {
+        Ok(())
     } else {
-        1
+        Err(Refusal::Step)
     }
 }

@@ -6,8 +6,11 @@ ghost use Rattle.steps.specs.Settings.{is_entry};
 ghost use Rattle.steps.specs.Sound.{Within};
 ghost use Rattle.state.specs.State.{is_zero, is_stored, sound_exponents, sound_weights, sound_past, is_sound, settings};
 ghost use Rattle.state.specs.Answers.{examined};
+ghost use Rattle.state.specs.Refusal.{number_in};
 
 use super::equaliser::Equaliser;
+use super::refusal::Refusal;
+use steps::settings::Settings;
 
 pub fn all_zero(xs: &[i16]) -> bool
     ensures { result ≡ all is_zero xs.now }
@@ -34,7 +37,7 @@ pub fn is_entry(v: i16, r: u32) -> bool
     requires { r ≤ symbol_limit }
     ensures { result ≡ is_entry r v }
 {
-    let size = numbers::bit_length::magnitude(v as i64) as u16;
+    let size = v.unsigned_abs();
     (size == 0) | ((size % 2 == 1) & (size <= (1u16 << (r + 1)) - 1))
 }
 
@@ -42,13 +45,7 @@ pub fn all_symbols(xs: &[i16], r: u32) -> bool
     requires { r ≤ symbol_limit }
     ensures { result ≡ all (is_entry r) xs.now }
 {
-    let mut fit = true;
-    let mut i: usize = 0;
-    while i < xs.len() {
-        fit = fit & is_entry(xs[i], r);
-        i += 1;
-    }
-    fit
+    xs.iter().fold(true, |fit, x| fit & is_entry(*x, r))
 }
 
 fn sound_exponents(e: Equaliser) -> bool
@@ -90,13 +87,14 @@ pub fn is_sound(e: Equaliser) -> bool
     sound_exponents(e) & sound_weights(e) & sound_past(e)
 }
 
-// 1, 2, 9, or 0.
-pub fn examined(e: Equaliser) -> u8
-    ensures { result ≡ examined e }
+// What an operation finds of the state that it is given.
+pub fn examined(e: Equaliser) -> Result<(), Refusal>
+    ensures { number_in result ≡ examined e }
 {
-    let number = super::sizes::settings_number(super::equaliser::settings(e));
-    if number != 0 {
-        return number;
+    super::sizes::admitted(Settings::from(e))?;
+    if is_sound(e) {
+        Ok(())
+    } else {
+        Err(Refusal::State)
     }
-    if is_sound(e) { 0 } else { 9 }
 }

@@ -8,15 +8,6 @@ use Rattle.state.specs.declared.equaliser.Equaliser.{Equaliser}
 use Rattle.state.specs.declared.equaliser.Answer.{Answer}
 use Rattle.checks.specs.Calls.{Checked}
 
--- the four parts of a state that passed the checks, as a block is run on them
-pub record Parts (e : Equaliser) (i : Block) (ahead behind window recent : List ℤ) (l : Outputs) : Type 0 where
-  pub checked : Checked e i
-  pub forward_is : ahead ≡ forward e
-  pub back_is : behind ≡ back e
-  pub window_is : window ≡ samples e ++ (pos 0 ∷ [])
-  pub symbols_are : recent ≡ symbols e
-  pub outputs_long : OutputsLong (settings e) l
-
 -- the numbers of a result fit their bytes
 pub record ResultBytes (r : BlockResult) : Type 0 where
   pub psi : r.psi < 256

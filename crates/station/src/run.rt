@@ -1,25 +1,32 @@
 // Running a block.
 ghost use Rattle.std.specs.Prelude.{◌≡◌};
-ghost use Rattle.block.specs.Block.{block_of, outputs_of};
 ghost use Rattle.block.specs.Calls.{OutputsLong};
+ghost use Rattle.block.specs.Lists.{block_in, outputs_in, SameOutputs};
+ghost use Rattle.state.specs.Refusal.{answer_with};
 ghost use Rattle.state.specs.State.{settings};
 ghost use Rattle.checks.specs.Calls.{Checked};
-ghost use Rattle.checks.specs.Checks.{buffers_of};
+ghost use Rattle.checks.specs.Lists.{buffers_in};
 ghost use Rattle.station.specs.Answers.{Run};
-ghost use Rattle.station.specs.Calls.{Parts, ResultBytes, next_of, RunChecked};
+ghost use Rattle.station.specs.Calls.{ResultBytes, next_of, RunChecked};
 
+use super::copies::{fronted, joined};
+use block::lists::{Block, Memory, Outputs};
 use block::run::BlockResult;
-use state::equaliser::{Answer, Equaliser};
+use filter::weights::Weights;
+use state::equaliser::Equaliser;
+use state::refusal::Refusal;
+use steps::limits::{BLOCK, EXPONENT};
+use steps::settings::Settings;
 
 // The state that a block leaves, from its numbers, its weights and its data.
 fn next(
     e: Equaliser,
     r: BlockResult,
-    ws: [i16; Equaliser::SLOTS],
-    ds: [i16; Equaliser::SLOTS],
+    weights: [i16; Equaliser::SLOTS],
+    past: [i16; Equaliser::SLOTS],
 ) -> Equaliser
     requires { ResultBytes r }
-    ensures { result ≡ next_of e r ws ds }
+    ensures { result ≡ next_of e r weights past }
 {
     Equaliser {
         p: e.p,
@@ -31,152 +38,70 @@ fn next(
         b: r.b as u8,
         bmax: r.bmax as u8,
         m: e.m,
-        weights: ws,
-        past: ds,
+        weights,
+        past,
     }
 }
 
 // The run of a block that passed the checks.
-pub fn run_checked(
-    e: Equaliser,
-    m: &[i16],
-    gains: &[u8],
-    entries: &[i8],
-    y: &mut [i32],
-    xi: &mut [u8],
-    decision: &mut [i8],
-    z: &mut [i32],
-    theta: &mut [u8],
-) -> Answer
-    requires { (Checked e (block_of m.now gains.now entries.now)) × (OutputsLong (settings e) (outputs_of y.old xi.old decision.old z.old theta.old)) }
-    ensures { RunChecked e (block_of m.now gains.now entries.now) (outputs_of y.old xi.old decision.old z.old theta.old) result (outputs_of y.new xi.new decision.new z.new theta.new) }
+pub fn run_checked(e: Equaliser, block: Block, outputs: &mut Outputs) -> Result<Equaliser, Refusal>
+    requires { (Checked e (block_in block)) × (OutputsLong (settings e) (outputs_in outputs.old)) }
+    ensures lists { SameOutputs outputs.old outputs.new }
+    ensures run { RunChecked e (block_in block.entry) (outputs_in outputs.old) (answer_with e result) (outputs_in outputs.new) }
 {
-    let p = e.p as usize;
-    let q = e.q as usize;
+    let p = usize::from(e.p);
+    let q = usize::from(e.q);
     let taps = p + q;
-    let weights = e.weights;
-    let past = e.past;
-    let mut forward = super::copies::fronted(&weights[0..p]);
-    let mut back = super::copies::fronted(&weights[p..taps]);
-    let mut window = super::copies::fronted(&past[0..p]);
-    let mut symbols = super::copies::fronted(&past[p..taps]);
-    run_parts(
-        e,
-        m,
-        gains,
-        entries,
-        &mut forward[0..p],
-        &mut back[0..q],
-        &mut window[0..p],
-        &mut symbols[0..q],
-        y,
-        xi,
-        decision,
-        z,
-        theta,
-    )
+    let mut forward = fronted(&e.weights[..p]);
+    let mut back = fronted(&e.weights[p..taps]);
+    let mut samples = fronted(&e.past[..p]);
+    let mut symbols = fronted(&e.past[p..taps]);
+    let mut memory = Memory {
+        weights: Weights {
+            forward: &mut forward[..p],
+            back: &mut back[..q],
+        },
+        samples: &mut samples[..p],
+        symbols: &mut symbols[..q],
+        psi: u32::from(e.psi),
+        b: u32::from(e.b),
+        bmax: u32::from(e.bmax),
+    };
+    let r = block::run::run(Settings::from(e), &mut memory, block, outputs);
+    if EXPONENT < r.psi {
+        return Err(Refusal::Exponent);
+    }
+    samples[p - 1] = 0;
+    let weights = joined(&forward[..p], &back[..q]);
+    let past = joined(&samples[..p], &symbols[..q]);
+    Ok(next(e, r, weights, past))
 }
 
-// The run on the four parts of a state: weights, samples with a place for the next, symbols.
-fn run_parts(
-    e: Equaliser,
-    m: &[i16],
-    gains: &[u8],
-    entries: &[i8],
-    forward: &mut [i16],
-    back: &mut [i16],
-    window: &mut [i16],
-    symbols: &mut [i16],
-    y: &mut [i32],
-    xi: &mut [u8],
-    decision: &mut [i8],
-    z: &mut [i32],
-    theta: &mut [u8],
-) -> Answer
-    requires { Parts e (block_of m.now gains.now entries.now) forward.old back.old window.old symbols.old (outputs_of y.old xi.old decision.old z.old theta.old) }
-    ensures { RunChecked e (block_of m.now gains.now entries.now) (outputs_of y.old xi.old decision.old z.old theta.old) result (outputs_of y.new xi.new decision.new z.new theta.new) }
+// One block: the next state and the block's outputs, or why it is turned down and everything as it was.
+pub fn run(e: Equaliser, block: Block, outputs: &mut Outputs) -> Result<Equaliser, Refusal>
+    ensures lists { SameOutputs outputs.old outputs.new }
+    ensures run { Run e (buffers_in block.entry outputs.old) (answer_with e result) (outputs_in outputs.new) }
 {
-    let r = block::run::run(
-        state::equaliser::settings(e),
-        e.psi as u32,
-        e.b as u32,
-        e.bmax as u32,
-        m,
-        gains,
-        entries,
-        forward,
-        back,
-        window,
-        symbols,
-        y,
-        xi,
-        decision,
-        z,
-        theta,
-    );
-    if (Equaliser::EXPONENT as u32) < r.psi {
-        return Answer {
-            number: 6,
-            state: e,
-        };
-    }
-    let last = window.len() - 1;
-    window[last] = 0;
-    let ws = super::copies::joined(forward, back);
-    let ds = super::copies::joined(window, symbols);
-    let s = next(e, r, ws, ds);
-    Answer {
-        number: 0,
-        state: s,
-    }
-}
-
-// One block: the next state and the block's outputs, or the number of the refusal and everything as it was.
-pub fn run(
-    e: Equaliser,
-    m: &[i16],
-    gains: &[u8],
-    entries: &[i8],
-    y: &mut [i32],
-    xi: &mut [u8],
-    decision: &mut [i8],
-    z: &mut [i32],
-    theta: &mut [u8],
-) -> Answer
-    ensures { Run e (buffers_of m.now gains.now entries.now y.old xi.old decision.old z.old theta.old) result (outputs_of y.new xi.new decision.new z.new theta.new) }
-{
-    let number = checks::lists::checked(e, m, gains, entries, y, xi, decision, z, theta);
-    if number != 0 {
-        return Answer {
-            number: number,
-            state: e,
-        };
-    }
-    checks::lists::sixteen_bits(m);
-    let n = e.n as usize;
-    let mut ay = [0i32; Equaliser::BLOCK as usize];
-    let mut ax = [0u8; Equaliser::BLOCK as usize];
-    let mut ad = [0i8; Equaliser::BLOCK as usize];
-    let mut az = [0i32; Equaliser::BLOCK as usize];
-    let mut at = [0u8; Equaliser::BLOCK as usize];
-    let r = run_checked(
-        e,
-        m,
-        gains,
-        entries,
-        &mut ay[0..n],
-        &mut ax[0..n],
-        &mut ad[0..n],
-        &mut az[0..n],
-        &mut at[0..n],
-    );
-    if r.number != 0 {
-        return r;
-    }
-    super::copies::copy32(&ay[0..n], y);
-    super::copies::copy_bytes(&ax[0..n], xi);
-    super::copies::copy8(&ad[0..n], decision);
-    super::copies::copy32(&az[0..n], z);
-    super::copies::copy_bytes(&at[0..n], theta);
-    r
+    checks::lists::checked(e, block, outputs)?;
+    checks::lists::sixteen_bits(block.m);
+    let n = usize::from(e.n);
+    let mut y = [0i32; BLOCK];
+    let mut xi = [0u8; BLOCK];
+    let mut decision = [0i8; BLOCK];
+    let mut z = [0i32; BLOCK];
+    let mut theta = [0u8; BLOCK];
+    let mut areas = Outputs {
+        y: &mut y[..n],
+        xi: &mut xi[..n],
+        decision: &mut decision[..n],
+        z: &mut z[..n],
+        theta: &mut theta[..n],
+    };
+    let next = run_checked(e, block, &mut areas)?;
+    outputs.y.copy_from_slice(&y[..n]);
+    outputs.xi.copy_from_slice(&xi[..n]);
+    outputs.decision.copy_from_slice(&decision[..n]);
+    outputs.z.copy_from_slice(&z[..n]);
+    outputs.theta.copy_from_slice(&theta[..n]);
+    Ok(next)
 }

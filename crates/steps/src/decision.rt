@@ -3,12 +3,14 @@ ghost use Rattle.std.specs.Prelude.{◌≡◌, ◌+◌, ◌-◌, ◌^◌, ◌<�
 ghost use Rattle.steps.specs.Limits.{output_unit, symbol_limit};
 ghost use Rattle.steps.specs.Decision.{floor, clip, top_symbol, decide};
 
+use super::limits::OUTPUT_UNIT;
+
 // The greatest symbol.
 fn top_symbol(r: u32) -> i32
     requires { r ≤ symbol_limit }
     ensures { result ≡ top_symbol r }
 {
-    numbers::cut::ones32(r + 1)
+    ((1u32 << (r + 1)) - 1) as i32
 }
 
 // The odd number nearest to y·2^(ξ − OUTPUT_UNIT).
@@ -16,7 +18,7 @@ fn nearest(y: i32, xi: u32) -> i32
     requires { (1 ≤ xi) × (xi ≤ output_unit + 1) × (nat_abs y < 2 ^ (output_unit - 1)) }
     ensures { result ≡ pos 2 *ℤ floor y (output_unit + 1 - xi) +ℤ pos 1 }
 {
-    2 * (y >> (super::limits::OUTPUT_UNIT + 1 - xi)) + 1
+    2 * (y >> (OUTPUT_UNIT + 1 - xi)) + 1
 }
 
 // Brought to the nearest end, if beyond it.

@@ -6,6 +6,10 @@ ghost use Rattle.steps.specs.Limits.{output_unit};
 ghost use Rattle.steps.specs.Error.{error, error_exponent};
 ghost use Rattle.steps.specs.Sound.{DifferenceBounds, ErrorBounds};
 
+use super::limits::OUTPUT_UNIT;
+use numbers::bit_length::signed_bit_length;
+use numbers::cut::Register;
+
 #[derive(Clone, Copy)]
 pub struct ScaledError {
     pub z: i32,
@@ -17,7 +21,7 @@ fn difference(v: i16, y: i32, up: u32, down: u32) -> i32
     requires { (nat_abs y < 2 ^ (output_unit - 1)) × (up ≤ output_unit) × (down ≤ output_unit) × (nat_abs v * 2 ^ up ≤ 2 ^ (output_unit - 1)) }
     ensures { result ≡ raise v up -ℤ cut y down }
 {
-    numbers::cut::raise32(v as i32, up) - numbers::cut::cut32(y, down)
+    i32::from(v).raise(up) - y.cut(down)
 }
 
 // At the larger of both exponents.
@@ -25,10 +29,10 @@ fn compared(v: i16, y: i32, xi: u32, kappa: u32) -> ScaledError
     requires { DifferenceBounds v y xi kappa }
     ensures { (result.z ≡ error v y xi kappa) × (result.theta ≡ error_exponent xi kappa) }
 {
-    let theta = super::exponent::larger(kappa, xi);
+    let theta = kappa.max(xi);
     ScaledError {
-        z: difference(v, y, super::limits::OUTPUT_UNIT - theta, theta - xi),
-        theta: theta,
+        z: difference(v, y, OUTPUT_UNIT - theta, theta - xi),
+        theta,
     }
 }
 
@@ -39,15 +43,10 @@ pub fn error(r: u32, sb: u32, v: i16, y: i32, xi: u32) -> ScaledError
 {
     if sb + r + 1 <= xi {
         ScaledError {
-            z: difference(v, y, super::limits::OUTPUT_UNIT - xi, 0),
+            z: difference(v, y, OUTPUT_UNIT - xi, 0),
             theta: xi,
         }
     } else {
-        compared(
-            v,
-            y,
-            xi,
-            sb + numbers::bit_length::signed_bit_length(v as i64),
-        )
+        compared(v, y, xi, sb + signed_bit_length(i64::from(v)))
     }
 }

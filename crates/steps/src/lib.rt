@@ -3,7 +3,6 @@
 // The steps of a sample one by one.
 pub mod decision;
 pub mod error;
-pub mod exponent;
 pub mod factor;
 pub mod limits;
 pub mod output;

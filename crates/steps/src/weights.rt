@@ -6,6 +6,10 @@ ghost use Rattle.steps.specs.Limits.{data_unit, output_unit, update_shift};
 ghost use Rattle.steps.specs.Fir.{Small, adapted, adapt, all_below, all_small, halved, doubled, magnitudes};
 ghost use Rattle.steps.specs.Sound.{or_all, Summable, Adaptable};
 
+use super::limits::{DATA_UNIT, HALVING, UPDATE_SHIFT};
+use numbers::cut::Register;
+use numbers::product::mac;
+
 // Up to so many taps are few.
 const FEW: usize = 4;
 
@@ -14,11 +18,9 @@ fn total(w: &[i16], a: &[i16]) -> i32
     requires { Summable w.now a.now }
     ensures { result ≡ dot w.now a.now }
 {
-    let mut total: i32 = 0;
-    let mut i: usize = 0;
-    while i < w.len() {
-        total = numbers::product::mac(total, w[i], a[i]);
-        i += 1;
+    let mut total = 0;
+    for (w, a) in w.iter().zip(a) {
+        total = mac(total, *w, *a);
     }
     total
 }
@@ -48,8 +50,7 @@ fn increment(factor: u32, size: u16, t: u32) -> i16
     requires { (t ≤ data_unit) × (factor * size < 2 ^ (output_unit - 1 + t)) }
     ensures { result ≡ pos (factor * size / 2 ^ (update_shift - data_unit + t)) }
 {
-    (((factor as u64) * (size as u64))
-        >> (super::limits::UPDATE_SHIFT - super::limits::DATA_UNIT + t)) as i16
+    ((u64::from(factor) * u64::from(size)) >> (UPDATE_SHIFT - DATA_UNIT + t)) as i16
 }
 
 // Step 6: one weight and what it gains, by magnitudes.
@@ -57,7 +58,7 @@ fn adapted_by_size(j: i32, factor: u32, t: u32, w: i16, a: i16) -> i16
     requires { (t ≤ data_unit) × (factor ≡ nat_abs j) × (Small w) × (nat_abs j * nat_abs a < 2 ^ (output_unit - 1 + t)) }
     ensures { result ≡ adapted (raise j (data_unit - t)) w a }
 {
-    let more = increment(factor, numbers::bit_length::magnitude16(a), t);
+    let more = increment(factor, a.unsigned_abs(), t);
     if (a < 0) != (j < 0) {
         w - more
     } else {
@@ -70,7 +71,7 @@ fn adapted(k: i64, w: i16, a: i16) -> i16
     requires { (Small w) × (nat_abs k * nat_abs a < 2 ^ (output_unit - 1 + data_unit)) }
     ensures { result ≡ adapted k w a }
 {
-    ((w as i64) + numbers::cut::cut(k * (a as i64), super::limits::UPDATE_SHIFT)) as i16
+    (i64::from(w) + (k * i64::from(a)).cut(UPDATE_SHIFT)) as i16
 }
 
 // Step 6: one weight and what it gains, where k is J·2^(DATA_UNIT − t) and factor is |J|: by a signed product where
@@ -91,15 +92,12 @@ fn adapt_all(few: bool, w: &mut [i16], a: &[i16], j: i32, t: u32) -> u16
     requires { Adaptable j t w.old a.now }
     ensures { (w.new ≡ adapt (raise j (data_unit - t)) w.old a.now) × (result ≡ or_all (magnitudes w.new)) }
 {
-    let k = numbers::cut::raise(j as i64, super::limits::DATA_UNIT - t);
-    let factor = numbers::bit_length::magnitude32(j);
-    let mut seen: u16 = 0;
-    let mut i: usize = 0;
-    while i < w.len() {
-        let new = adapted_by(few, j, k, factor, t, w[i], a[i]);
-        w[i] = new;
-        seen |= numbers::bit_length::magnitude16(new);
-        i += 1;
+    let k = i64::from(j).raise(DATA_UNIT - t);
+    let factor = j.unsigned_abs();
+    let mut seen = 0;
+    for (w, a) in w.iter_mut().zip(a) {
+        *w = adapted_by(few, j, k, factor, t, *w, *a);
+        seen |= w.unsigned_abs();
     }
     seen
 }
@@ -121,20 +119,14 @@ pub fn adapt(w: &mut [i16], a: &[i16], j: i32, t: u32) -> u16
 fn bits(w: &[i16]) -> u16
     ensures { result ≡ or_all (magnitudes w.now) }
 {
-    let mut seen: u16 = 0;
-    let mut i: usize = 0;
-    while i < w.len() {
-        seen |= numbers::bit_length::magnitude16(w[i]);
-        i += 1;
-    }
-    seen
+    w.iter().fold(0, |seen, x| seen | x.unsigned_abs())
 }
 
 // Step 7: whether no weight has reached the halving limit.
 pub fn all_small(w: &[i16]) -> bool
     ensures { result ≡ all_small w.now }
 {
-    bits(w) < super::limits::HALVING
+    bits(w) < HALVING
 }
 
 // Whether every weight is 0.
@@ -147,24 +139,22 @@ pub fn all_zero(w: &[i16]) -> bool
 fn half(w: i16) -> i16
     ensures { result ≡ cut w 1 }
 {
-    numbers::cut::cut(w as i64, 1) as i16
+    i32::from(w).cut(1) as i16
 }
 
 fn twice(w: i16) -> i16
     requires { Small w }
     ensures { result ≡ raise w 1 }
 {
-    numbers::cut::raise(w as i64, 1) as i16
+    i32::from(w).raise(1) as i16
 }
 
 // Step 7: half of each weight.
 pub fn halve(w: &mut [i16])
     ensures { w.new ≡ halved w.old }
 {
-    let mut i: usize = 0;
-    while i < w.len() {
-        w[i] = half(w[i]);
-        i += 1;
+    for x in w {
+        *x = half(*x);
     }
 }
 
@@ -173,9 +163,7 @@ pub fn double(w: &mut [i16])
     requires { Each Small w.old }
     ensures { w.new ≡ doubled w.old }
 {
-    let mut i: usize = 0;
-    while i < w.len() {
-        w[i] = twice(w[i]);
-        i += 1;
+    for x in w {
+        *x = twice(*x);
     }
 }

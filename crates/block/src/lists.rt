@@ -1,0 +1,31 @@
+// The lists of a block.
+use filter::weights::Weights;
+
+// What a block is given: m, the gains and the training entries.
+#[derive(Clone, Copy)]
+pub struct Block<'a> {
+    pub m: &'a [i16],
+    pub gains: &'a [u8],
+    pub entries: &'a [i8],
+}
+
+// A lent list for each output.
+#[derive(Drop)]
+pub struct Outputs<'a> {
+    pub y: &'a mut [i32],
+    pub xi: &'a mut [u8],
+    pub decision: &'a mut [i8],
+    pub z: &'a mut [i32],
+    pub theta: &'a mut [u8],
+}
+
+// What the block before left, and this one leaves: the samples end in a place for the next.
+#[derive(Drop)]
+pub struct Memory<'a> {
+    pub weights: Weights<'a>,
+    pub samples: &'a mut [i16],
+    pub symbols: &'a mut [i16],
+    pub psi: u32,
+    pub b: u32,
+    pub bmax: u32,
+}
