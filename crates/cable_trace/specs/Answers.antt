@@ -1,9 +1,10 @@
 -- What the cable simulator answers, and the lent output at the end.
-use Rattle.std.specs.Prelude.{cond, List, ◌≡◌, ℕ, eqb, length, ℤ}
+use Rattle.std.specs.Prelude.{cond, List, ◌≡◌, ℕ, eqb, length, ℤ, Result}
 use Rattle.steps.specs.Settings.{Settings}
 use Rattle.state.specs.Sizes.{settings_number}
 use Rattle.cable_trace.specs.Cable.{Cable, cause, cable_number, cable_trace}
-use Rattle.cable_trace.specs.declared.Simulated.{Simulated}
+use Rattle.cable_trace.specs.Refusal.{number_in, cause_in}
+use Rattle.cable_trace.specs.declared.refusal.CableRefusal.{CableRefusal}
 
 -- the cable of these settings and lists
 abbrev pub cable_of : Settings → List ℤ → List ℤ → ℕ → Cable
@@ -19,6 +20,6 @@ pub record Output (c : Cable) (before : List ℕ) (number : ℕ) (after : List �
   pub contents : after ≡ written c before
 
 -- with the cause of a 10
-pub record Simulation (c : Cable) (before : List ℕ) (a : Simulated) (after : List ℕ) : Type 0 where
-  pub output : Output c before a.number after
-  pub cause_is : a.cause ≡ cond (eqb (settings_number c.settings) 0) (cause c (length before)) 0
+pub record Simulation (c : Cable) (before : List ℕ) (a : Result (Unit {0}) CableRefusal) (after : List ℕ) : Type 0 where
+  pub output : Output c before (number_in a) after
+  pub cause_is : cause_in a ≡ cond (eqb (settings_number c.settings) 0) (cause c (length before)) 0

@@ -4,36 +4,33 @@ ghost use Rattle.laws.specs.Lists.{all};
 ghost use Rattle.steps.specs.Limits.{symbol_limit};
 ghost use Rattle.steps.specs.Settings.{is_symbol};
 ghost use Rattle.cable_trace.specs.Cable.{response_fits, blocks_fit, length_cause, list_cause};
-ghost use Rattle.cable_trace.specs.Answers.{cable_of};
+ghost use Rattle.cable_trace.specs.Lent.{cable_in};
+ghost use Rattle.cable_trace.specs.Refusal.{cause_in};
 
-use super::limits;
-use steps::settings::Settings;
+use super::Cable;
+use super::limits::{COUNT, RESPONSE, SENT};
+use super::refusal::CableRefusal;
+use state::sound::is_entry;
 use trace_layout::limits::TRACE_HEADER;
 
 fn is_symbol(v: i8, r: u32) -> bool
     requires { r ≤ symbol_limit }
     ensures { result ≡ is_symbol r v }
 {
-    state::sound::is_entry(v as i16, r) & (v != 0)
+    is_entry(i16::from(v), r) & (v != 0)
 }
 
 pub fn all_symbols(xs: &[i8], r: u32) -> bool
     requires { r ≤ symbol_limit }
     ensures { result ≡ all (is_symbol r) xs.now }
 {
-    let mut fit = true;
-    let mut i: usize = 0;
-    while i < xs.len() {
-        fit = fit & is_symbol(xs[i], r);
-        i += 1;
-    }
-    fit
+    xs.iter().fold(true, |fit, v| fit & is_symbol(*v, r))
 }
 
 fn response_fits(k: usize) -> bool
     ensures { result ≡ response_fits k }
 {
-    (1 <= k) & (k <= limits::RESPONSE)
+    (1 <= k) & (k <= RESPONSE)
 }
 
 fn blocks_fit(n: usize, symbols: usize) -> bool
@@ -41,41 +38,43 @@ fn blocks_fit(n: usize, symbols: usize) -> bool
     ensures { result ≡ blocks_fit n symbols }
 {
     let count = symbols / n;
-    (symbols % n == 0) & (1 <= count) & (count <= limits::COUNT)
+    (symbols % n == 0) & (1 <= count) & (count <= COUNT)
 }
 
-// 1 to 4, by the lengths of the lists: the first of them, or 0.
-fn length_cause(k: Settings, response: &[i16], symbols: &[i8], training: usize) -> u8
-    requires { 1 ≤ k.N }
-    ensures { result ≡ length_cause (cable_of k response.now symbols.now training) }
+// By the lengths of the lists: the response, the blocks, the training count, the length of the trace.
+fn lengths_fit(cable: Cable) -> Result<(), CableRefusal>
+    requires { 1 ≤ cable.settings.N }
+    ensures { cause_in result ≡ length_cause (cable_in cable.entry) }
 {
-    if !response_fits(response.len()) {
-        return 1;
+    let count = cable.symbols.len();
+    if !response_fits(cable.response.len()) {
+        return Err(CableRefusal::Response);
     }
-    if !blocks_fit(k.N as usize, symbols.len()) {
-        return 2;
+    if !blocks_fit(usize::from(cable.settings.N), count) {
+        return Err(CableRefusal::Blocks);
     }
-    if symbols.len() < training {
-        return 3;
+    if count < cable.training {
+        return Err(CableRefusal::Training);
     }
-    if limits::SENT < symbols.len() { 4 } else { 0 }
-}
-
-// 1 to 6: the first of them, or 0.
-pub fn list_cause(k: Settings, response: &[i16], symbols: &[i8], training: usize, room: usize) -> u8
-    requires { (1 ≤ k.N) × (k.r ≤ symbol_limit) }
-    ensures { result ≡ list_cause (cable_of k response.now symbols.now training) room }
-{
-    let cause = length_cause(k, response, symbols, training);
-    if cause != 0 {
-        return cause;
-    }
-    if !all_symbols(symbols, k.r as u32) {
-        return 5;
-    }
-    if room == TRACE_HEADER + 4 * symbols.len() {
-        0
+    if SENT < count {
+        Err(CableRefusal::Length)
     } else {
-        6
+        Ok(())
+    }
+}
+
+// Then an entry that is no symbol, and an output of another length.
+pub fn lists_fit(cable: Cable, room: usize) -> Result<(), CableRefusal>
+    requires { (1 ≤ cable.settings.N) × (cable.settings.r ≤ symbol_limit) }
+    ensures { cause_in result ≡ list_cause (cable_in cable.entry) room }
+{
+    lengths_fit(cable)?;
+    if !all_symbols(cable.symbols, u32::from(cable.settings.r)) {
+        return Err(CableRefusal::Entry);
+    }
+    if room == TRACE_HEADER + 4 * cable.symbols.len() {
+        Ok(())
+    } else {
+        Err(CableRefusal::Output)
     }
 }

@@ -1,22 +1,23 @@
 // What the cable makes of the symbols: s of each.
-ghost use Rattle.std.specs.Prelude.{◌≡◌, ◌≤◌, length, get_or, pos};
+ghost use Rattle.std.specs.Prelude.{◌≡◌, ◌≤◌, length};
 ghost use Rattle.laws.specs.Sums.{dot};
 ghost use Rattle.steps.specs.Fir.{magnitudes};
 ghost use Rattle.steps.specs.Sound.{or_all};
 ghost use Rattle.cable_trace.specs.Calls.{sent_limit, taps_length, line_of, empty_line, empty_sums, sums, LineSummable, twice, row_sums, RowsSummable, RowSummable};
 
-use super::limits;
+use super::limits::{LINE, RESPONSE, SENT, TAPS};
+use numbers::product::mac;
 
-pub fn empty_line() -> [i16; limits::LINE]
+pub fn empty_line() -> [i16; LINE]
     ensures { result ≡ empty_line }
 {
-    [0; limits::LINE]
+    [0; LINE]
 }
 
-pub fn empty_sums() -> [i32; limits::SENT]
+pub fn empty_sums() -> [i32; SENT]
     ensures { result ≡ empty_sums }
 {
-    [0; limits::SENT]
+    [0; SENT]
 }
 
 // The symbols to their places in a line of zeros, the newest first.
@@ -24,18 +25,9 @@ pub fn line(symbols: &[i8], line: &mut [i16])
     requires { (length symbols.now ≤ sent_limit) × (line.old ≡ empty_line) }
     ensures { line.new ≡ line_of symbols.now }
 {
-    let mut i: usize = 0;
-    while i < symbols.len() {
-        line[limits::SENT - 1 - i] = symbols[i] as i16;
-        i += 1;
+    for (i, v) in symbols.iter().enumerate() {
+        line[SENT - 1 - i] = i16::from(*v);
     }
-}
-
-// h at place i, or 0 after its end.
-fn tap(h: &[i16], i: usize) -> i16
-    ensures { result ≡ get_or h.now i (pos 0) }
-{
-    if i < h.len() { h[i] } else { 0 }
 }
 
 // A response twice, each time with 0 after it up to the greatest length.
@@ -43,10 +35,11 @@ fn twice(h: &[i16], taps: &mut [i16])
     requires { length taps.old ≡ taps_length }
     ensures { taps.new ≡ twice h.now }
 {
-    let mut i: usize = 0;
-    while i < taps.len() {
-        taps[i] = tap(h, i % limits::RESPONSE);
-        i += 1;
+    for (i, tap) in taps.iter_mut().enumerate() {
+        *tap = match h.get(i % RESPONSE) {
+            Some(x) => *x,
+            None => 0,
+        };
     }
 }
 
@@ -55,11 +48,9 @@ fn sum(h: &[i16], v: &[i16]) -> i32
     requires { RowSummable h.now v.now }
     ensures { result ≡ dot h.now v.now }
 {
-    let mut sum: i32 = 0;
-    let mut i: usize = 0;
-    while i < limits::RESPONSE {
-        sum = numbers::product::mac(sum, h[i], v[i]);
-        i += 1;
+    let mut sum = 0;
+    for (h, v) in h.iter().zip(v) {
+        sum = mac(sum, *h, *v);
     }
     sum
 }
@@ -70,14 +61,10 @@ fn row_sums(taps: &[i16], line: &[i16], out: &mut [i32])
     requires { RowsSummable taps.now line.now (length out.old) }
     ensures { out.new ≡ row_sums taps.now line.now (length out.old) }
 {
-    let mut i: usize = 0;
-    while i < out.len() {
-        let row = limits::RESPONSE * (i % 2);
-        let last = row + limits::RESPONSE;
-        let at = limits::SENT - 1 - i;
-        let end = at + limits::RESPONSE;
-        out[i] = sum(&taps[row..last], &line[at..end]);
-        i += 1;
+    for (i, s) in out.iter_mut().enumerate() {
+        let row = RESPONSE * (i % 2);
+        let at = SENT - 1 - i;
+        *s = sum(&taps[row..row + RESPONSE], &line[at..at + RESPONSE]);
     }
 }
 
@@ -85,13 +72,7 @@ fn row_sums(taps: &[i16], line: &[i16], out: &mut [i32])
 fn bits(sums: &[i32]) -> u32
     ensures { result ≡ or_all (magnitudes sums.now) }
 {
-    let mut seen: u32 = 0;
-    let mut i: usize = 0;
-    while i < sums.len() {
-        seen |= numbers::bit_length::magnitude32(sums[i]);
-        i += 1;
-    }
-    seen
+    sums.iter().fold(0, |seen, s| seen | s.unsigned_abs())
 }
 
 // s of each symbol from a response, and the bits of every |s| together.
@@ -99,7 +80,7 @@ pub fn sums(h: &[i16], line: &[i16], out: &mut [i32]) -> u32
     requires { LineSummable h.now line.now (length out.old) }
     ensures { (out.new ≡ sums h.now line.now (length out.old)) × (result ≡ or_all (magnitudes out.new)) }
 {
-    let mut taps = [0i16; limits::TAPS];
+    let mut taps = [0i16; TAPS];
     twice(h, &mut taps);
     row_sums(&taps, line, out);
     bits(out)

@@ -6,8 +6,9 @@ ghost use Rattle.steps.specs.Limits.{data_unit, symbol_limit};
 ghost use Rattle.cable_trace.specs.Cable.{sample};
 ghost use Rattle.cable_trace.specs.Calls.{Gainable, gain_of, float_digits, float_offset, float_bits, exponent_in, leading, sample_word, sample_words};
 
-use super::limits;
-use state::equaliser::Equaliser;
+use super::limits::{DIGITS, EXPONENTS, FIRST, GAIN_UNIT, LAST, OFFSET};
+use numbers::cut::Register;
+use steps::limits::{DATA_UNIT, GAIN};
 
 fn float_bits(s: i32) -> u32
     requires { nat_abs s < 2 ^ float_digits }
@@ -21,10 +22,10 @@ fn gain(r: u32, e: u32) -> u32
     requires { (r ≤ symbol_limit) × (e ≤ float_offset + data_unit + r) }
     ensures { result ≡ gain_of r (e - float_offset) }
 {
-    if e <= limits::OFFSET + r {
-        Equaliser::GAIN as u32
+    if e <= OFFSET + r {
+        GAIN
     } else {
-        limits::OFFSET + steps::limits::DATA_UNIT + r - e
+        OFFSET + DATA_UNIT + r - e
     }
 }
 
@@ -33,7 +34,7 @@ fn leading(s: i32, b: u32) -> i32
     requires { (0 < nat_abs s) × (nat_abs s < 2 ^ float_digits) × (b ≡ float_bits s) }
     ensures { result ≡ leading s }
 {
-    let m = (limits::FIRST + b / limits::LAST % limits::FIRST) as i32;
+    let m = (FIRST + b / LAST % FIRST) as i32;
     if s < 0 { -m } else { m }
 }
 
@@ -42,8 +43,8 @@ fn sample(r: u32, s: i32, b: u32, e: u32) -> i32
     requires { (Gainable r s) × (b ≡ float_bits s) × (e ≡ exponent_in b) }
     ensures { result ≡ sample r s }
 {
-    if e <= limits::OFFSET + r {
-        numbers::cut::raise32(s, steps::limits::GAIN - r)
+    if e <= OFFSET + r {
+        s.raise(GAIN - r)
     } else {
         leading(s, b)
     }
@@ -54,9 +55,9 @@ fn word(r: u32, s: i32) -> i32
     ensures { result ≡ pos (sample_word r s) }
 {
     let b = float_bits(s);
-    let e = b / limits::DIGITS % limits::EXPONENTS;
-    let m = words::write::word(sample(r, s, b, e) as i16);
-    ((m as u32) + limits::GAIN_UNIT * gain(r, e)) as i32
+    let e = b / DIGITS % EXPONENTS;
+    let m = (sample(r, s, b, e) as i16).cast_unsigned();
+    (u32::from(m) + GAIN_UNIT * gain(r, e)) as i32
 }
 
 // Each s replaced by its word.
@@ -64,9 +65,7 @@ pub fn words(r: u32, sums: &mut [i32])
     requires { Each (Gainable r) sums.old }
     ensures { sums.new ≡ sample_words r sums.old }
 {
-    let mut i: usize = 0;
-    while i < sums.len() {
-        sums[i] = word(r, sums[i]);
-        i += 1;
+    for s in sums {
+        *s = word(r, *s);
     }
 }

@@ -2,8 +2,11 @@
 ghost use Rattle.std.specs.Prelude.{◌≤◌, length};
 ghost use Rattle.trace_layout.specs.Trace.{trace_limit};
 ghost use Rattle.trace_text.specs.Calls.{TextAt};
-ghost use Rattle.description.specs.Description.{malformed_line, cause_line, refusal_line};
+ghost use Rattle.cable_trace.specs.Refusal.{number_of, cause_of};
+ghost use Rattle.description.specs.Description.{malformed_line, refusal_line};
 
+use cable_trace::refusal::CableRefusal;
+use state::refusal::Refusal;
 use trace_text::line::word;
 
 pub fn malformed(out: &mut [u8]) -> usize
@@ -17,49 +20,20 @@ pub fn malformed(out: &mut [u8]) -> usize
     )
 }
 
-// By the cause of a 10.
-fn cause(cause: u8, out: &mut [u8]) -> usize
+// By what is turned down.
+pub fn refusal(refusal: CableRefusal, out: &mut [u8]) -> usize
     requires { trace_limit ≤ length out.old }
-    ensures { TextAt 0 (cause_line cause) out.old result out.new }
+    ensures { TextAt 0 (refusal_line (number_of refusal) (cause_of refusal)) out.old result out.new }
 {
-    match cause {
-        1 => word(
-            b"cable: 10, the response is empty or longer than 32\n",
-            0,
-            out,
-        ),
-        2 => word(
-            b"cable: 10, the symbols are not 1 to 65535 whole blocks of N\n",
-            0,
-            out,
-        ),
-        3 => word(
-            b"cable: 10, there are more training entries than symbols\n",
-            0,
-            out,
-        ),
-        4 => word(
-            b"cable: 10, the trace would be longer than 65536 bytes\n",
-            0,
-            out,
-        ),
-        5 => word(b"cable: 10, an entry is not a symbol\n", 0, out),
-        _ => word(
-            b"cable: 10, some gain would be below L or does not exist\n",
-            0,
-            out,
-        ),
-    }
-}
-
-// By the number.
-pub fn refusal(number: u8, reason: u8, out: &mut [u8]) -> usize
-    requires { trace_limit ≤ length out.old }
-    ensures { TextAt 0 (refusal_line number reason) out.old result out.new }
-{
-    match number {
-        1 => word(b"cable: 1, a size is outside its limits\n", 0, out),
-        2 => word(b"cable: 2, M is not admitted with these sizes\n", 0, out),
-        _ => cause(reason, out),
-    }
+    let text: &[u8] = match refusal {
+        CableRefusal::Settings(Refusal::Size) => b"cable: 1, a size is outside its limits\n",
+        CableRefusal::Settings(Refusal::Step) => b"cable: 2, M is not admitted with these sizes\n",
+        CableRefusal::Response => b"cable: 10, the response is empty or longer than 32\n",
+        CableRefusal::Blocks => b"cable: 10, the symbols are not 1 to 65535 whole blocks of N\n",
+        CableRefusal::Training => b"cable: 10, there are more training entries than symbols\n",
+        CableRefusal::Length => b"cable: 10, the trace would be longer than 65536 bytes\n",
+        CableRefusal::Entry => b"cable: 10, an entry is not a symbol\n",
+        _ => b"cable: 10, some gain would be below L or does not exist\n",
+    };
+    word(text, 0, out)
 }

@@ -13,21 +13,21 @@ pub fn response_count(t: &[u8]) -> usize
     requires { description_header_length ≤ length t.now }
     ensures { result ≡ response_in t.now }
 {
-    words::read::unsigned16(t[6], t[7]) as usize
+    usize::from(u16::from_le_bytes([t[6], t[7]]))
 }
 
 pub fn symbol_count(t: &[u8]) -> usize
     requires { description_header_length ≤ length t.now }
     ensures { result ≡ symbols_in t.now }
 {
-    words::read::unsigned32(t[12], t[13], t[14], t[15]) as usize
+    u32::from_le_bytes([t[12], t[13], t[14], t[15]]) as usize
 }
 
 pub fn training_count(t: &[u8]) -> usize
     requires { description_header_length ≤ length t.now }
     ensures { result ≡ training_in t.now }
 {
-    words::read::unsigned32(t[16], t[17], t[18], t[19]) as usize
+    u32::from_le_bytes([t[16], t[17], t[18], t[19]]) as usize
 }
 
 // Whether the length is right and byte 5 is 0.
@@ -48,11 +48,9 @@ pub fn response(t: &[u8], out: &mut [i16])
     requires { description_header_length + 2 * length out.old ≤ length t.now }
     ensures { out.new ≡ values (λ i. to_z w16 (number_at 2 t.now (description_header_length + 2 * i))) (length out.old) }
 {
-    let mut i: usize = 0;
-    while i < out.len() {
+    for (i, value) in out.iter_mut().enumerate() {
         let at = DESCRIPTION_HEADER + 2 * i;
-        out[i] = words::read::signed16(t[at], t[at + 1]);
-        i += 1;
+        *value = i16::from_le_bytes([t[at], t[at + 1]]);
     }
 }
 
@@ -61,9 +59,7 @@ pub fn symbols(t: &[u8], start: usize, out: &mut [i8])
     requires { start + length out.old ≤ length t.now }
     ensures { out.new ≡ values (λ i. to_z w8 (byte_at t.now (start + i))) (length out.old) }
 {
-    let mut i: usize = 0;
-    while i < out.len() {
-        out[i] = words::read::signed8(t[start + i]);
-        i += 1;
+    for (i, symbol) in out.iter_mut().enumerate() {
+        *symbol = t[start + i].cast_signed();
     }
 }

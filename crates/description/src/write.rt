@@ -7,7 +7,8 @@ ghost use Rattle.description.specs.Calls.{response_room, trace_end, Counted, Des
 
 use super::limits::{DESCRIPTION, RESPONSE};
 use super::read;
-use cable_trace::Simulated;
+use cable_trace::Cable;
+use cable_trace::refusal::CableRefusal;
 use trace_layout::limits::{TRACE, TRACE_HEADER};
 use trace_layout::read::settings_in;
 
@@ -29,7 +30,7 @@ fn response(t: &[u8], k: usize) -> [i16; RESPONSE]
     ensures { take k result ≡ (cable_in t.now).response }
 {
     let mut room = response_room();
-    read::response(t, &mut room[0..k]);
+    read::response(t, &mut room[..k]);
     room
 }
 
@@ -39,21 +40,26 @@ fn symbols(t: &[u8], n: usize) -> [i8; DESCRIPTION]
 {
     let start = t.len() - n;
     let mut room = symbol_room();
-    read::symbols(t, start, &mut room[0..n]);
+    read::symbols(t, start, &mut room[..n]);
     room
 }
 
 // What the simulator makes of a description in an output of any length.
-fn simulated(t: &[u8], out: &mut [u8]) -> Simulated
+fn simulated(t: &[u8], out: &mut [u8]) -> Result<(), CableRefusal>
     requires { well_described t.now ≡ true }
     ensures { Simulation (cable_in t.now) out.old result out.new }
 {
     let k = read::response_count(t);
     let n = read::symbol_count(t);
-    let h = response(t, k);
-    let sent = symbols(t, n);
-    let training = read::training_count(t);
-    cable_trace::simulate(settings_in(t), &h[0..k], &sent[0..n], training, out)
+    let response = response(t, k);
+    let symbols = symbols(t, n);
+    let cable = Cable {
+        settings: settings_in(t),
+        response: &response[..k],
+        symbols: &symbols[..n],
+        training: read::training_count(t),
+    };
+    cable_trace::simulate(cable, out)
 }
 
 // Where the trace of n symbols ends; 0 where it would be too long.
@@ -70,11 +76,8 @@ pub fn write(t: &[u8], out: &mut [u8]) -> usize
     ensures { TextAt 0 (cable_output (cable_in t.now)) out.old result out.new }
 {
     let end = trace_end(read::symbol_count(t));
-    let a = simulated(t, &mut out[0..end]);
-    let number = a.number;
-    let cause = a.cause;
-    if number == 0 {
-        return end;
+    match simulated(t, &mut out[..end]) {
+        Ok(()) => end,
+        Err(refusal) => super::line::refusal(refusal, out),
     }
-    super::line::refusal(number, cause, out)
 }

@@ -1,6 +1,5 @@
 -- What the functions for C ask of each other.
-use Rattle.readings.specs.Answers.{number_of, floor_of, value_in}
-use Rattle.readings.specs.declared.ReadAnswer.{ReadAnswer}
+use Rattle.readings.specs.Answers.{ReadAnswer, number_of, floor_of, value_in}
 use Rattle.laboratory.specs.declared.PowerAnswer.{PowerAnswer}
 
 -- an answer of the readings as a number, a flag and a power

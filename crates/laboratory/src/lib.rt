@@ -8,7 +8,8 @@ ghost use Rattle.readings.specs.Readings.{lists_of};
 ghost use Rattle.laboratory.specs.Calls.{answered};
 ghost use Rattle.laboratory.specs.Readings.{ReadOut};
 
-use readings::{Power, ReadAnswer};
+use cable_trace::Cable;
+use readings::{Lists, Power, Unreadable};
 use steps::settings::Settings;
 
 // The trace that a station receives over a cable, or the number of the refusal and the output as it was.
@@ -27,15 +28,24 @@ pub extern "C" fn tigbulode_cable(
 ) -> u8
     ensures { Output (cable_of (given p q n r l m) response.now symbols.now training) out.old result out.new }
 {
-    let k = Settings {
-        p: p,
-        q: q,
+    let settings = Settings {
+        p,
+        q,
         N: n,
-        r: r,
+        r,
         L: l,
         M: m,
     };
-    cable_trace::cable(k, response, symbols, training, out)
+    let cable = Cable {
+        settings,
+        response,
+        symbols,
+        training,
+    };
+    match cable_trace::simulate(cable, out) {
+        Ok(()) => 0,
+        Err(refusal) => u8::from(refusal),
+    }
 }
 
 // The error power of a block: 0 or 11, whether it is only a floor, and the power.
@@ -47,27 +57,27 @@ pub struct PowerAnswer {
     pub power: f64,
 }
 
-fn power_answer(a: ReadAnswer) -> PowerAnswer
-    ensures { result ≡ answered a }
-{
-    match a {
-        ReadAnswer::Given(p) => match p {
-            Power::Mean(x) => PowerAnswer {
+impl From<Result<Power, Unreadable>> for PowerAnswer {
+    fn from(answer: Result<Power, Unreadable>) -> PowerAnswer
+        ensures { result ≡ answered answer }
+    {
+        match answer {
+            Ok(Power::Mean(power)) => PowerAnswer {
                 number: 0,
                 is_floor: 0,
-                power: x,
+                power,
             },
-            Power::Floor(x) => PowerAnswer {
+            Ok(Power::Floor(power)) => PowerAnswer {
                 number: 0,
                 is_floor: 1,
-                power: x,
+                power,
             },
-        },
-        ReadAnswer::Refused => PowerAnswer {
-            number: 11,
-            is_floor: 0,
-            power: 0.0,
-        },
+            Err(Unreadable) => PowerAnswer {
+                number: 11,
+                is_floor: 0,
+                power: 0.0,
+            },
+        }
     }
 }
 
@@ -82,5 +92,6 @@ pub extern "C" fn tigbulode_readings(
 ) -> PowerAnswer
     ensures { ReadOut (lists_of y.now xi.now z.now theta.now) out.old result out.new }
 {
-    power_answer(readings::readings(y, xi, z, theta, out))
+    let lists = Lists { y, xi, z, theta };
+    PowerAnswer::from(readings::readings(lists, out))
 }

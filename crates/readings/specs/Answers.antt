@@ -1,15 +1,19 @@
 -- What the operation answers, and what it leaves in lent memory.
-use Rattle.std.specs.Prelude.{◌≡◌, false, cond, List, ℕ, pos, length, Float}
+use Rattle.std.specs.Prelude.{◌≡◌, false, cond, List, ℕ, pos, length, Float, Result, Ok, Err}
 use Rattle.std.specs.Float.{fin}
 use Rattle.laws.specs.Lists.{all}
 use Rattle.readings.specs.Readings.{Lists, readings_of, amplitudes, is_uncut, squares, quotient, power_of, readable}
 use Rattle.readings.specs.declared.Power.TheVariants.{Mean, Floor}
-use Rattle.readings.specs.declared.ReadAnswer.{ReadAnswer}
-use Rattle.readings.specs.declared.ReadAnswer.TheVariants.{Given, Refused}
+use Rattle.readings.specs.declared.Power.{Power}
+use Rattle.readings.specs.declared.Unreadable as Refused
+
+-- the power, or none
+abbrev pub ReadAnswer : Type 0
+ReadAnswer = Result Power Refused.Unreadable
 
 -- the power, or 11; n is the length of the lent readings
 unfoldable pub answer_of : Lists → ℕ → ReadAnswer
-answer_of l n = cond (readable l n) (Given (power_of (amplitudes l.z l.theta))) Refused
+answer_of l n = cond (readable l n) (Ok (power_of (amplitudes l.z l.theta))) (Err (record {}))
 
 -- the readings, or what was lent
 unfoldable pub output_of : Lists → List (List Float) → List (List Float)
@@ -18,20 +22,20 @@ output_of l before = cond (readable l (length before)) (readings_of l) before
 -- ---- an answer's number and values
 
 abbrev pub number_of : ReadAnswer → ℕ
-number_of (Given p) = 0
-number_of Refused = 11
+number_of (Ok p) = 0
+number_of (Err e) = 11
 
 -- 1 where the power is only a floor
 abbrev pub floor_of : ReadAnswer → ℕ
-floor_of (Given (Mean x)) = 0
-floor_of (Given (Floor x)) = 1
-floor_of Refused = 0
+floor_of (Ok (Mean x)) = 0
+floor_of (Ok (Floor x)) = 1
+floor_of (Err e) = 0
 
 -- +0 where there is none
 abbrev pub value_in : ReadAnswer → Float
-value_in (Given (Mean x)) = x
-value_in (Given (Floor x)) = x
-value_in Refused = fin false 0 (pos 0)
+value_in (Ok (Mean x)) = x
+value_in (Ok (Floor x)) = x
+value_in (Err e) = fin false 0 (pos 0)
 
 -- ---- the contract
 

@@ -3,3 +3,4 @@ pub mod Readings
 pub mod Answers
 pub mod Holds
 pub mod Calls
+pub mod Lent

@@ -3,24 +3,26 @@ ghost use Rattle.std.specs.Prelude.{◌≡◌, ◌&&◌, length};
 ghost use Rattle.laws.specs.Lists.{all};
 ghost use Rattle.steps.specs.Fir.{all_below};
 ghost use Rattle.readings.specs.Limits.{output_limit, error_limit};
-ghost use Rattle.readings.specs.Readings.{exponent_fits, lengths_readable, readable, lists_of};
+ghost use Rattle.readings.specs.Readings.{exponent_fits, lengths_readable, readable};
+ghost use Rattle.readings.specs.Lent.{lists_in};
 
-use super::limits;
+use super::{Lists, limits};
+use steps::limits::BLOCK;
 
 // |Y| and |Z|.
 fn mantissas_fit(y: &[i32], z: &[i32]) -> bool
     requires { length z.now ≡ length y.now }
     ensures { result ≡ (all_below output_limit y.now && all_below error_limit z.now) }
 {
-    let mut y_fit = true;
-    let mut z_fit = true;
-    let mut i: usize = 0;
-    while i < y.len() {
-        y_fit = y_fit & (numbers::bit_length::magnitude32(y[i]) < limits::OUTPUT);
-        z_fit = z_fit & (numbers::bit_length::magnitude32(z[i]) < limits::ERROR);
-        i += 1;
-    }
+    let y_fit = y.iter().fold(true, |fit, y| fit & (y.unsigned_abs() < limits::OUTPUT));
+    let z_fit = z.iter().fold(true, |fit, z| fit & (z.unsigned_abs() < limits::ERROR));
     y_fit & z_fit
+}
+
+fn exponent_fits(e: u8) -> bool
+    ensures { result ≡ exponent_fits e }
+{
+    (1 <= e) & (e <= limits::EXPONENT)
 }
 
 // ξ and θ.
@@ -28,34 +30,28 @@ fn exponents_fit(xi: &[u8], theta: &[u8]) -> bool
     requires { length theta.now ≡ length xi.now }
     ensures { result ≡ (all exponent_fits xi.now && all exponent_fits theta.now) }
 {
-    let mut xi_fit = true;
-    let mut theta_fit = true;
-    let mut i: usize = 0;
-    while i < xi.len() {
-        xi_fit = xi_fit & ((1 <= xi[i]) & (xi[i] <= limits::EXPONENT));
-        theta_fit = theta_fit & ((1 <= theta[i]) & (theta[i] <= limits::EXPONENT));
-        i += 1;
-    }
+    let xi_fit = xi.iter().fold(true, |fit, e| fit & exponent_fits(*e));
+    let theta_fit = theta.iter().fold(true, |fit, e| fit & exponent_fits(*e));
     xi_fit & theta_fit
 }
 
-fn lengths_readable(y: &[i32], xi: &[u8], z: &[i32], theta: &[u8], n: usize) -> bool
-    ensures { result ≡ lengths_readable (lists_of y.now xi.now z.now theta.now) n }
+fn lengths_readable(lists: Lists, n: usize) -> bool
+    ensures { result ≡ lengths_readable (lists_in lists.entry) n }
 {
     (1 <= n)
-        & (n <= steps::limits::BLOCK)
-        & (y.len() == n)
-        & (xi.len() == n)
-        & (z.len() == n)
-        & (theta.len() == n)
+        & (n <= BLOCK)
+        & (lists.y.len() == n)
+        & (lists.xi.len() == n)
+        & (lists.z.len() == n)
+        & (lists.theta.len() == n)
 }
 
 // Whether n readings can be given.
-pub fn readable(y: &[i32], xi: &[u8], z: &[i32], theta: &[u8], n: usize) -> bool
-    ensures { result ≡ readable (lists_of y.now xi.now z.now theta.now) n }
+pub fn readable(lists: Lists, n: usize) -> bool
+    ensures { result ≡ readable (lists_in lists.entry) n }
 {
-    if !lengths_readable(y, xi, z, theta, n) {
+    if !lengths_readable(lists, n) {
         return false;
     }
-    mantissas_fit(y, z) & exponents_fit(xi, theta)
+    mantissas_fit(lists.y, lists.z) & exponents_fit(lists.xi, lists.theta)
 }

@@ -11,17 +11,13 @@ fn amplitude(z: i32, theta: u8) -> u64
     requires { theta ≤ output_exponent_limit }
     ensures { result ≡ amplitude z theta }
 {
-    ((numbers::bit_length::magnitude32(z) as u64) << theta) >> limits::AMPLITUDE_SHIFT
+    (u64::from(z.unsigned_abs()) << theta) >> limits::AMPLITUDE_SHIFT
 }
 
 fn counted(a: u64) -> u64
     ensures { result ≡ counted a }
 {
-    if a < limits::AMPLITUDE {
-        a
-    } else {
-        limits::AMPLITUDE
-    }
+    a.min(limits::AMPLITUDE)
 }
 
 // A sum of a², and whether none of them was cut.

@@ -2,13 +2,22 @@
 
 // The readings of a block for plots: y and the error of each sample as an f64, and the error power.
 ghost use Rattle.readings.specs.Answers.{Read};
-ghost use Rattle.readings.specs.Readings.{lists_of};
+ghost use Rattle.readings.specs.Lent.{lists_in};
 
 pub mod check;
 pub mod errors;
 pub mod fill;
 pub mod limits;
 pub mod value;
+
+// What a block handed out: the mantissas and the exponents of its outputs and its errors.
+#[derive(Clone, Copy)]
+pub struct Lists<'a> {
+    pub y: &'a [i32],
+    pub xi: &'a [u8],
+    pub z: &'a [i32],
+    pub theta: &'a [u8],
+}
 
 // y and the error of a sample.
 #[derive(Clone, Copy)]
@@ -24,20 +33,18 @@ pub enum Power {
     Floor(f64),
 }
 
-#[derive(Clone, Copy)]
-pub enum ReadAnswer {
-    Given(Power),
-    Refused,
-}
+// The lists are not those of a block, or some number is outside its limits.
+#[derive(Clone, Copy, PartialEq, Eq, Debug)]
+pub struct Unreadable;
 
-// The readings of lists that a block handed out, each as y and the error, with the error power; or 11 and the output as it was.
-pub fn readings(y: &[i32], xi: &[u8], z: &[i32], theta: &[u8], out: &mut [[f64; 2]]) -> ReadAnswer
-    ensures { Read (lists_of y.now xi.now z.now theta.now) out.old result out.new }
+// The readings of lists that a block handed out, each as y and the error, with the error power; or nothing, and the output as it was.
+pub fn readings(lists: Lists, out: &mut [[f64; 2]]) -> Result<Power, Unreadable>
+    ensures { Read (lists_in lists.entry) out.old result out.new }
 {
     let n = out.len();
-    if !check::readable(y, xi, z, theta, n) {
-        return ReadAnswer::Refused;
+    if !check::readable(lists, n) {
+        return Err(Unreadable);
     }
-    let s = fill::fill(y, xi, z, theta, out);
-    ReadAnswer::Given(errors::power(s, n))
+    let s = fill::fill(lists, out);
+    Ok(errors::power(s, n))
 }

@@ -5,7 +5,6 @@ ghost use Rattle.trace_layout.specs.Calls.{Readable, ReadIs};
 
 use super::limits::{TRACE, TRACE_HEADER};
 use steps::settings::Settings;
-use words::read::{signed8, signed16, unsigned16, unsigned32};
 
 // The settings.
 pub fn settings_in(t: &[u8]) -> Settings
@@ -18,7 +17,7 @@ pub fn settings_in(t: &[u8]) -> Settings
         N: t[2],
         r: t[3],
         L: t[4],
-        M: unsigned32(t[8], t[9], t[10], t[11]),
+        M: u32::from_le_bytes([t[8], t[9], t[10], t[11]]),
     }
 }
 
@@ -27,7 +26,7 @@ pub fn count_in(t: &[u8]) -> usize
     requires { trace_header_length ≤ length t.now }
     ensures { result ≡ count_in t.now }
 {
-    unsigned16(t[6], t[7]) as usize
+    usize::from(u16::from_le_bytes([t[6], t[7]]))
 }
 
 fn samples(t: &[u8]) -> usize
@@ -47,9 +46,9 @@ pub fn block(t: &[u8], first: usize, m: &mut [i16], gains: &mut [u8], entries: &
     while i < m.len() {
         let n = first + i;
         let at = TRACE_HEADER + 3 * n;
-        m[i] = signed16(t[at], t[at + 1]);
+        m[i] = i16::from_le_bytes([t[at], t[at + 1]]);
         gains[i] = t[at + 2];
-        entries[i] = signed8(t[start + n]);
+        entries[i] = t[start + n].cast_signed();
         i += 1;
     }
 }

@@ -2,6 +2,7 @@
 use Rattle.std.specs.Prelude.{true, List, ◌++◌, ◌≡◌, ℕ, ◌+◌, ◌*◌, ◌-◌, ◌/◌, ◌^◌, ◌≤◌, ◌<◌, length, get_or, take, drop, ℤ, pos, nat_abs}
 use Rattle.steps.specs.Limits.{output_unit, block_limit, symbol_limit, output_exponent_limit}
 use Rattle.trace_layout.specs.Trace.{trace_limit, settings_in, count_in, samples_in, well_formed}
+use Rattle.state.specs.Refusal.{number_in, answer_with}
 use Rattle.state.specs.declared.equaliser.Equaliser.{Equaliser}
 use Rattle.state.specs.declared.equaliser.Answer.{Answer}
 use Rattle.checks.specs.Checks.{Buffers}
@@ -69,8 +70,8 @@ pub record Blockable (t : List ℕ) (e : Equaliser) (i at : ℕ) (out : List ℕ
   pub room : at + line_limit * (e.n + 1) ≤ length out
 
 pub record AddedIs (t : List ℕ) (e : Equaliser) (i at : ℕ) (r : Added) (before after : List ℕ) : Type 0 where
-  pub number : r.number ≡ run_number e (buffers_at t (i * e.n))
-  pub state : r.state ≡ run_state e (buffers_at t (i * e.n))
+  pub number : number_in r.next ≡ run_number e (buffers_at t (i * e.n))
+  pub state : (answer_with e r.next).state ≡ run_state e (buffers_at t (i * e.n))
   pub written : TextAt at (block_text t e i) before r.end after
 
 -- ---- the whole trace

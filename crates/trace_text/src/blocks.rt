@@ -1,17 +1,21 @@
 // The text of the blocks of a trace.
 ghost use Rattle.trace_layout.specs.Trace.{count_in};
+ghost use Rattle.state.specs.Refusal.{answer_with};
 ghost use Rattle.trace_text.specs.Text.{text_from};
 ghost use Rattle.trace_text.specs.Buffers.{buffers_with};
 ghost use Rattle.trace_text.specs.Calls.{TextAt, BlockRunnable, RanIs, Blockable, AddedIs, Traceable};
 
-use state::equaliser::{Answer, Equaliser};
+use super::line::{lines, stop_line};
+use block::lists::{Block, Outputs};
+use state::equaliser::Equaliser;
+use state::refusal::Refusal;
+use steps::limits::BLOCK;
 
 // What a block answers, and where its text ends.
 #[derive(Clone, Copy)]
 pub struct Added {
-    pub number: u8,
+    pub next: Result<Equaliser, Refusal>,
     pub end: usize,
-    pub state: Equaliser,
 }
 
 // The block whose first sample has this place; Y, ξ and decision go to lent lists.
@@ -22,28 +26,30 @@ pub fn run_block(
     y: &mut [i32],
     xi: &mut [u8],
     decision: &mut [i8],
-) -> Answer
+) -> Result<Equaliser, Refusal>
     requires { BlockRunnable t.now e first }
-    ensures { RanIs e (buffers_with t.now first y.old xi.old decision.old) result y.new xi.new decision.new }
+    ensures { RanIs e (buffers_with t.now first y.old xi.old decision.old) (answer_with e result) y.new xi.new decision.new }
 {
-    let n = e.n as usize;
-    let mut m = [0i16; Equaliser::BLOCK as usize];
-    let mut gains = [0u8; Equaliser::BLOCK as usize];
-    let mut entries = [0i8; Equaliser::BLOCK as usize];
+    let n = usize::from(e.n);
+    let mut m = [0i16; BLOCK];
+    let mut gains = [0u8; BLOCK];
+    let mut entries = [0i8; BLOCK];
     trace_layout::read::block(t, first, &mut m[..n], &mut gains[..n], &mut entries[..n]);
-    let mut z = [0i32; Equaliser::BLOCK as usize];
-    let mut theta = [0u8; Equaliser::BLOCK as usize];
-    station::run::run(
-        e,
-        &m[..n],
-        &gains[..n],
-        &entries[..n],
+    let block = Block {
+        m: &m[..n],
+        gains: &gains[..n],
+        entries: &entries[..n],
+    };
+    let mut z = [0i32; BLOCK];
+    let mut theta = [0u8; BLOCK];
+    let mut outputs = Outputs {
         y,
         xi,
         decision,
-        &mut z[..n],
-        &mut theta[..n],
-    )
+        z: &mut z[..n],
+        theta: &mut theta[..n],
+    };
+    station::run::run(e, block, &mut outputs)
 }
 
 // The lines of a block, or the line of its refusal.
@@ -51,28 +57,17 @@ pub fn block_text(t: &[u8], e: Equaliser, i: usize, at: usize, out: &mut [u8]) -
     requires { Blockable t.now e i at out.old }
     ensures { AddedIs t.now e i at result out.old out.new }
 {
-    let n = e.n as usize;
+    let n = usize::from(e.n);
     let first = i * n;
-    let mut y = [0i32; Equaliser::BLOCK as usize];
-    let mut xi = [0u8; Equaliser::BLOCK as usize];
-    let mut decision = [0i8; Equaliser::BLOCK as usize];
-    let a = run_block(t, e, first, &mut y[..n], &mut xi[..n], &mut decision[..n]);
-    let number = a.number;
-    let state = a.state;
-    if number != 0 {
-        let end = super::line::stop_line(number, i as u32, at, out);
-        return Added {
-            number: number,
-            end: end,
-            state: state,
-        };
-    }
-    let end = super::line::lines(first as u32, &y[..n], &xi[..n], &decision[..n], at, out);
-    Added {
-        number: 0,
-        end: end,
-        state: state,
-    }
+    let mut y = [0i32; BLOCK];
+    let mut xi = [0u8; BLOCK];
+    let mut decision = [0i8; BLOCK];
+    let next = run_block(t, e, first, &mut y[..n], &mut xi[..n], &mut decision[..n]);
+    let end = match next {
+        Ok(_) => lines(first as u32, &y[..n], &xi[..n], &decision[..n], at, out),
+        Err(refusal) => stop_line(refusal, i as u32, at, out),
+    };
+    Added { next, end }
 }
 
 // The blocks one after the other, up to a refusal.
@@ -80,19 +75,15 @@ pub fn all_blocks(t: &[u8], e: Equaliser, out: &mut [u8]) -> usize
     requires { Traceable t.now e out.old }
     ensures { TextAt 0 (text_from t.now (count_in t.now) 0 e) out.old result out.new }
 {
-    let count = trace_layout::read::count_in(t);
     let mut state = e;
-    let mut at: usize = 0;
-    let mut i: usize = 0;
-    while i < count {
-        let r = block_text(t, state, i, at, out);
-        at = r.end;
-        if r.number != 0 {
-            return at;
+    let mut at = 0;
+    for i in 0..trace_layout::read::count_in(t) {
+        let added = block_text(t, state, i, at, out);
+        at = added.end;
+        match added.next {
+            Ok(next) => state = next,
+            Err(_) => return at,
         }
-        let next = r.state;
-        state = next;
-        i += 1;
     }
     at
 }

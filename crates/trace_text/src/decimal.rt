@@ -36,7 +36,7 @@ pub fn signed_decimal(z: i32, at: usize, out: &mut [u8]) -> usize
     requires { at + length (signed_decimal z) ≤ length out.old }
     ensures { TextAt at (signed_decimal z) out.old result out.new }
 {
-    let size = numbers::bit_length::magnitude(z as i64) as u32;
+    let size = z.unsigned_abs();
     if z < 0 {
         out[at] = b'-';
         decimal(size, at + 1, out)

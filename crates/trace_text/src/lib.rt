@@ -5,6 +5,7 @@ ghost use Rattle.trace_text.specs.Text.{trace_text};
 ghost use Rattle.trace_text.specs.TextFront.{TextFront};
 
 use state::equaliser::Equaliser;
+use state::refusal::Refusal;
 use trace_layout::read::{settings_in, well_formed};
 
 pub mod blocks;
@@ -17,13 +18,10 @@ pub fn text(trace: &[u8], out: &mut [u8; limits::TEXT]) -> usize
     ensures { TextFront (trace_text trace.now) out.old result out.new }
 {
     if !well_formed(trace) {
-        return line::stop_line(8, 0, 0, out);
+        return line::stop_line(Refusal::Bytes, 0, 0, out);
     }
-    let a = Equaliser::set_up(settings_in(trace));
-    let number = a.number;
-    if number != 0 {
-        return line::stop_line(number, 0, 0, out);
+    match Equaliser::set_up(settings_in(trace)) {
+        Ok(e) => blocks::all_blocks(trace, e, out),
+        Err(refusal) => line::stop_line(refusal, 0, 0, out),
     }
-    let e = a.state;
-    blocks::all_blocks(trace, e, out)
 }

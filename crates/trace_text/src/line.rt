@@ -1,9 +1,11 @@
 // The lines of a trace, in lent bytes from a place on. Each function answers where its text ends.
 ghost use Rattle.std.specs.Prelude.{◌+◌, ◌*◌, ◌^◌, ◌≤◌, ◌<◌, length};
+ghost use Rattle.state.specs.Refusal.{number_of};
 ghost use Rattle.trace_text.specs.Text.{field, line, stop_line, lines};
 ghost use Rattle.trace_text.specs.Calls.{line_limit, TextAt, Printable, AllPrintable};
 
 use super::decimal::signed_decimal;
+use state::refusal::Refusal;
 
 // A number and the byte after it.
 fn field(z: i32, last: u8, at: usize, out: &mut [u8]) -> usize
@@ -22,8 +24,8 @@ pub fn line(place: u32, y: i32, xi: u8, decision: i8, at: usize, out: &mut [u8])
 {
     let a = field(place as i32, b' ', at, out);
     let b = field(y, b' ', a, out);
-    let c = field(xi as i32, b' ', b, out);
-    field(decision as i32, b'\n', c, out)
+    let c = field(i32::from(xi), b' ', b, out);
+    field(i32::from(decision), b'\n', c, out)
 }
 
 // A word.
@@ -31,21 +33,18 @@ pub fn word(text: &[u8], at: usize, out: &mut [u8]) -> usize
     requires { at + length text.now ≤ length out.old }
     ensures { TextAt at text.now out.old result out.new }
 {
-    let mut i: usize = 0;
-    while i < text.len() {
-        out[at + i] = text[i];
-        i += 1;
-    }
-    at + i
+    let end = at + text.len();
+    out[at..end].copy_from_slice(text);
+    end
 }
 
 // The line of a refusal.
-pub fn stop_line(number: u8, block: u32, at: usize, out: &mut [u8]) -> usize
-    requires { (number ≤ 9) × (block < 2 ^ 16) × (at + line_limit ≤ length out.old) }
-    ensures { TextAt at (stop_line number block) out.old result out.new }
+pub fn stop_line(refusal: Refusal, block: u32, at: usize, out: &mut [u8]) -> usize
+    requires { (block < 2 ^ 16) × (at + line_limit ≤ length out.old) }
+    ensures { TextAt at (stop_line (number_of refusal) block) out.old result out.new }
 {
     let a = word(b"stop ", at, out);
-    let b = field(number as i32, b' ', a, out);
+    let b = field(i32::from(u8::from(refusal)), b' ', a, out);
     field(block as i32, b'\n', b, out)
 }
 
@@ -55,10 +54,8 @@ pub fn lines(place: u32, y: &[i32], xi: &[u8], decision: &[i8], at: usize, out: 
     ensures { TextAt at (lines place y.now xi.now decision.now (length y.now)) out.old result out.new }
 {
     let mut end = at;
-    let mut i: usize = 0;
-    while i < y.len() {
-        end = line(place + i as u32, y[i], xi[i], decision[i], end, out);
-        i += 1;
+    for (i, y) in y.iter().enumerate() {
+        end = line(place + i as u32, *y, xi[i], decision[i], end, out);
     }
     end
 }
