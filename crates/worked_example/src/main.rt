@@ -1,57 +1,42 @@
 #![tactic(auto)]
 
 // Sets a station up, runs two blocks and writes the image of the state in hexadecimal.
-ghost use Rattle.std.specs.Prelude.{◌<◌};
-
 use one_sample::{IMAGE, run_sample};
 use state::equaliser::Equaliser;
+use state::refusal::Refusal;
 use std::io::Print;
 use steps::settings::Settings;
 
-const LAST: usize = IMAGE - 1;
-
-// A block of one sample of 16384.
-fn block(e: Equaliser, entry: i8) -> Equaliser {
-    let r = run_sample(e, 16384, entry);
-    let answer = r.answer;
-    answer.state
-}
-
-fn digit(d: u8) -> u8
-    requires { d < 16 }
-{
-    if d < 10 { 48 + d } else { 55 + d }
-}
-
-// A byte in two digits, with a space or the line's end after them.
-fn put(rt: &impl Print, b: u8, after: u8) {
-    let text = [digit(b / 16), digit(b % 16), after];
-    let _ = rt.write_all(&text);
-}
-
-fn put_all(rt: &impl Print, image: &[u8; IMAGE]) {
-    for i in 0..LAST {
-        put(rt, image[i], b' ');
-    }
-    put(rt, image[LAST], b'\n');
-}
-
-fn run(rt: &impl Print) {
-    let k = Settings {
+// The image after two blocks of one sample of 16384, the first of which trains.
+fn image() -> Result<[u8; IMAGE], Refusal> {
+    let fresh = Equaliser::set_up(Settings {
         p: 1,
         q: 1,
         N: 1,
         r: 0,
         L: 0,
         M: 67108864,
-    };
-    let fresh = Equaliser::set_up(k);
-    let first = block(fresh.state, 1);
-    let second = block(first, 0);
+    })?;
+    let first = run_sample(fresh, 16384, 1).next?;
+    let second = run_sample(first, 16384, 0).next?;
     let mut image = [0u8; IMAGE];
-    let saved = image::save::save(second, &mut image);
-    if saved.length == IMAGE {
-        put_all(rt, &image);
+    image::save::save(second, &mut image)?;
+    Ok(image)
+}
+
+// The bytes in two digits each, with a space between.
+fn put(rt: &impl Print, image: &[u8]) {
+    let mut before = "";
+    for byte in image {
+        let _ = print!(rt; "{before}{byte:02X}");
+        before = " ";
+    }
+    let _ = println!(rt;);
+}
+
+fn run(rt: &impl Print) {
+    if let Ok(image) = image() {
+        put(rt, &image);
     }
 }
 
