@@ -80,7 +80,14 @@ fn reach(r: u32, delay: usize, symbols: &[i16]) -> u32
 }
 
 // Steps 1 to 3: ν, Y and ξ.
-pub fn filter_output(r: u32, delay: usize, e: BlockExponents, psi: u32, weights: &Weights, data: Data) -> Output
+pub fn filter_output(
+    r: u32,
+    delay: usize,
+    e: BlockExponents,
+    psi: u32,
+    weights: &Weights,
+    data: Data,
+) -> Output
     requires { FilterBounds e psi weights.now.forward.now weights.now.back.now data.samples.now data.symbols.now × SymbolBounds r delay data.symbols.now }
     ensures { OutputIs e psi weights.now.forward.now weights.now.back.now data.entry.samples.now data.entry.symbols.now result }
 {
@@ -142,12 +149,30 @@ pub fn update(
 }
 
 // Steps 6 and 7: the new weights and the new ψ.
-pub fn change(m: u32, e: BlockExponents, psi: u32, h: Output, j: Decision, weights: &mut Weights, data: Data) -> u32
+pub fn change(
+    m: u32,
+    e: BlockExponents,
+    psi: u32,
+    h: Output,
+    j: Decision,
+    weights: &mut Weights,
+    data: Data,
+) -> u32
     requires { ChangeBounds m e psi h j weights.old.forward.now weights.old.back.now data.samples.now data.symbols.now }
     ensures lists { SameLists weights.old weights.new }
     ensures changed { ChangedIs m e psi h j weights.old.forward.now weights.old.back.now data.entry.samples.now data.entry.symbols.now result weights.new.forward.now weights.new.back.now }
 {
-    let ahead = update(weights.forward, data.samples, m, j.z, psi, j.theta, e.s, e.gamma30, 0);
+    let ahead = update(
+        weights.forward,
+        data.samples,
+        m,
+        j.z,
+        psi,
+        j.theta,
+        e.s,
+        e.gamma30,
+        0,
+    );
     let behind = update(
         weights.back,
         data.symbols,
