@@ -16,20 +16,6 @@ use Rattle.filter.specs.Calls.{LargestBitsAt}
 use Rattle.filter.proofs.DelayLaws.{largest_bits_at_take}
 use Rattle.block.specs.Line.{place, newest, started, added}
 
--- ---- a line that a loop writes: f i when i are written, of n
-
-pub record Placed (f : ℕ → List ℤ) (n i : ℕ) (line : List ℤ) : Type 0 where
-  pub long : length line ≡ line_length
-  pub within : i ≤ n
-  pub is : line ≡ f i
-
-module _ {f : ℕ → List ℤ} {n : ℕ} where
-  pub placed_next : {i : ℕ} {line : List ℤ} → Placed f n i line → i < n → (j : ℕ) (x y : ℤ) → x ≡ y → set (f i) j y ≡ f (suc i) → Placed f n (i + 1) (set line j x)
-  placed_next {i = i} {line = line} p h j x y e s = rw (add-one i) (record { long = length-set line j x ∙ p.long; within = h; is = ap₂ (λ (t : List ℤ) (z : ℤ). set t j z) p.is e ∙ s })
-
-  pub placed_all : {i : ℕ} {line : List ℤ} → Placed f n i line → n ≤ i → line ≡ f n
-  placed_all p h = p.is ∙ ap f (le_antisymm p.within h)
-
 -- ---- the old ones in their places
 
 pub started_length : (old line : List ℤ) → length line ≡ line_length → length old ≤ tap_limit → length (started old line) ≡ line_length
@@ -67,9 +53,9 @@ pub added_none : (new line : List ℤ) → line ≡ added 0 new line
 unfolding added
 added_none new line = refl
 
-pub added_next : (n : ℕ) (new line : List ℤ) → set (added n new line) (place n) (get_or new n (pos 0)) ≡ added (suc n) new line
+pub added_next : (n : ℕ) (new line : List ℤ) {now : List ℤ} {x : ℤ} → now ≡ added n new line → x ≡ get_or new n (pos 0) → set now (place n) x ≡ added (n + 1) new line
 unfolding added
-added_next n new line = refl
+added_next n new line e q = rw (add-one n, e, q)
 
 -- ---- the newest, when one more is added
 

@@ -14,7 +14,7 @@ use borrow.Author.Tests.{le-leb}
 use Rattle.laws.specs.Loops.{Written, written_none, written_next}
 use Rattle.laws.specs.Sums.{each_at}
 use Rattle.laws.specs.Values.{values_length, values_at}
-use Rattle.steps.specs.Limits.{tap_limit, block_limit, exponent_limit}
+use Rattle.steps.specs.Limits.{tap_limit, block_limit, symbol_limit, exponent_limit}
 use Rattle.steps.specs.Sound.{line_length}
 use Rattle.steps.specs.Settings.{Settings, is_entry}
 use Rattle.filter.specs.Sample.{FilterState}
@@ -98,24 +98,23 @@ module _ {k : Settings} {o : Memory} {i : Block} {e : BlockExponents} {ψ : ℕ}
   }
 
   module _ {w : Work} {delay : ℕ} (p : Passed k o i samples l w delay) where
-    fit : Fit k (Γ k o i) (after k o i w.n)
-    fit = fit_after k o i b.sound b.acceptable w.n p.reached.within p.ψ_fits_on
-
-    -- the weights are as many as the taps
-    pub forward_long : length w.forward ≡ k.p
-    forward_long = ap (λ (t : FilterState). length t.forward) p.reached.filter_state_is ∙ fit.forward_long
-
-    pub back_long : length w.back ≡ k.q
-    back_long = ap (λ (t : FilterState). length t.back) p.reached.filter_state_is ∙ fit.back_long
+    -- the delay is one that a step may have
+    pub delay_room : (k.r ≤ symbol_limit) × (delay ≤ line_length)
+    delay_room = (b.sound.within.r_most, omega (arith, p.delay_most, p.reached.within, b.sound.within.N_most))
 
     -- all are done
-    pub finished : k.N ≤ w.n → ProgressedOn k o i samples l (record { count = w.n; psi = w.ψ }) w.forward w.back w.symbols w.outputs
+    pub finished : length entries ≤ w.n → ProgressedOn k o i samples l (record { count = length entries; psi = w.ψ }) w.forward w.back w.symbols w.outputs
     finished h =
-        let last = le_antisymm p.reached.within h in
-        progressed p.reached (last ∙ sym (count_all k o i k.N (ap (ψFits k o i) (sym last) ∙ p.ψ_fits_on)))
+        let long = ap length b.entries_are ∙ b.acceptable.entries_long in
+        let last = le_antisymm p.reached.within (omega arith) in
+        subst (λ (m : ℕ). ProgressedOn k o i samples l (record { count = m; psi = w.ψ }) w.forward w.back w.symbols w.outputs) (last ∙ sym long)
+        (progressed p.reached (last ∙ sym (count_all k o i k.N (ap (ψFits k o i) (sym last) ∙ p.ψ_fits_on))))
 
     -- one more is there
-    module _ (more : w.n < k.N) {entry : ℤ} (q : entry ≡ get_or entries w.n (pos 0)) where
+    module _ (further : w.n < length entries) {entry : ℤ} (q : entry ≡ get_or entries w.n (pos 0)) where
+      more : w.n < k.N
+      more = omega (arith, further, ap length b.entries_are, b.acceptable.entries_long)
+
       entry_is : entry ≡ entry_at k o i w.n
       entry_is = q ∙ ap (λ (t : List ℤ). get_or t w.n (pos 0)) b.entries_are
 
@@ -130,7 +129,7 @@ module _ {k : Settings} {o : Memory} {i : Block} {e : BlockExponents} {ψ : ℕ}
       fit_now = fit_at k o i b.sound b.acceptable w.n more p.ψ_fits_on
 
       room : w.n < block_limit
-      room = omega (arith, b.sound.within.N_most)
+      room = omega (arith, more, b.sound.within.N_most)
 
       pub advanceable : Advanceable k e delay w.n entry samples w.symbols filters
       advanceable = record {
@@ -139,7 +138,7 @@ module _ {k : Settings} {o : Memory} {i : Block} {e : BlockExponents} {ψ : ℕ}
         symbols_long = p.reached.symbols_long;
         ready = rw (filter_state_at_lem, b.exponents.Γ_is, entry_is) (record {
           fit = fit_now;
-          entry_is = each_at (λ (v : ℤ). is_entry k.r v ≡ true) i.entries w.n (pos 0) b.acceptable.entries_are (omega (arith, b.acceptable.entries_long));
+          entry_is = each_at (λ (v : ℤ). is_entry k.r v ≡ true) i.entries w.n (pos 0) b.acceptable.entries_are (omega (arith, more, b.acceptable.entries_long));
           forward_scale = b.exponents.s_is;
           back_scale = b.exponents.sb_is;
         });
@@ -182,7 +181,7 @@ module _ {k : Settings} {o : Memory} {i : Block} {e : BlockExponents} {ψ : ℕ}
         reached : Reached k o i samples l work
         unfolding block_outputs
         reached = record {
-          within = omega arith;
+          within = omega (arith, more);
           symbols_long = long;
           filter_state_is = rw (add-one w.n) filter_state_next;
           y_written = written_next p.reached.y_written (pos 0) _ (rw values_length more) (rw b.outputs_long.y_long more) (same.y_as ∙ step.y ∙ sym (values_at _ (pos 0) k.N w.n more));
@@ -223,29 +222,3 @@ module _ {k : Settings} {o : Memory} {i : Block} {samples : List ℤ} {l : Outpu
     bmax = eB;
     outputs_are = p.outputs_are;
   }
-
--- ---- place n of a list of N elements
-
--- in bytes, of elements of this size
-pub place_fits : (n size : ℕ) → n < block_limit → size < 5 → Fits w64 (n * size)
-place_fits n size h k = record { fits = omega (arith, mul-le-mul h k) }
-
-pub place_within : (n : ℕ) → place n < block_limit
-place_within n = omega arith
-
--- of a list that is written
-pub within : {A : Type 0} {new old now : List A} {n i : ℕ} → n < i → length old ≡ i → Written new old n now → n < length now
-within h e w = omega (arith, w.long)
-
--- of a line
-pub line_place : (n : ℕ) (line : List ℤ) → length line ≡ line_length → place n < length line
-line_place n line e = omega arith
-
-pub delay_fits : {delay n : ℕ} → n < block_limit → delay ≤ tap_limit + n → delay ≤ line_length
-delay_fits h m = omega arith
-
-pub next_fits : (n : ℕ) → n < block_limit → Fits w64 (n + 1)
-next_fits n h = record { fits = omega arith }
-
-pub fewer : (m n : ℕ) → n < m → m - (n + 1) < m - n
-fewer m n h = omega arith

@@ -1,21 +1,25 @@
 -- The run of a block before its first sample: what the calls ask, and what they promise by the definitions.
 use mathlib.Core.Path.{◌≡◌, refl, sym, ap, ap₂, ◌∙◌}
 use mathlib.Core.List.{List, [], ◌∷◌, ◌++◌, map, map-append}
-use Prim.Native.Nat.{ℕ, zero, suc, ◌+◌, ◌≤◌, ◌<◌}
+use Prim.Native.Nat.{ℕ, zero, suc, ◌+◌, ◌^◌, ◌≤◌, ◌<◌, max}
 use native.Mathlib.Omega.{arith}
 use lib.ListN.{length, get_or, take, drop, length-append, length-map}
 use lib.IntN.{ℤ, pos}
 use Rattle.laws.specs.Sums.{Each, each_append}
+use Rattle.numbers.specs.BitLength.{bit_length}
 use Rattle.numbers.specs.Cut.{rescale}
+use Rattle.numbers.proofs.BitLengthLaws.{bit_length_le}
 use Rattle.numbers.proofs.CutLaws.{rescale_zero}
 use Rattle.steps.specs.Limits.{tap_limit, block_limit}
-use Rattle.steps.specs.Sound.{line_length, Storable}
-use Rattle.steps.specs.Settings.{Settings}
-use Rattle.steps.specs.Fir.{push}
-use Rattle.block.specs.Block.{Block, Memory, Outputs, stored_all, newb, new_b, Γ, stored, old, start, after}
+use Rattle.steps.specs.Sound.{line_length, Storable, or_all}
+use Rattle.steps.specs.Settings.{Settings, scale_forward, scale_back}
+use Rattle.steps.specs.Fir.{push, magnitudes}
+use Rattle.block.specs.Block.{Block, Memory, Outputs, received_all, stored_all, newb, new_b, Γ, stored, old, start, after}
 use Rattle.block.specs.Line.{place, newest, started, added}
-use Rattle.block.specs.Calls.{Startable, BlockExponentsIs, ExponentsOf, FillBounds, filled, SampleLine, Runnable, BegunOn}
+use Rattle.block.specs.Calls.{block_length, Startable, BlockExponentsIs, ExponentsOf, FillBounds, filled, SampleLine, Runnable, BegunOn}
 use Rattle.filter.specs.declared.sample.BlockExponents.{BlockExponents}
+use Rattle.filter.proofs.SampleFirs.{scale_most}
+use Rattle.block.proofs.ReceivedLaws.{received_largest_bits}
 use Rattle.block.proofs.BlockStored.{receivable, store_bounds, old_storable}
 use Rattle.block.proofs.BlockWindow.{after_next}
 use Rattle.block.proofs.LineLaws.{started_length, started_old, added_length, added_old, added_at, newest_next}
@@ -35,6 +39,22 @@ module _ {k : Settings} {o : Memory} {i : Block} {window₀ : List ℤ} {l : Out
 
   pub symbols_most : length o.symbols ≤ tap_limit
   symbols_most = omega (arith, run.sound.symbols_long, run.sound.within.q_most)
+
+-- ---- the exponents
+
+module _ {k : Settings} {was : ℕ} {m : List ℤ} {gains : List ℕ} (h : Startable k was m gains)
+    {seen b bmax : ℕ} (n : seen ≡ or_all (magnitudes (received_all m gains))) (e : b ≡ bit_length seen) (x : bmax ≡ max b was) where
+  pub exponent_most : seen < 2 ^ 64 → k.r + bmax + scale_forward k < 2 ^ 32
+  exponent_most l = omega (arith, bit_length_le seen 64 (omega arith), scale_most k.p h.within.p_most, h.was_most, h.within.r_most)
+
+  pub exponents_are : {s sb r : ℕ} → s ≡ scale_forward k → sb ≡ scale_back k → r ≡ k.r → BlockExponentsIs k was m gains (record { s = s; sb = sb; b = b; bmax = bmax; gamma30 = r + bmax + s })
+  exponents_are es eb er = record { s = es; sb = eb; b = length_is; bmax = larger; exponent = rw (es, er, larger) }
+    where
+      length_is : b ≡ block_length m gains
+      length_is = e ∙ ap bit_length n ∙ received_largest_bits m gains
+
+      larger : bmax ≡ max (block_length m gains) was
+      larger = x ∙ ap (λ (y : ℕ). max y was) length_is
 
 pub exponents_of : {k : Settings} {o : Memory} {i : Block} {e : BlockExponents} → BlockExponentsIs k o.b i.samples i.gains e → ExponentsOf k o i e
 unfolding Γ new_b newb

@@ -45,7 +45,7 @@ pub fn store(m: &[i16], gains: &[u8], shift: u32, out: &mut [i16])
 {
     let up = DATA_UNIT.saturating_sub(shift);
     let down = shift.saturating_sub(DATA_UNIT);
-    for (x, (m, g)) in out.iter_mut().zip(m.iter().zip(gains)) {
-        *x = shifted(received(*m, *g), up, down);
+    for (i, x) in out.iter_mut().enumerate() {
+        *x = shifted(received(m[i], gains[i]), up, down);
     }
 }
