@@ -3,18 +3,12 @@ ghost use Rattle.std.specs.Prelude.{◌≡◌, length};
 ghost use Rattle.trace_layout.specs.Trace.{trace_header_length, trace_header};
 
 use steps::settings::Settings;
-use words::write::{put16, put32};
 
 pub fn put_header(k: Settings, count: u32, out: &mut [u8])
     requires { length out.old ≡ trace_header_length }
     ensures { out.new ≡ trace_header k count }
 {
-    out[0] = k.p;
-    out[1] = k.q;
-    out[2] = k.N;
-    out[3] = k.r;
-    out[4] = k.L;
-    out[5] = 0;
-    put16(count, 6, out);
-    put32(k.M, 8, out);
+    out[..6].copy_from_slice(&[k.p, k.q, k.N, k.r, k.L, 0]);
+    out[6..8].copy_from_slice(&count.to_le_bytes()[..2]);
+    out[8..12].copy_from_slice(&k.M.to_le_bytes());
 }
