@@ -12,8 +12,6 @@ use Rattle.laws.specs.Lists.{and_left, and_right}
 use Rattle.words.specs.Words.{byte_at}
 use Rattle.trace_layout.specs.Trace.{trace_header_length, trace_limit, samples_in, well_formed}
 
--- ---- the tests of a well-formed trace
-
 module _ (t : List ℕ) where
   -- one after the other
   pub well_short : length t < trace_header_length → well_formed t ≡ false
@@ -42,10 +40,3 @@ module _ (t : List ℕ) where
 
     pub well_long : length t ≡ trace_header_length + 4 * samples_in t
     well_long = eqb-true (length t) _ (and_right (leb trace_header_length (length t) && leb (length t) trace_limit) _ lengths)
-
--- the samples of a header are few
-pub few : (b c : ℕ) → b < 256 → c < 65536 → b * c ≤ 255 * 65535
-few b c h k = omega (arith, mul-le-mul_right c le)
-  where
-    le : b ≤ 255
-    le = omega arith

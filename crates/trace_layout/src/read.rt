@@ -33,35 +33,32 @@ fn samples(t: &[u8]) -> usize
     requires { trace_header_length ≤ length t.now }
     ensures { result ≡ samples_in t.now }
 {
-    (t[2] as usize) * count_in(t)
+    usize::from(t[2]) * count_in(t)
 }
 
 // m, gains and training entries of a block whose first sample has this place. The entries lie behind all samples.
+#[tactic(auto, using(crate::proofs::ReadLaws::well_long))]
 pub fn block(t: &[u8], first: usize, m: &mut [i16], gains: &mut [u8], entries: &mut [i8])
     requires { Readable t.now first m.old gains.old entries.old }
     ensures { ReadIs t.now first (length m.old) m.new gains.new entries.new }
 {
     let start = TRACE_HEADER + 3 * samples(t);
-    let mut i: usize = 0;
-    while i < m.len() {
+    // Three lists are written in step: one place in all of them is plainer than zips.
+    for i in 0..m.len() {
         let n = first + i;
         let at = TRACE_HEADER + 3 * n;
         m[i] = i16::from_le_bytes([t[at], t[at + 1]]);
         gains[i] = t[at + 2];
         entries[i] = t[start + n].cast_signed();
-        i += 1;
     }
 }
 
 // Whether the length is right and byte 5 is 0.
+#[tactic(auto, unfolding(crate::specs::Trace::well_formed))]
 pub fn well_formed(t: &[u8]) -> bool
     ensures { result ≡ well_formed t.now }
 {
-    if t.len() < TRACE_HEADER {
-        false
-    } else if TRACE < t.len() {
-        false
-    } else {
-        t.len() == TRACE_HEADER + 4 * samples(t) && t[5] == 0
-    }
+    (TRACE_HEADER..=TRACE).contains(&t.len())
+        && t.len() == TRACE_HEADER + 4 * samples(t)
+        && t[5] == 0
 }

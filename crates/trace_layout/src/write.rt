@@ -8,12 +8,7 @@ pub fn put_header(k: Settings, count: u32, out: &mut [u8])
     requires { length out.old ≡ trace_header_length }
     ensures { out.new ≡ trace_header k count }
 {
-    out[0] = k.p;
-    out[1] = k.q;
-    out[2] = k.N;
-    out[3] = k.r;
-    out[4] = k.L;
-    out[5] = 0;
+    out[..6].copy_from_slice(&[k.p, k.q, k.N, k.r, k.L, 0]);
     out[6..8].copy_from_slice(&count.to_le_bytes()[..2]);
     out[8..12].copy_from_slice(&k.M.to_le_bytes());
 }
