@@ -1,12 +1,12 @@
 -- What is written is read back.
 use mathlib.Core.Path.{◌≡◌, refl, sym, ap, ap₂, ◌∙◌}
 use mathlib.Core.Bool.{true}
-use mathlib.Core.List.{List, [], ◌∷◌, ◌++◌, append_assoc, append-nil}
+use mathlib.Core.List.{List, [], ◌∷◌, ◌++◌, append_assoc}
 use Prim.Native.Nat.{ℕ, suc, ◌+◌, ◌*◌, ◌^◌, ◌≤◌, ◌<◌}
 use native.Mathlib.Omega.{arith}
 use lib.Dec.{eqb}
-use lib.ListN.{length, get_or, take, length-append, drop_of_length-le, get_or-append}
-use lib.Seq.{sets, sets-eq, length-sets, lt-length-sets, get_or-append-add}
+use lib.ListN.{length, get_or, length-append, get_or-append}
+use lib.Seq.{get_or-append-add}
 use lib.IntN.{ℤ, nat_abs}
 use mir.Syntax.{w8, w16}
 use mir.Val.{of_z, to_z}
@@ -27,7 +27,7 @@ use Rattle.trace_layout.proofs.ReadLaws.{well_tested}
 counts_length : (n m : ℕ) → length (bytes 2 n ++ bytes 4 m) ≡ 6
 counts_length n m = length-append (bytes 2 n) (bytes 4 m) ∙ omega (arith, bytes_length 2 n, bytes_length 4 m)
 
-pub header_length : (k : Settings) (count : ℕ) → length (trace_header k count) ≡ trace_header_length
+header_length : (k : Settings) (count : ℕ) → length (trace_header k count) ≡ trace_header_length
 header_length k count = ap (λ (n : ℕ). suc (suc (suc (suc (suc (suc n)))))) (counts_length _ k.M)
 
 -- ---- a whole trace

@@ -43,7 +43,7 @@ pub fn block(t: &[u8], first: usize, m: &mut [i16], gains: &mut [u8], entries: &
     ensures { ReadIs t.now first (length m.old) m.new gains.new entries.new }
 {
     let start = TRACE_HEADER + 3 * samples(t);
-    // Three lists are written in step: one place in all of them is plainer than zips.
+    // Three lists are written in step: a place in each is plainer than two zips.
     for i in 0..m.len() {
         let n = first + i;
         let at = TRACE_HEADER + 3 * n;
