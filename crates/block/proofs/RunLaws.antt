@@ -23,6 +23,7 @@ use Rattle.filter.specs.Calls.{LargestBitsAt, next_delay, SampleResultIs, filter
 use Rattle.filter.specs.declared.sample.SampleResult.{SampleResult}
 use Rattle.block.specs.Block.{Block, Memory, Outputs, newb, new_b, Γ, after, at, ψFits, entry_at, block_outputs, outputs_of}
 use Rattle.block.specs.Calls.{count, outputs_up_to, filter_state_after, filter_state_at, Advanceable, BegunOn, ProgressedOn, BlockResultIs}
+use Rattle.block.specs.Sound.{Sound}
 use Rattle.block.specs.Line.{place, newest}
 use Rattle.filter.specs.declared.sample.BlockExponents.{BlockExponents}
 use Rattle.block.specs.declared.run.Progress.{Progress}
@@ -210,12 +211,12 @@ module _ {k : Settings} {o : Memory} {i : Block} {e : BlockExponents} {ψ : ℕ}
 
 module _ {k : Settings} {o : Memory} {i : Block} {samples : List ℤ} {l : Outputs} {r : Progress} {forward back symbols : List ℤ} {l' : Outputs}
     (p : ProgressedOn k o i samples l r forward back symbols l') where
-  pub count_room : k.N ≤ block_limit → r.count ≤ block_limit
-  count_room h = omega (arith, p.count_is, count_most k o i k.N)
+  pub count_room : Sound k o → r.count ≤ block_limit
+  count_room s = omega (arith, p.count_is, count_most k o i k.N, s.within.N_most)
 
-  pub block_result : {window past : List ℤ} {p' q' : ℕ} → p' ≡ k.p → q' ≡ k.q → window ≡ newest p' r.count samples → past ≡ newest q' r.count symbols →
+  pub block_result : {window past : List ℤ} {p' q' : ℕ} → window ≡ newest p' r.count samples → past ≡ newest q' r.count symbols → p' ≡ k.p → q' ≡ k.q →
       {b bmax : ℕ} → b ≡ newb k o i → bmax ≡ new_b k o i → BlockResultIs k o i l (record { psi = r.psi; b = b; bmax = bmax }) forward back window past l'
-  block_result ep eq ew es eb eB = record {
+  block_result ew es ep eq eb eB = record {
     filter_state_is = ap₂ (λ (a b : List ℤ). filter_state_of forward back a b r.psi) (ew ∙ ap (λ (m : ℕ). newest m r.count samples) ep) (es ∙ ap (λ (m : ℕ). newest m r.count symbols) eq)
         ∙ p.filter_state_is;
     b = eb;
