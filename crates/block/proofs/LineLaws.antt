@@ -4,7 +4,7 @@ use mathlib.Core.List.{List, ◌∷◌, ◌++◌, append_assoc}
 use mathlib.Core.Logic.{◌⊎◌, inl, inr}
 use Prim.Native.Nat.{ℕ, zero, suc, ◌+◌, ◌-◌, ◌≤◌, ◌<◌}
 use native.Mathlib.Omega.{arith}
-use native.Mathlib.Nat.{le_antisymm, eq-or-lt_of_le, add-sub_cancel_left}
+use native.Mathlib.Nat.{eq-or-lt_of_le, add-sub_cancel_left}
 use native.Mathlib.Numerals.{add-one}
 use lib.ListN.{length, get_or, take, drop, set, length-set, length-drop}
 use lib.Seq.{length-take-le, length-paste, take-length, take-take, take_at, take-append_seam, drop_at, drop-cons, drop-set-lt, get_or-set_same, get_or-set_other}

@@ -15,12 +15,12 @@ use Rattle.steps.specs.Sound.{line_length, Storable, or_all}
 use Rattle.steps.specs.Settings.{Settings, scale_forward, scale_back}
 use Rattle.steps.specs.Fir.{push, magnitudes}
 use Rattle.block.specs.Block.{Block, Memory, Outputs, received_all, stored_all, newb, new_b, Γ, stored, old, start, after}
-use Rattle.block.specs.Line.{place, newest, started, added}
+use Rattle.block.specs.Line.{place, newest, started}
 use Rattle.block.specs.Calls.{block_length, Startable, BlockExponentsIs, ExponentsOf, FillBounds, filled, SampleLine, Runnable, BegunOn}
 use Rattle.filter.specs.declared.sample.BlockExponents.{BlockExponents}
 use Rattle.filter.proofs.SampleFirs.{scale_most}
 use Rattle.block.proofs.ReceivedLaws.{received_largest_bits}
-use Rattle.block.proofs.BlockStored.{receivable, store_bounds, old_storable}
+use Rattle.block.proofs.BlockStored.{store_bounds, old_storable}
 use Rattle.block.proofs.BlockWindow.{after_next}
 use Rattle.block.proofs.LineLaws.{started_length, started_old, added_length, added_old, added_at, newest_next}
 
@@ -30,14 +30,7 @@ module _ {k : Settings} {o : Memory} {i : Block} {window₀ : List ℤ} {l : Out
       ap length run.window_is ∙ length-append o.samples (pos 0 ∷ [])
       ∙ omega (arith, run.sound.samples_long, run.sound.within.p_least)
 
-  pub startable : Startable k o.b i.samples i.gains
-  startable = record {
-    within = run.sound.within;
-    was_most = omega (arith, run.sound.b_most, run.sound.B_most);
-    receivable = receivable k o i run.acceptable;
-  }
-
-  pub symbols_most : length o.symbols ≤ tap_limit
+  symbols_most : length o.symbols ≤ tap_limit
   symbols_most = omega (arith, run.sound.symbols_long, run.sound.within.q_most)
 
 -- a line before anything stands in it

@@ -49,7 +49,14 @@ pub fn begin(k: Settings, was: u32, m: &[i16], gains: &[u8]) -> BlockExponents
 }
 
 // The samples of a block as stored, and in a line before the old ones.
-fn fill(m: &[i16], gains: &[u8], shift: u32, old: &[i16], stored: &mut [i16], line: &mut [i16; LINE])
+fn fill(
+    m: &[i16],
+    gains: &[u8],
+    shift: u32,
+    old: &[i16],
+    stored: &mut [i16],
+    line: &mut [i16; LINE],
+)
     requires { FillBounds m.now gains.now shift old.now stored.old line.old }
     ensures { (stored.new ≡ stored_all shift m.now gains.now) × (line.new ≡ filled shift m.now gains.now old.now line.old) }
 {
