@@ -37,8 +37,8 @@ pub fn begin(k: Settings, was: u32, m: &[i16], gains: &[u8]) -> BlockExponents
     requires { Startable k was m.now gains.now }
     ensures { BlockExponentsIs k was m.now gains.now result }
 {
-    let s = scale_count(k.p as usize);
-    let sb = scale_count(k.q as usize);
+    let s = scale_count(usize::from(k.p));
+    let sb = scale_count(usize::from(k.q));
     let b = bit_length(u64::from(stored::received_bits(m, gains)));
     let bmax = b.max(was);
     BlockExponents {
@@ -84,8 +84,8 @@ fn advance(
     ensures sample { SampleResultIs k e.gamma30 (filter_state_at k n weights.old.forward.now weights.old.back.now samples.now symbols.old psi) entry result weights.new.forward.now weights.new.back.now (newest (suc k.q) (suc n) symbols.new) }
 {
     let first = BLOCK - 1 - n;
-    let oldest = first + (k.p as usize);
-    let last = first + (k.q as usize) + 1;
+    let oldest = first + usize::from(k.p);
+    let last = first + usize::from(k.q) + 1;
     sample::step(
         k,
         e,
