@@ -95,8 +95,9 @@ fn adapt_all(few: bool, w: &mut [i16], a: &[i16], j: i32, t: u32) -> u16
     let k = i64::from(j).raise(DATA_UNIT - t);
     let factor = j.unsigned_abs();
     let mut seen = 0;
-    for (w, a) in w.iter_mut().zip(a) {
-        *w = adapted_by(few, j, k, factor, t, *w, *a);
+    // By index: what is written through a zip of iter_mut is not known after it.
+    for (i, w) in w.iter_mut().enumerate() {
+        *w = adapted_by(few, j, k, factor, t, *w, a[i]);
         seen |= w.unsigned_abs();
     }
     seen
