@@ -12,7 +12,7 @@ use mir.Syntax.{w16, w64}
 use mir.Val.{SFits}
 use mir.Facts.{sfits_widen}
 use Rattle.laws.specs.Integers.{*ℤ_assoc}
-use Rattle.laws.specs.Loops.{Written, written_none, written_read, written_next, written_all}
+use Rattle.laws.specs.Loops.{Written, written_none, written_next, written_all}
 use Rattle.laws.specs.Sums.{dot, dot_bound, Each, each_at, each_take, each_weaken}
 use Rattle.laws.specs.Powers.{rises}
 use Rattle.numbers.specs.Cut.{cut, raise}
@@ -71,15 +71,10 @@ pub adapting_none : (K : ℤ) (old a : List ℤ) → Adapting K old a 0 old 0
 adapting_none K old a = record { written = written_none (adapt K old a) old; bits = seen_none (adapt K old a) }
 
 module _ {K : ℤ} {i seen : ℕ} {old now a : List ℤ} (c : Adapting K old a i now seen) where
-  -- what the next weight asks
-  pub adapting_room : {J : ℤ} {t : ℕ} → Adaptable J t old a → i < length old → (Small (get_or now i (pos 0))) × (nat_abs J * nat_abs (get_or a i (pos 0)) < 2 ^ (output_unit - 1 + t))
-  adapting_room {J} s h =
-      rw (written_read c.written (pos 0)) (each_at Small old i (pos 0) s.small h, lt_of_le_of_lt (mul-le-mul_left (nat_abs J) (magnitude_at a i)) s.bound)
-
   -- one weight more
-  pub adapting_next : (x : ℤ) (n : ℕ) → i < length old → i < length a → x ≡ adapted K (get_or now i (pos 0)) (get_or a i (pos 0)) → n ≡ nat_abs x → Adapting K old a (i + 1) (set now i x) (bit_or seen n)
+  pub adapting_next : (x : ℤ) (n : ℕ) → i < length old → i < length a → x ≡ adapted K (get_or old i (pos 0)) (get_or a i (pos 0)) → n ≡ nat_abs x → Adapting K old a (i + 1) (set now i x) (bit_or seen n)
   adapting_next x n h k e f =
-      let is = rw (written_read c.written (pos 0)) at e ∙ sym (adapt_at K old a i h k) in
+      let is = e ∙ sym (adapt_at K old a i h k) in
       record { written = written_next c.written (pos 0) x (omega (arith, adapt_length K old a)) h is; bits = seen_next (adapt K old a) i seen n c.bits (f ∙ ap nat_abs is) }
 
   pub adapting_all : length old ≤ i → (now ≡ adapt K old a) × (seen ≡ or_all (magnitudes now))
@@ -105,6 +100,11 @@ adapt_raise e k (w ∷ ws) (a ∷ b) = ap₂ (λ (y : ℤ) (z : List ℤ). y ∷
   where
     turned : k *ℤ raise a e ≡ raise k e *ℤ a
     turned = sym (*ℤ_assoc k a (pos (2 ^ e))) ∙ sym (raise_mul k a e)
+
+-- what one weight asks
+pub adapt_room : {J : ℤ} {t : ℕ} {w a : List ℤ} → Adaptable J t w a → (i : ℕ) → i < length w →
+    (Small (get_or w i (pos 0))) × (nat_abs J * nat_abs (get_or a i (pos 0)) < 2 ^ (output_unit - 1 + t))
+adapt_room {J} {t} {w} {a} s i h = (each_at Small w i (pos 0) s.small h, lt_of_le_of_lt (mul-le-mul_left (nat_abs J) (magnitude_at a i)) s.bound)
 
 -- where the factor is 0, no weight gains anything
 pub adapt_none : (w a : List ℤ) → adapt (pos 0) w a ≡ w
