@@ -3,8 +3,8 @@ use Rattle.std.proofs.Common.{rules}
 use Rattle.steps.proofs.IncrementLaws.{increment_small}
 use Rattle.steps.proofs.weights.increment.Goals as goal
 
-pub overflow_cast-result-2 : goal.overflow_cast-result-2
-overflow_cast-result-2 c = search (rules, increment_small)
-
 pub returns : goal.returns
 returns c = search (rules, increment_small)
+
+pub overflow_cast-result-2 : goal.overflow_cast-result-2
+overflow_cast-result-2 c = search (rules, increment_small)
