@@ -12,6 +12,8 @@ ghost use Rattle.image.specs.Calls.{Weighed};
 use super::layout::{LEAST_HEADER, Layout, data_place, end_place, layout_of};
 use state::equaliser::Equaliser;
 use state::refusal::Refusal;
+use state::sizes::sizes_fit;
+use state::sound::examined;
 use steps::settings::Settings;
 
 // Signed numbers of two bytes each, at the front of the slots.
@@ -27,6 +29,7 @@ pub fn words_in(bytes: &[u8], n: usize) -> [i16; Equaliser::SLOTS]
 }
 
 // The settings in a header.
+#[tactic(auto, using(words::proofs::LibraryLaws::number_four), unfolding(crate::specs::Load::state_by))]
 fn settings_in(bytes: &[u8]) -> Settings
     requires { least_header ≤ length bytes.now }
     ensures { result ≡ settings (state_in bytes.now) }
@@ -52,6 +55,7 @@ fn weights_in(y: Layout, bytes: &[u8], taps: usize) -> [i16; Equaliser::SLOTS]
 }
 
 // Whether bytes are as long as an image: bytes too short for a header are told first, then a size outside its limits.
+#[tactic(auto, using(crate::proofs::FrameLaws::fit_placed), unfolding(crate::specs::Load::frame_number, crate::specs::Load::state_by))]
 pub fn framed(bytes: &[u8]) -> Result<(), Refusal>
     ensures { number_in result ≡ frame_number bytes.now }
 {
@@ -59,7 +63,7 @@ pub fn framed(bytes: &[u8]) -> Result<(), Refusal>
         return Err(Refusal::Bytes);
     }
     let k = settings_in(bytes);
-    if !state::sizes::sizes_fit(k) {
+    if !sizes_fit(k) {
         return Err(Refusal::Size);
     }
     let taps = usize::from(k.p) + usize::from(k.q);
@@ -71,6 +75,7 @@ pub fn framed(bytes: &[u8]) -> Result<(), Refusal>
 }
 
 // The state in bytes of the right length.
+#[tactic(auto, using(crate::proofs::FrameLaws::few_placed, crate::proofs::FrameLaws::weighed, words::proofs::LibraryLaws::number_four))]
 pub fn state_in(bytes: &[u8]) -> Equaliser
     requires { (least_header ≤ length bytes.now) × (length bytes.now ≡ end_place (layout_of bytes.now) (taps_in bytes.now)) × (taps_in bytes.now ≤ slots) }
     ensures { result ≡ state_in bytes.now }
@@ -95,11 +100,12 @@ pub fn state_in(bytes: &[u8]) -> Equaliser
 }
 
 // The state that bytes hold, or why they are turned down.
+#[tactic(auto, using(state::proofs::RefusalLaws::refusals, crate::proofs::FrameLaws::framed_sound), unfolding(crate::specs::Load::load_number, crate::specs::Load::load_state))]
 pub fn load(bytes: &[u8]) -> Result<Equaliser, Refusal>
     ensures { Load bytes.now (answer_with refused result) }
 {
     framed(bytes)?;
     let e = state_in(bytes);
-    state::sound::examined(e)?;
+    examined(e)?;
     Ok(e)
 }
