@@ -6,13 +6,13 @@ use Prim.Native.Nat.{ℕ, ◌+◌, ◌*◌, ◌-◌, ◌≤◌}
 use native.Mathlib.Omega.{arith}
 use lib.ListN.{length, take, drop}
 use lib.IntN.{ℤ}
-use Rattle.words.specs.Words.{byte_at, number_at, width, words_of}
+use Rattle.words.specs.Words.{byte_at, width, words_of}
 use Rattle.steps.specs.Limits.{slots}
 use Rattle.steps.specs.Settings.{Settings}
 use Rattle.state.specs.Sizes.{sizes_fit}
 use Rattle.state.specs.State.{settings, padded}
 use Rattle.image.specs.Layout.{datum_word, least_header, data_place, end_place, taps_in, layout_of}
-use Rattle.image.specs.Load.{weights_by, state_by, state_in, frame_number}
+use Rattle.image.specs.Load.{past_bytes, weights_by, state_by, state_in, frame_number}
 use Rattle.image.specs.declared.layout.Layout.{Layout}
 use Rattle.state.specs.declared.equaliser.Equaliser.{Equaliser}
 use Rattle.state.proofs.SizesLaws.{fit_within}
@@ -44,29 +44,41 @@ module _ (l : List ℕ) where
 -- ---- the state
 
 module _ (l : List ℕ) where
-  abbrev made : ℕ → List ℤ → List ℤ → Equaliser
-  made m w d = record {
-    p = byte_at l 0;
-    q = byte_at l 1;
-    n = byte_at l 2;
-    r = byte_at l 3;
-    l = byte_at l 4;
+  -- from its settings, the weights and the data
+  abbrev made : Settings → List ℤ → List ℤ → Equaliser
+  made k w d = record {
+    p = k.p;
+    q = k.q;
+    n = k.N;
+    r = k.r;
+    l = k.L;
     psi = byte_at l 5;
     b = byte_at l 6;
     bmax = byte_at l 7;
-    m = m;
+    m = k.M;
     weights = w;
     past = d;
   }
 
-  -- each part of the state from its bytes, the data between the places that were worked out
-  pub state_made : (y : Layout) (mid end t m : ℕ) (w d : List ℤ) → y ≡ layout_of l → t ≡ taps_in l → mid ≡ data_place y t → end ≡ end_place y t → m ≡ number_at 4 l 8 →
-      w ≡ padded (weights_by y l) → d ≡ padded (words_of datum_word t (take (end - mid) (drop mid l))) → made m w d ≡ state_in l
+  -- the data lie between the places that were worked out
+  pub state_made : (k : Settings) (y : Layout) (t mid end : ℕ) (w d : List ℤ) → k ≡ settings (state_in l) → y ≡ layout_of l → t ≡ k.p + k.q → mid ≡ data_place y t → end ≡ end_place y t →
+      w ≡ padded (weights_by y l) → d ≡ padded (words_of datum_word t (take (end - mid) (drop mid l))) → made k w d ≡ state_in l
   unfolding state_by
-  state_made y mid end t m w d f e a b n u v = λ i. made (n i) ((u ∙ ap (λ (x : Layout). padded (weights_by x l)) f) i) ((v ∙ ap₂ (λ (k j : ℕ). padded (words_of datum_word t (take k (drop j l)))) span start ∙ ap (λ (k : ℕ). padded (words_of datum_word k (take (width datum_word * k) (drop (data_place (layout_of l) (taps_in l)) l)))) e) i)
+  state_made k y t mid end w d g f h a b u v = λ i. made (g i) (weights i) (past i)
     where
+      few : t ≡ taps_in l
+      few = h ∙ ap (λ (x : Settings). x.p + x.q) g
+
       span : end - mid ≡ width datum_word * t
       span = omega (arith, a, b)
 
       start : mid ≡ data_place (layout_of l) (taps_in l)
-      start = a ∙ ap₂ data_place f e
+      start = a ∙ ap₂ data_place f few
+
+      weights : w ≡ padded (weights_by (layout_of l) l)
+      weights = u ∙ ap (λ (x : Layout). padded (weights_by x l)) f
+
+      past : d ≡ padded (words_of datum_word (taps_in l) (past_bytes (layout_of l) l))
+      past =
+          v ∙ ap₂ (λ (n j : ℕ). padded (words_of datum_word t (take n (drop j l)))) span start
+          ∙ ap (λ (n : ℕ). padded (words_of datum_word n (take (width datum_word * n) (drop (data_place (layout_of l) (taps_in l)) l)))) few

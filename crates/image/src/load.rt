@@ -75,25 +75,26 @@ pub fn framed(bytes: &[u8]) -> Result<(), Refusal>
 }
 
 // The state in bytes of the right length.
-#[tactic(auto, using(crate::proofs::FrameLaws::few_placed, crate::proofs::FrameLaws::weighed, words::proofs::LibraryLaws::number_four))]
+#[tactic(auto, using(crate::proofs::FrameLaws::few_placed, crate::proofs::FrameLaws::weighed), unfolding(crate::specs::Load::state_by))]
 pub fn state_in(bytes: &[u8]) -> Equaliser
     requires { (least_header ≤ length bytes.now) × (length bytes.now ≡ end_place (layout_of bytes.now) (taps_in bytes.now)) × (taps_in bytes.now ≤ slots) }
     ensures { result ≡ state_in bytes.now }
 {
-    let taps = usize::from(bytes[0]) + usize::from(bytes[1]);
+    let k = settings_in(bytes);
+    let taps = usize::from(k.p) + usize::from(k.q);
     let y = layout_of(bytes);
     let mid = data_place(y, taps);
     let end = end_place(y, taps);
     Equaliser {
-        p: bytes[0],
-        q: bytes[1],
-        n: bytes[2],
-        r: bytes[3],
-        l: bytes[4],
+        p: k.p,
+        q: k.q,
+        n: k.N,
+        r: k.r,
+        l: k.L,
         psi: bytes[5],
         b: bytes[6],
         bmax: bytes[7],
-        m: u32::from_le_bytes([bytes[8], bytes[9], bytes[10], bytes[11]]),
+        m: k.M,
         weights: weights_in(y, bytes, taps),
         past: words_in(&bytes[mid..end], taps),
     }
