@@ -6,61 +6,30 @@ use Prim.Native.Nat.{ℕ, ◌/◌, ◌%◌, ◌≤◌, ◌<◌}
 use native.Mathlib.Omega.{arith}
 use lib.Dec.{leb, eqb}
 use lib.ListN.{length}
-use borrow.Author.Tests.{le-leb, lt-leb, leb-true, eq-eqb, ne_eqb, eqb-true, eqb-false}
+use borrow.Author.Tests.{leb-true, eq-eqb, ne_eqb, eqb-true, eqb-false}
+use Rattle.std.specs.Prelude.{Ok, Err}
 use Rattle.laws.specs.Lists.{all}
 use Rattle.laws.specs.Tests.{last_le}
 use Rattle.laws.specs.Values.{values}
 use Rattle.steps.specs.Settings.{is_symbol}
 use Rattle.trace_layout.specs.Trace.{trace_limit}
 use Rattle.state.specs.Sizes.{settings_number}
+use Rattle.state.specs.Refusal as State
+use Rattle.state.specs.declared.refusal.Refusal.{Refusal}
+use Rattle.state.proofs.RefusalLaws.{number_least}
 use Rattle.cable_trace.specs.Limits.{response_limit, count_limit}
 use Rattle.cable_trace.specs.Calls.{sent_limit, Made}
 use Rattle.cable_trace.specs.Cable.{Cable, s, sample_count, trace_length, cable_trace, response_fits, blocks_fit, gain_available, length_cause, list_cause, cause, cable_number}
 use Rattle.cable_trace.specs.Answers.{Simulation}
+use Rattle.cable_trace.specs.Refusal.{number_of, cause_of}
+use Rattle.cable_trace.specs.declared.refusal.CableRefusal.{CableRefusal}
+use Rattle.cable_trace.specs.declared.refusal.CableRefusal.TheVariants.{Settings, Response, Blocks, Training, Length, Entry, Output, Gain}
 
--- ---- by the lengths
+-- ---- a length that is a cause
 
-module _ (c : Cable) where
-  pub response_off : response_fits (length c.response) ≡ false → 1 ≡ length_cause c
-  unfolding length_cause
-  response_off a = simp a
-
-  pub blocks_off : response_fits (length c.response) ≡ true → blocks_fit c.settings.N (sample_count c) ≡ false → 2 ≡ length_cause c
-  unfolding length_cause
-  blocks_off a b = simp (a, b)
-
-  module _ (a : response_fits (length c.response) ≡ true) (b : blocks_fit c.settings.N (sample_count c) ≡ true) where
-    pub training_off : sample_count c < c.training → 3 ≡ length_cause c
-    unfolding length_cause
-    training_off h = simp (a, b, lt-leb c.training (sample_count c) h)
-
-    pub trace_off : c.training ≤ sample_count c → sent_limit < sample_count c → 4 ≡ length_cause c
-    unfolding length_cause
-    trace_off h k = simp (a, b, le-leb c.training (sample_count c) h, lt-leb (trace_length c) trace_limit (omega (arith, k)))
-
-    pub lengths_fit_lem : c.training ≤ sample_count c → sample_count c ≤ sent_limit → 0 ≡ length_cause c
-    unfolding length_cause
-    lengths_fit_lem h k = simp (a, b, le-leb c.training (sample_count c) h, le-leb (trace_length c) trace_limit (omega (arith, k)))
-
-  -- ---- by the lists
-
-  module _ (room : ℕ) where
-    pub length_off : (n : ℕ) → n ≡ length_cause c → (n ≡ 0 → ⊥) → n ≡ list_cause c room
-    unfolding list_cause
-    length_off n e f = simp (ne_eqb (length_cause c) 0 (λ z. f (e ∙ z))) e
-
-    module _ (a : length_cause c ≡ 0) where
-      pub symbols_off : all (is_symbol c.settings.r) c.symbols ≡ false → 5 ≡ list_cause c room
-      unfolding list_cause
-      symbols_off b = simp (a, b)
-
-      pub room_off : all (is_symbol c.settings.r) c.symbols ≡ true → (room ≡ trace_length c → ⊥) → 6 ≡ list_cause c room
-      unfolding list_cause
-      room_off b h = simp (a, b, ne_eqb room (trace_length c) h)
-
-      pub lists_fit : all (is_symbol c.settings.r) c.symbols ≡ true → room ≡ trace_length c → 0 ≡ list_cause c room
-      unfolding list_cause
-      lists_fit b h = simp (a, b, eq-eqb room (trace_length c) h)
+pub length_off : (c : Cable) (room n : ℕ) → n ≡ length_cause c → (n ≡ 0 → ⊥) → n ≡ list_cause c room
+unfolding list_cause
+length_off c room n e f = simp (ne_eqb (length_cause c) 0 (λ z. f (e ∙ z))) e
 
 -- ---- where there is no cause
 
@@ -145,36 +114,48 @@ module _ (c : Cable) (room : ℕ) where
 
 -- ---- the answers
 
+-- no refusal has the number 0
+pub number_some : (x : CableRefusal) → number_of x ≡ 0 → ⊥
+number_some (Settings r) z = absurd (omega (arith, z, number_least r))
+number_some Response z = absurd (omega (arith, z))
+number_some Blocks z = absurd (omega (arith, z))
+number_some Training z = absurd (omega (arith, z))
+number_some Length z = absurd (omega (arith, z))
+number_some Entry z = absurd (omega (arith, z))
+number_some Output z = absurd (omega (arith, z))
+number_some Gain z = absurd (omega (arith, z))
+
+-- so one of the lists has a cause
+pub cause_some : (x : CableRefusal) → number_of x ≡ cond (eqb (cause_of x) 0) 0 10 → cause_of x ≡ 0 → ⊥
+cause_some x e z = number_some x (e ∙ simp (eq-eqb (cause_of x) 0 z))
+
 module _ (c : Cable) (before : List ℕ) where
-  refused : (n k : ℕ) → n ≡ cable_number c (length before) → (n ≡ 0 → ⊥) → k ≡ cond (eqb (settings_number c.settings) 0) (cause c (length before)) 0 →
-      Simulation c before (record { number = n; cause = k }) before
-  refused n k e f h = record {
-    output = record { number_is = e; contents = ap (λ (b : Bool). cond b (cable_trace c) before) (sym (ne_eqb (cable_number c (length before)) 0 (λ z. f (e ∙ z)))) };
+  refused : (x : CableRefusal) → number_of x ≡ cable_number c (length before) → cause_of x ≡ cond (eqb (settings_number c.settings) 0) (cause c (length before)) 0 → Simulation c before (Err x) before
+  refused x e h = record {
+    output = record { number_is = e; contents = ap (λ (b : Bool). cond b (cable_trace c) before) (sym (ne_eqb (cable_number c (length before)) 0 (λ z. number_some x (e ∙ z)))) };
     cause_is = h;
   }
 
-  pub settings_off : (n : ℕ) → n ≡ settings_number c.settings → (n ≡ 0 → ⊥) → Simulation c before (record { number = n; cause = 0 }) before
+  pub settings_off : (r : Refusal) → State.number_of r ≡ settings_number c.settings → Simulation c before (Err (Settings r)) before
   unfolding cable_number
-  settings_off n e f =
-      let t = ne_eqb (settings_number c.settings) 0 (λ z. f (e ∙ z)) in
-      refused n 0 (simp t e) f (simp t)
+  settings_off r e = let t = ne_eqb (settings_number c.settings) 0 (λ z. number_some (Settings r) (e ∙ z)) in refused (Settings r) (simp t e) (simp t)
 
   module _ (a : settings_number c.settings ≡ 0) where
-    off : (k : ℕ) → k ≡ cause c (length before) → (k ≡ 0 → ⊥) → Simulation c before (record { number = 10; cause = k }) before
-    unfolding cable_number
-    off k e f = refused 10 k (simp (a, ne_eqb (cause c (length before)) 0 (λ z. f (e ∙ z)))) (eqb-false 10 0 refl) (simp a e)
+    pub lists_off : (x : CableRefusal) → number_of x ≡ cond (eqb (cause_of x) 0) 0 10 → cause_of x ≡ list_cause c (length before) → Simulation c before (Err x) before
+    unfolding cable_number cause
+    lists_off x n e =
+        let some : list_cause c (length before) ≡ 0 → ⊥ = λ z. cause_some x n (e ∙ z) in
+        let t = ne_eqb (list_cause c (length before)) 0 some in
+        refused x (n ∙ simp (a, e, t)) (simp (a, t) e)
 
-    pub lists_off : (k : ℕ) → k ≡ list_cause c (length before) → (k ≡ 0 → ⊥) → Simulation c before (record { number = 10; cause = k }) before
-    unfolding cause
-    lists_off k e f = off k (simp (ne_eqb (list_cause c (length before)) 0 (λ z. f (e ∙ z))) e) f
-
-    module _ (b : list_cause c (length before) ≡ 0) where
-      pub made : (fit : Bool) (after : List ℕ) → Made c before fit after → Simulation c before (record { number = cond fit 0 10; cause = cond fit 0 7 }) after
+    module _ (b : list_cause c (length before) ≡ 0) (after : List ℕ) where
+      pub made_fit : Made c before true after → Simulation c before (Ok tt) after
       unfolding cable_number cause
-      made true after d = let g = sym d.fit_is in record { output = record { number_is = simp (a, b, g); contents = simp (a, b, g) d.contents }; cause_is = simp (a, b, g) }
-      made false after d =
-          let g = sym d.fit_is in
-          record { output = record { number_is = simp (a, b, g); contents = simp (a, b, g) d.contents }; cause_is = simp (a, b, g) }
+      made_fit d = let g = sym d.fit_is in record { output = record { number_is = simp (a, b, g); contents = simp (a, b, g) d.contents }; cause_is = simp (a, b, g) }
+
+      pub made_off : Made c before false after → Simulation c before (Err Gain) after
+      unfolding cable_number cause
+      made_off d = let g = sym d.fit_is in record { output = record { number_is = simp (a, b, g); contents = simp (a, b, g) d.contents }; cause_is = simp (a, b, g) }
 
 -- ---- where a length is a cause, the output's length does not count
 

@@ -9,6 +9,9 @@ use native.Mathlib.Nat.{eq-or-lt_of_le, mul-le-mul_left, lt_of_le_of_lt}
 use lib.Dec.{T, leb, ltb}
 use lib.IntN.{ℤ, nat_abs}
 use borrow.Author.Tests.{lt-ltb, le-ltb, le-leb, ltb-true, ltb-false, leb-true, leb-false}
+use mir.Syntax.{w16}
+use mir.Val.{SFits}
+use Rattle.laws.specs.Machine.{fits_abs}
 use Rattle.laws.specs.Lists.{all, and_left, and_right}
 use Rattle.laws.specs.Powers.{rises, lower}
 use Rattle.laws.specs.Powers as Powers
@@ -25,7 +28,8 @@ use Rattle.steps.specs.Sound.{or_all}
 use Rattle.steps.proofs.LargestLaws.{or_all_largest_bits}
 use Rattle.steps.proofs.LargestBitsTests.{by_largest_bits}
 use Rattle.cable_trace.specs.Cable.{takes_gain, greatest, gain, has_gain, sample, gain_available}
-use Rattle.cable_trace.specs.Calls.{Gainable, gain_of, float_digits, leading}
+use Rattle.cable_trace.specs.Calls.{Gainable, gain_of, float_digits, float_offset, float_bits, exponent_in, leading}
+use Rattle.cable_trace.proofs.FloatLaws.{float_exponent}
 
 -- ---- the greatest number that passes
 
@@ -134,6 +138,14 @@ module _ (r : ℕ) (s : ℤ) (h : Gainable r s) where
 
   pub small : nat_abs s < 2 ^ float_digits
   small = omega (arith, bit_length_lt (nat_abs s) 18 bits_most)
+
+  -- by the exponent of its bits
+  pub exponent_bits : (b : ℕ) → b ≡ float_bits s → (exponent_in b - float_offset ≡ bit_length (nat_abs s)) × (exponent_in b ≤ float_offset + bit_length (nat_abs s))
+  exponent_bits b e = rw e (float_exponent s small)
+
+  -- a sample fits 16 bits
+  pub sample_fits : (x : ℤ) → x ≡ sample r s → SFits w16 x
+  sample_fits x e = rw e (fits_abs (sample r s) (sample_small r s h.has))
 
   pub few_small : bit_length (nat_abs s) ≤ r → nat_abs s * 2 ^ (gain_limit - r) < 2 ^ 31
   few_small few = omega (arith, Powers.raise (nat_abs s) gain_limit r (gain_limit - r) (omega (arith, h.r_most)) (bit_length_lt (nat_abs s) r few))

@@ -1,11 +1,11 @@
 // What is turned down before any s is known.
-ghost use Rattle.std.specs.Prelude.{◌≡◌, ◌≤◌};
+ghost use Rattle.std.specs.Prelude.{◌≡◌, cond, ◌≤◌, eqb};
 ghost use Rattle.laws.specs.Lists.{all};
 ghost use Rattle.steps.specs.Limits.{symbol_limit};
 ghost use Rattle.steps.specs.Settings.{is_symbol};
 ghost use Rattle.cable_trace.specs.Cable.{response_fits, blocks_fit, length_cause, list_cause};
 ghost use Rattle.cable_trace.specs.Lent.{cable_in};
-ghost use Rattle.cable_trace.specs.Refusal.{cause_in};
+ghost use Rattle.cable_trace.specs.Refusal.{number_in, cause_in};
 
 use super::Cable;
 use super::limits::{COUNT, RESPONSE, SENT};
@@ -44,7 +44,8 @@ fn blocks_fit(n: usize, symbols: usize) -> bool
 // By the lengths of the lists: the response, the blocks, the training count, the length of the trace.
 fn lengths_fit(cable: Cable) -> Result<(), CableRefusal>
     requires { 1 ≤ cable.settings.N }
-    ensures { cause_in result ≡ length_cause (cable_in cable.entry) }
+    ensures cause { cause_in result ≡ length_cause (cable_in cable.entry) }
+    ensures number { number_in result ≡ cond (eqb (cause_in result) 0) 0 10 }
 {
     let count = cable.symbols.len();
     if !response_fits(cable.response.len()) {
@@ -66,7 +67,8 @@ fn lengths_fit(cable: Cable) -> Result<(), CableRefusal>
 // Then an entry that is no symbol, and an output of another length.
 pub fn lists_fit(cable: Cable, room: usize) -> Result<(), CableRefusal>
     requires { (1 ≤ cable.settings.N) × (cable.settings.r ≤ symbol_limit) }
-    ensures { cause_in result ≡ list_cause (cable_in cable.entry) room }
+    ensures cause { cause_in result ≡ list_cause (cable_in cable.entry) room }
+    ensures number { number_in result ≡ cond (eqb (cause_in result) 0) 0 10 }
 {
     lengths_fit(cable)?;
     if !all_symbols(cable.symbols, u32::from(cable.settings.r)) {

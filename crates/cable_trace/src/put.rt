@@ -29,8 +29,8 @@ fn part_entries(symbols: &[i8], trained: bool, out: &mut [u8])
         out.fill(0);
         return;
     }
-    for (byte, v) in out.iter_mut().zip(symbols) {
-        *byte = v.cast_unsigned();
+    for (i, byte) in out.iter_mut().enumerate() {
+        *byte = symbols[i].cast_unsigned();
     }
 }
 

@@ -1,6 +1,7 @@
 // Why a cable is turned down.
 ghost use Rattle.std.specs.Prelude.{◌≡◌};
 ghost use Rattle.cable_trace.specs.Refusal.{number_of};
+ghost use Rattle.cable_trace.specs.declared.refusal.CableRefusal.TheVariants.{Settings};
 
 use state::refusal::Refusal;
 
@@ -38,9 +39,9 @@ impl From<CableRefusal> for u8 {
 
 // So that `?` takes what is wrong with the settings.
 impl From<Refusal> for CableRefusal {
-    fn from(refusal: Refusal) -> CableRefusal
-        ensures { result ≡ Settings refusal }
-    {
+    ghost from_gives = { λ refusal result. result ≡ Settings refusal };
+
+    fn from(refusal: Refusal) -> CableRefusal {
         CableRefusal::Settings(refusal)
     }
 }

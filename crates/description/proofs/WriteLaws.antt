@@ -2,7 +2,7 @@
 use mathlib.Core.Path.{◌≡◌, refl, sym, ap, ap₂, ◌∙◌, subst}
 use mathlib.Core.Bool.{Bool, true, false, cond}
 use mathlib.Core.List.{List, ◌++◌}
-use Prim.Native.Nat.{ℕ, ◌+◌, ◌*◌, ◌-◌, ◌≤◌, ◌<◌}
+use Prim.Native.Nat.{ℕ, ◌+◌, ◌*◌, ◌≤◌, ◌<◌}
 use native.Mathlib.Omega.{arith}
 use native.Mathlib.Decide.{dec_lt}
 use lib.Dec.{leb, eqb}
@@ -11,7 +11,7 @@ use lib.IntN.{ℤ}
 use mir.Syntax.{w8, w16}
 use mir.Val.{to_z}
 use borrow.Author.Tests.{le-leb, leb-true, eq-eqb, ne_eqb, eqb-false}
-use borrow.Rule.Slice.PartMut.{mid_len}
+use lib.Seq.{length-take-le}
 use Rattle.laws.specs.Values.{values_length, values}
 use Rattle.words.specs.Words.{byte_at, number_at}
 use Rattle.steps.specs.Settings.{Settings}
@@ -22,17 +22,12 @@ use Rattle.trace_layout.specs.Trace as Trace
 use Rattle.trace_text.specs.Calls.{TextAt}
 use Rattle.cable_trace.specs.Cable.{Cable, sample_count, trace_length, cable_trace, cause, cable_number}
 use Rattle.cable_trace.specs.Answers.{cable_of, Simulation}
-use Rattle.cable_trace.specs.declared.Simulated.{Simulated}
+use Rattle.std.specs.Prelude.{Result}
+use Rattle.cable_trace.specs.Refusal.{number_in, cause_in}
+use Rattle.cable_trace.specs.declared.refusal.CableRefusal.{CableRefusal}
 use Rattle.cable_trace.proofs.CauseLaws.{too_long, cause_same, number_same, number_settings}
 use Rattle.description.specs.Description.{description_header_length, response_in, symbols_in, training_in, symbols_place, well_described, cable_in, malformed_line, refusal_line, cable_output, described}
 use Rattle.description.specs.Calls.{trace_end}
-
--- a part that begins at 0
-pub from_zero : {A : Type 0} (l : List A) (n : ℕ) → take (n - 0) l ≡ take n l
-from_zero l n = ap (λ (m : ℕ). take m l) same
-  where
-    same : n - 0 ≡ n
-    same = omega arith
 
 -- ---- the cable
 
@@ -54,7 +49,7 @@ module _ (t : List ℕ) where
   cable_in_lem k h v n a b c d =
       ap₂ (λ (x : Settings) (y : List ℤ). cable_of x y v n) a b ∙ ap₂ (λ (x : List ℤ) (y : ℕ). cable_of (settings_in t) (cable_in t).response x y) c d
 
-pub simulation_same : {c k : Cable} {before after : List ℕ} {a : Simulated} → c ≡ k → Simulation c before a after → Simulation k before a after
+pub simulation_same : {c k : Cable} {before after : List ℕ} {a : Result (Unit {0}) CableRefusal} → c ≡ k → Simulation c before a after → Simulation k before a after
 simulation_same {before = before} {after = after} {a = a} e s = subst (λ (x : Cable). Simulation x before a after) e s
 
 -- ---- the line of refused settings has no cause
@@ -104,47 +99,47 @@ module _ (c : Cable) (end : ℕ) (h : end ≡ trace_end (sample_count c)) where
           let e : end ≡ trace_length c = h ∙ ap (λ (b : Bool). cond b (trace_length c) 0) (le-leb (trace_length c) trace_limit (omega arith)) in
           (ap (cable_number c) e, ap (cause c) e)
 
-  module _ (before : List ℕ) (room : end ≤ length before) (a : Simulated) (last : List ℕ) (s : Simulation c (take (end - 0) before) a last) where
-    pub front_long : length (take (end - 0) before) ≡ end
-    front_long = mid_len 0 end before room ∙ omega arith
+  module _ (before : List ℕ) (room : end ≤ length before) (a : Result (Unit {0}) CableRefusal) (last : List ℕ) (s : Simulation c (take (end) before) a last) where
+    pub front_long : length (take (end) before) ≡ end
+    front_long = length-take-le end before room
 
-    number_is : a.number ≡ cable_number c (trace_length c)
+    number_is : number_in a ≡ cable_number c (trace_length c)
     number_is = s.output.number_is ∙ ap (cable_number c) front_long ∙ rooms.0
 
-    module _ (z : a.number ≡ 0) where
+    module _ (z : number_in a ≡ 0) where
       trace_is : last ≡ cable_output c
       trace_is =
-          s.output.contents ∙ ap (λ (b : Bool). cond b (cable_trace c) (take (end - 0) before)) (eq-eqb _ 0 (sym s.output.number_is ∙ z))
+          s.output.contents ∙ ap (λ (b : Bool). cond b (cable_trace c) (take (end) before)) (eq-eqb _ 0 (sym s.output.number_is ∙ z))
           ∙ accepted_output c (sym number_is ∙ z)
 
-      pub trace_written : length last ≡ length (take (end - 0) before) → TextAt 0 (cable_output c) before end (last ++ drop (end - 0) before)
+      pub trace_written : length last ≡ length (take (end) before) → TextAt 0 (cable_output c) before end (last ++ drop (end) before)
       trace_written k =
           let e : end ≡ length (cable_output c) = sym front_long ∙ sym k ∙ ap length trace_is in
-          let none : end - 0 ≡ 0 + length (cable_output c) = omega (arith, e) in
+          let none : end ≡ 0 + length (cable_output c) = omega (arith, e) in
           record { end_is = e ∙ omega arith; contents = ap₂ (λ (l : List ℕ) (n : ℕ). l ++ drop n before) trace_is none }
 
-    module _ (f : a.number ≡ 0 → ⊥) where
-      untouched : last ++ drop (end - 0) before ≡ before
+    module _ (f : number_in a ≡ 0 → ⊥) where
+      untouched : last ++ drop (end) before ≡ before
       untouched =
-          ap (λ (l : List ℕ). l ++ drop (end - 0) before) (s.output.contents ∙ ap (λ (b : Bool). cond b (cable_trace c) (take (end - 0) before)) (ne_eqb _ 0 (λ z. f (s.output.number_is ∙ z))))
-          ∙ take-append-drop (end - 0) before
+          ap (λ (l : List ℕ). l ++ drop (end) before) (s.output.contents ∙ ap (λ (b : Bool). cond b (cable_trace c) (take (end) before)) (ne_eqb _ 0 (λ z. f (s.output.number_is ∙ z))))
+          ∙ take-append-drop (end) before
 
-      pub over_untouched : {text : List ℕ} {count : ℕ} {after : List ℕ} → TextAt 0 text (last ++ drop (end - 0) before) count after → TextAt 0 text before count after
+      pub over_untouched : {text : List ℕ} {count : ℕ} {after : List ℕ} → TextAt 0 text (last ++ drop (end) before) count after → TextAt 0 text before count after
       over_untouched {text} {count} {after} g = subst (λ (l : List ℕ). TextAt 0 text l count after) untouched g
 
-      number_line : refusal_line a.number a.cause ≡ refusal_line (cable_number c (trace_length c)) (cause c (trace_length c))
-      number_line = ap (λ (n : ℕ). refusal_line n a.cause) number_is ∙ go (eqb (settings_number c.settings) 0) refl
+      number_line : refusal_line (number_in a) (cause_in a) ≡ refusal_line (cable_number c (trace_length c)) (cause c (trace_length c))
+      number_line = ap (λ (n : ℕ). refusal_line n (cause_in a)) number_is ∙ go (eqb (settings_number c.settings) 0) refl
         where
-          go : (b : Bool) → eqb (settings_number c.settings) 0 ≡ b → refusal_line (cable_number c (trace_length c)) a.cause ≡ refusal_line (cable_number c (trace_length c)) (cause c (trace_length c))
+          go : (b : Bool) → eqb (settings_number c.settings) 0 ≡ b → refusal_line (cable_number c (trace_length c)) (cause_in a) ≡ refusal_line (cable_number c (trace_length c)) (cause c (trace_length c))
           go true e =
               ap (refusal_line (cable_number c (trace_length c)))
-              (s.cause_is ∙ ap (λ (b : Bool). cond b (cause c (length (take (end - 0) before))) 0) e ∙ ap (cause c) front_long ∙ rooms.1)
+              (s.cause_is ∙ ap (λ (b : Bool). cond b (cause c (length (take (end) before))) 0) e ∙ ap (cause c) front_long ∙ rooms.1)
           go false e =
               let g = eqb-false (settings_number c.settings) 0 e in
-              same_line (cable_number c (trace_length c)) (settings_number c.settings) a.cause (cause c (trace_length c)) (number_settings c (trace_length c) g)
-              (settings_line c.settings a.cause (cause c (trace_length c)) g)
+              same_line (cable_number c (trace_length c)) (settings_number c.settings) (cause_in a) (cause c (trace_length c)) (number_settings c (trace_length c) g)
+              (settings_line c.settings (cause_in a) (cause c (trace_length c)) g)
 
-      pub line_is : refusal_line a.number a.cause ≡ cable_output c
+      pub line_is : refusal_line (number_in a) (cause_in a) ≡ cable_output c
       line_is = number_line ∙ refused_output c (λ z. f (number_is ∙ z))
 
 -- ---- the answer, from what stands at the front of the bytes

@@ -1,54 +1,41 @@
--- Settings, lists, gains.
-use mathlib.Core.Path.{◌≡◌, sym, ◌∙◌, subst}
-use mathlib.Core.Bool.{Bool, true, false, cond}
-use lib.ListN.{length}
-use Rattle.state.specs.Sizes.{settings_number}
+-- The settings, the lists and the gains, one after another.
+use mathlib.Core.Path.{sym, subst}
+use mathlib.Core.Bool.{Bool}
+use Rattle.std.proofs.lemmas.Result.{err_from_is_err_and}
 use Rattle.state.proofs.SizesLaws.{settings_tests, fit_within}
-use Rattle.cable_trace.specs.Cable.{Cable, list_cause}
-use Rattle.cable_trace.specs.Answers.{cable_of, Simulation}
+use Rattle.cable_trace.specs.Lent.{cable_in}
 use Rattle.cable_trace.specs.Calls.{Made}
-use Rattle.cable_trace.proofs.CauseLaws.{settings_off, lists_off, made}
+use Rattle.cable_trace.proofs.CauseLaws.{settings_off, lists_off, made_fit, made_off}
 use Rattle.cable_trace.proofs.simulate.Goals as goal
-use Rattle.cable_trace.proofs.simulate.Goals.{Start, Else-number-ne0, Else-cause-ne0, After-make}
 
-abbrev cable : Start → Cable
-cable s = let a = s.args in cable_of a.k a.response.now a.symbols.now a.training
+pub returns-in_err-admitted : goal.returns-in_err-admitted
+returns-in_err-admitted c =
+    let p = err_from_is_err_and c.from_residual.result c.from_residual.ensures.1 in
+    rw (p.1, p.2) (settings_off (cable_in c.args.cable) c.args.out.now c.in_err-admitted.field-0.0 c.in_err-admitted.ensures)
 
-settled : (c : Else-number-ne0) → settings_number c.args.k ≡ 0
-settled c = sym c.settings_number-number.ensures ∙ c.if-number-ne0.false
-
-lists : (c : Else-cause-ne0) → list_cause (cable (goal.at.Else-cause-ne0 c).Start) (length c.args.out.now) ≡ 0
-lists c = sym c.list_cause-cause.ensures ∙ c.if-cause-ne0.false
-
-pub returns-then-number-ne0 : goal.returns-then-number-ne0
-returns-then-number-ne0 c =
-    settings_off (cable (goal.at.returns-then-number-ne0 c).Start) c.args.out.now _ c.settings_number-number.ensures c.if-number-ne0.true
-
-pub list_cause-cause-requires : goal.list_cause-cause-requires
-list_cause-cause-requires c =
-    let w = fit_within c.args.k (settings_tests c.args.k (settled (goal.at.list_cause-cause-requires c).Else-number-ne0)).0 in
+pub lists_fit-requires : goal.lists_fit-requires
+lists_fit-requires c =
+    let k = c.args.cable.settings in
+    let w = fit_within k (settings_tests k (sym c.in_ok-admitted.ensures)).0 in
     (w.N_least, w.r_most)
 
-pub returns-then-cause-ne0 : goal.returns-then-cause-ne0
-returns-then-cause-ne0 c =
-    let at = goal.at.returns-then-cause-ne0 c in
-    lists_off (cable at.Start) c.args.out.now (settled at.Else-number-ne0) _ c.list_cause-cause.ensures c.if-cause-ne0.true
+pub returns-in_err-lists_fit : goal.returns-in_err-lists_fit
+returns-in_err-lists_fit c =
+    let p = err_from_is_err_and c.from_residual-in_err-lists_fit.result c.from_residual-in_err-lists_fit.ensures.1 in
+    let f = c.in_err-lists_fit.ensures in
+    rw (p.1, p.2) (lists_off (cable_in c.args.cable) c.args.out.now (sym c.in_ok-admitted.ensures) c.in_err-lists_fit.field-0.0 f.number f.cause)
 
 pub make-requires : goal.make-requires
-make-requires c =
-    let at = goal.at.make-requires c in
-    record { settings = settled at.Else-number-ne0; lists = lists at.Else-cause-ne0 }
-
--- what was made, by whether the gains fit
-answer : (c : After-make) (fit : Bool) → c.make.result ≡ fit →
-    Simulation (cable (goal.at.After-make c).Start) c.args.out.now (record { number = cond fit 0 10; cause = cond fit 0 7 }) c.make.new.out
-answer c fit e =
-    let at = goal.at.After-make c in
-    let k = cable at.Start in
-    made k c.args.out.now (settled at.Else-number-ne0) (lists at.Else-cause-ne0) fit _ (subst (λ (b : Bool). Made k c.args.out.now b c.make.new.out) e c.make.ensures)
+make-requires c = record { settings = sym c.in_ok-admitted.ensures; lists = sym c.in_ok-lists_fit.ensures.cause }
 
 pub returns-then-make : goal.returns-then-make
-returns-then-make c = answer (goal.at.returns-then-make c).After-make true c.if-make.true
+returns-then-make c =
+    let k = cable_in c.args.cable in
+    made_fit k c.args.out.now (sym c.in_ok-admitted.ensures) (sym c.in_ok-lists_fit.ensures.cause) c.make.new.out
+    (subst (λ (b : Bool). Made k c.args.out.now b c.make.new.out) c.if-make.true c.make.ensures)
 
 pub returns-else-make : goal.returns-else-make
-returns-else-make c = answer (goal.at.returns-else-make c).After-make false c.if-make.false
+returns-else-make c =
+    let k = cable_in c.args.cable in
+    made_off k c.args.out.now (sym c.in_ok-admitted.ensures) (sym c.in_ok-lists_fit.ensures.cause) c.make.new.out
+    (subst (λ (b : Bool). Made k c.args.out.now b c.make.new.out) c.if-make.false c.make.ensures)

@@ -1,5 +1,3 @@
-use mathlib.Core.Path.{◌≡◌}
-use Prim.Native.Nat.{◌-◌}
 use lib.ListN.{length}
 use Rattle.laws.specs.Loops.{Written}
 use Rattle.laws.specs.Values.{values}
@@ -7,7 +5,4 @@ use Rattle.cable_trace.proofs.PutLaws.{part_bytes}
 use Rattle.cable_trace.proofs.put.part_entries.Given as goal
 
 abbrev pub invariant-loop-i : goal.invariant-loop-i
-invariant-loop-i l = (length l.initial.out ≡ length l.symbols) × Written (values (part_bytes l.trained l.symbols) (length l.symbols)) l.initial.out l.i l.out
-
-abbrev pub decreases-loop-i : goal.decreases-loop-i
-decreases-loop-i l = length l.symbols - l.i
+invariant-loop-i l = Written (values (part_bytes l.trained l.symbols) (length l.symbols)) l.initial.out l.i l.out

@@ -1,4 +1,3 @@
-use Prim.Native.Nat.{◌-◌}
 use lib.ListN.{length}
 use Rattle.laws.specs.Loops.{Written}
 use Rattle.cable_trace.specs.Calls.{row_sums}
@@ -6,6 +5,3 @@ use Rattle.cable_trace.proofs.sums.row_sums.Given as goal
 
 abbrev pub invariant-loop-i : goal.invariant-loop-i
 invariant-loop-i l = Written (row_sums l.taps l.line (length l.initial.out)) l.initial.out l.i l.out
-
-abbrev pub decreases-loop-i : goal.decreases-loop-i
-decreases-loop-i l = length l.initial.out - l.i

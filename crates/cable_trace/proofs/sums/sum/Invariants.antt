@@ -1,12 +1,8 @@
 use mathlib.Core.Path.{◌≡◌}
-use Prim.Native.Nat.{◌-◌}
-use lib.ListN.{take}
+use lib.ListN.{length, take}
 use Rattle.laws.specs.Sums.{dot}
-use Rattle.cable_trace.specs.Limits.{response_limit}
 use Rattle.cable_trace.proofs.sums.sum.Given as goal
 
-abbrev pub invariant-loop-i : goal.invariant-loop-i
-invariant-loop-i l = l.sum ≡ dot (take l.i l.h) (take l.i l.v)
-
-abbrev pub decreases-loop-i : goal.decreases-loop-i
-decreases-loop-i l = response_limit - l.i
+abbrev pub invariant-loop-h : goal.invariant-loop-h
+invariant-loop-h l =
+    (goal.iterator-loop-h).can_next l.h-iterator × (goal.iterator-loop-h).is_finite l.h-iterator × (l.sum ≡ dot (take (length l.yielded) l.h) (take (length l.yielded) l.v))

@@ -1,20 +1,23 @@
--- The bytes of two lines, or the line of a cause.
-use mathlib.Core.Path.{sym, ap}
-use Prim.Native.Nat.{ℕ}
+-- The bytes of each line.
+use mathlib.Core.Path.{◌≡◌}
+use mathlib.Core.Logic.{inl, inr}
 use borrow.Author.Rules.{rules}
 use Rattle.trace_text.proofs.TextAtLaws.{text_same}
+use Rattle.cable_trace.specs.Refusal.{number_of, cause_of}
 use Rattle.description.specs.Texts.{text}
-use Rattle.description.specs.Description.{refusal_line}
-use Rattle.description.proofs.LineLaws.{other_number}
+use Rattle.description.specs.Description.{cause_line, refusal_line}
 use Rattle.description.proofs.line.refusal.Goals as goal
+use Rattle.description.proofs.line.refusal.Goals.{in-Response, in-Blocks, in-Training, in-Length, in-Entry, in-Output}
 
-pub returns-in-1 : goal.returns-in-1
-unfolding refusal_line text
-returns-in-1 c = text_same (sym (ap (λ (n : ℕ). refusal_line n c.args.reason) c.in-1.is)) c.word.ensures
-
-pub returns-in-2 : goal.returns-in-2
-unfolding refusal_line text
-returns-in-2 c = text_same (sym (ap (λ (n : ℕ). refusal_line n c.args.reason) c.in-2.is)) c.word-in-2.ensures
-
-pub returns-in_default : goal.returns-in_default
-returns-in_default c = text_same (other_number c.args.number c.args.reason (search rules) (search rules)) c.cause.ensures
+pub returns : goal.returns
+unfolding cause_line refusal_line text
+returns c =
+    let line : c.match-refusal.text.now ≡ refusal_line (number_of c.args.refusal) (cause_of c.args.refusal) = elim c.match-refusal.branch [
+      | in-Response w ↦ search rules
+      | in-Blocks w ↦ search rules
+      | in-Training w ↦ search rules
+      | in-Length w ↦ search rules
+      | in-Entry w ↦ search rules
+      | in-Output w ↦ elim w.in-Output.is [ inl e ↦ search rules | inr e ↦ search rules ]
+    ] in
+    text_same line c.word.ensures

@@ -1,6 +1,6 @@
-use mathlib.Core.List.{List}
-use Prim.Native.Nat.{ℕ, ◌+◌, ◌-◌}
 use lib.ListN.{length}
+use mathlib.Core.List.{List}
+use Prim.Native.Nat.{ℕ, ◌+◌}
 use lib.IntN.{ℤ}
 use mir.Syntax.{w8}
 use mir.Val.{to_z}
@@ -14,6 +14,3 @@ symbol t start i = to_z w8 (byte_at t (start + i))
 
 abbrev pub invariant-loop-i : goal.invariant-loop-i
 invariant-loop-i l = Written (values (symbol l.t l.start) (length l.initial.out)) l.initial.out l.i l.out
-
-abbrev pub decreases-loop-i : goal.decreases-loop-i
-decreases-loop-i l = length l.initial.out - l.i

@@ -1,10 +1,9 @@
 -- The front of a room that has a place for each value.
-use mathlib.Core.Path.{◌≡◌, ap, ◌∙◌}
-use Prim.Native.Nat.{◌-◌, ◌≤◌}
+use mathlib.Core.Path.{◌≡◌, sym, ap, ◌∙◌}
+use Prim.Native.Nat.{◌≤◌}
 use native.Mathlib.Omega.{arith}
 use lib.ListN.{length, take}
-use lib.Seq.{take_at}
-use borrow.Rule.Slice.PartMut.{mid_len}
+use lib.Seq.{take_at, length-take-le}
 use Rattle.laws.specs.Values.{values_length, values}
 use Rattle.description.proofs.ReadLaws.{well_long, well_most}
 use Rattle.description.proofs.WriteLaws.{response_in_lem}
@@ -17,8 +16,11 @@ room_end c = let p = c.requires in omega (arith, c.response_room-room.ensures, p
 pub slice_bounds-room-end : goal.slice_bounds-room-end
 slice_bounds-room-end c = room_end (goal.at.slice_bounds-room-end c).After-response_room-room
 
-part_long : (c : After-response_room-room) → length (take (c.args.k - 0) c.response_room-room.result) ≡ c.args.k
-part_long c = mid_len 0 c.args.k c.response_room-room.result (room_end c) ∙ omega arith
+part_long : (c : After-response_room-room) → length (take c.args.k c.response_room-room.result) ≡ c.args.k
+part_long c = length-take-le c.args.k c.response_room-room.result (room_end c)
+
+pub slice_bounds-response-end : goal.slice_bounds-response-end
+slice_bounds-response-end c = sym (part_long (goal.at.slice_bounds-response-end c).After-response_room-room)
 
 pub response-requires : goal.response-requires
 response-requires c =

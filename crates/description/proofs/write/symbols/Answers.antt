@@ -1,10 +1,9 @@
 -- The front of a room that has a place for each symbol.
-use mathlib.Core.Path.{◌≡◌, ap, ◌∙◌}
-use Prim.Native.Nat.{◌-◌, ◌≤◌}
+use mathlib.Core.Path.{◌≡◌, sym, ap, ◌∙◌}
+use Prim.Native.Nat.{◌≤◌}
 use native.Mathlib.Omega.{arith}
 use lib.ListN.{length, take}
-use lib.Seq.{take_at}
-use borrow.Rule.Slice.PartMut.{mid_len}
+use lib.Seq.{take_at, length-take-le}
 use Rattle.laws.specs.Values.{values_length, values}
 use Rattle.description.proofs.ReadLaws.{well_long, well_most}
 use Rattle.description.proofs.WriteLaws.{symbols_in_lem}
@@ -20,11 +19,14 @@ room_end c = omega (arith, c.symbol_room-room.ensures, within (goal.at.After-sym
 pub slice_bounds-room-end : goal.slice_bounds-room-end
 slice_bounds-room-end c = room_end (goal.at.slice_bounds-room-end c).After-symbol_room-room
 
-part_long : (c : After-symbol_room-room) → length (take (c.args.n - 0) c.symbol_room-room.result) ≡ c.args.n
-part_long c = mid_len 0 c.args.n c.symbol_room-room.result (room_end c) ∙ omega arith
+part_long : (c : After-symbol_room-room) → length (take c.args.n c.symbol_room-room.result) ≡ c.args.n
+part_long c = length-take-le c.args.n c.symbol_room-room.result (room_end c)
 
 pub overflow_sub-start : goal.overflow_sub-start
 overflow_sub-start c = within (goal.at.overflow_sub-start c).Start
+
+pub slice_bounds-symbols-end : goal.slice_bounds-symbols-end
+slice_bounds-symbols-end c = sym (part_long (goal.at.slice_bounds-symbols-end c).After-symbol_room-room)
 
 pub symbols-requires : goal.symbols-requires
 symbols-requires c =

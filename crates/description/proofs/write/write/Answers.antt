@@ -1,5 +1,5 @@
 -- The trace in the first bytes, or the line over bytes that are as they were.
-use mathlib.Core.Path.{◌≡◌, sym, ap, ◌∙◌}
+use mathlib.Core.Path.{◌≡◌, refl, sym, ap, ◌∙◌}
 use Prim.Native.Nat.{◌≤◌}
 use native.Mathlib.Omega.{arith}
 use lib.ListN.{length}
@@ -9,6 +9,8 @@ use Rattle.description.specs.Description.{cable_in}
 use Rattle.description.specs.Calls.{trace_end}
 use Rattle.description.proofs.ReadLaws.{well_long, well_most}
 use Rattle.description.proofs.WriteLaws.{samples_in_lem, end_most, trace_written, over_untouched, line_is}
+use Rattle.std.specs.Prelude.{Err}
+use Rattle.cable_trace.proofs.CauseLaws.{number_some}
 use Rattle.description.proofs.write.write.Goals as goal
 use Rattle.description.proofs.write.write.Goals.{After-trace_end-end}
 
@@ -32,14 +34,15 @@ within c = omega (arith, end_is c, end_most (sample_count (cable c)), c.requires
 pub slice_bounds-simulated-end : goal.slice_bounds-simulated-end
 slice_bounds-simulated-end c = within (goal.at.slice_bounds-simulated-end c).After-trace_end-end
 
-pub returns-then-number-eq0 : goal.returns-then-number-eq0
-returns-then-number-eq0 c =
-    let e = (goal.at.returns-then-number-eq0 c).After-trace_end-end in
-    trace_written (cable e) c.trace_end-end.result (end_is e) c.args.out.now (within e) _ _ c.simulated-a.ensures c.if-number-eq0.true c.simulated-a.auto.out
+pub returns-in-Ok : goal.returns-in-Ok
+returns-in-Ok c =
+    let e = (goal.at.returns-in-Ok c).After-trace_end-end in
+    trace_written (cable e) c.trace_end-end.result (end_is e) c.args.out.now (within e) _ _ c.in-Ok.ensures refl c.simulated.auto.out
 
-pub returns : goal.returns
-returns c =
-    let e = (goal.at.returns c).After-trace_end-end in
+pub returns-in-Err : goal.returns-in-Err
+returns-in-Err c =
+    let e = (goal.at.returns-in-Err c).After-trace_end-end in
     let b = c.args.out.now in
-    over_untouched (cable e) c.trace_end-end.result (end_is e) b (within e) _ _ c.simulated-a.ensures c.if-number-eq0.false
-    (text_same (line_is (cable e) c.trace_end-end.result (end_is e) b (within e) _ _ c.simulated-a.ensures c.if-number-eq0.false) c.refusal.ensures)
+    let f = number_some c.in-Err.refusal in
+    over_untouched (cable e) c.trace_end-end.result (end_is e) b (within e) (Err c.in-Err.refusal) _ c.in-Err.ensures f
+    (text_same (line_is (cable e) c.trace_end-end.result (end_is e) b (within e) (Err c.in-Err.refusal) _ c.in-Err.ensures f) c.refusal.ensures)
