@@ -4,7 +4,7 @@ use mathlib.Core.List.{List, ◌∷◌, ◌++◌, append_assoc}
 use mathlib.Core.Logic.{◌⊎◌, inl, inr}
 use Prim.Native.Nat.{ℕ, zero, suc, ◌+◌, ◌-◌, ◌≤◌, ◌<◌}
 use native.Mathlib.Omega.{arith}
-use native.Mathlib.Nat.{le_antisymm, eq-or-lt_of_le, add-sub_cancel_left}
+use native.Mathlib.Nat.{eq-or-lt_of_le, add-sub_cancel_left}
 use native.Mathlib.Numerals.{add-one}
 use lib.ListN.{length, get_or, take, drop, set, length-set, length-drop}
 use lib.Seq.{length-take-le, length-paste, take-length, take-take, take_at, take-append_seam, drop_at, drop-cons, drop-set-lt, get_or-set_same, get_or-set_other}
@@ -98,16 +98,16 @@ newest_largest_bits_at r delay q n line past v e l h p =
 
 -- ---- the parts of a line at sample n
 
-pub window_part : (p n : ℕ) (line : List ℤ) → n < block_limit → take (place n + p - place n) (drop (place n) line) ≡ newest p (suc n) line
-window_part p n line h = ap₂ (λ (m a : ℕ). take m (drop a line)) (add-sub_cancel_left (place n) p) (place_is n h)
+pub window_part : (p n : ℕ) (line : List ℤ) {p' : ℕ} → p' ≡ p → n < block_limit → take (place n + p' - place n) (drop (place n) line) ≡ newest p (suc n) line
+window_part p n line e h = ap₂ (λ (m a : ℕ). take m (drop a line)) (add-sub_cancel_left (place n) _ ∙ e) (place_is n h)
 
-pub past_part : (q n : ℕ) (symbols : List ℤ) → length symbols ≡ line_length → n < block_limit → drop 1 (take (place n + q + 1 - place n) (drop (place n) symbols)) ≡ newest q n symbols
-past_part q n symbols l h =
+pub past_part : (q n : ℕ) (symbols : List ℤ) {q' : ℕ} → q' ≡ q → length symbols ≡ line_length → n < block_limit → drop 1 (take (place n + q' + 1 - place n) (drop (place n) symbols)) ≡ newest q n symbols
+past_part q n symbols {q' = q'} e l h =
     ap₂ (λ (m : ℕ) (t : List ℤ). drop 1 (take m t)) apart (drop-cons symbols (place n) (pos 0) (omega (arith, l)))
     ∙ ap (λ (a : ℕ). take q (drop a symbols)) (behind n h)
   where
-    apart : place n + q + 1 - place n ≡ suc q
-    apart = omega arith
+    apart : place n + q' + 1 - place n ≡ suc q
+    apart = omega (arith, e)
 
 -- what is written there
 pub written_part : (q n m : ℕ) (symbols new : List ℤ) → length symbols ≡ line_length → n < block_limit → length new ≡ suc q →

@@ -52,6 +52,7 @@ received_at (m ∷ ms) [] i h k = absurd (not-suc-le-zero k)
 received_at (m ∷ ms) (g ∷ gs) zero h k = refl
 received_at (m ∷ ms) (g ∷ gs) (suc i) h k = received_at ms gs i (le_of_suc-le-suc h) (le_of_suc-le-suc k)
 
+-- of a sample and a gain that are met together
 pub received_turn : (m : List ℤ) (gains : List ℕ) (i : ℕ) {x : ℤ} {g : ℕ} → (i < length m) × (i < length gains) × ((d : ℤ) → x ≡ get_or m i d) × ((d : ℕ) → g ≡ get_or gains i d) →
     received x g ≡ get_or (received_all m gains) i (pos 0)
 received_turn m gains i t = rw (t.2 (pos 0), t.3 0) (sym (received_at m gains i t.0 t.1))

@@ -2,16 +2,18 @@
 use mathlib.Core.Path.{◌≡◌, refl, sym, ap, ap₂, ◌∙◌, subst}
 use mathlib.Core.Bool.{true}
 use mathlib.Core.List.{List, ◌∷◌}
-use Prim.Native.Nat.{ℕ, suc, ◌+◌, ◌*◌, ◌-◌, ◌≤◌, ◌<◌}
+use Prim.Native.Nat.{ℕ, suc, ◌+◌, ◌^◌, ◌≤◌, ◌<◌}
 use native.Mathlib.Omega.{arith}
-use native.Mathlib.Nat.{le_antisymm, mul-le-mul}
+use native.Mathlib.Nat.{le_antisymm}
 use native.Mathlib.Numerals.{add-one}
 use lib.ListN.{length, get_or, drop, set, length-take}
 use lib.IntN.{ℤ, pos}
-use mir.Syntax.{w64}
-use mir.Val.{Fits}
+use lib.Signed.{mag}
+use mir.Syntax.{w8, w32}
+use mir.Val.{hbits, to_z, of_z}
 use borrow.Author.Tests.{le-leb}
 use Rattle.laws.specs.Loops.{Written, written_none, written_next}
+use Rattle.laws.specs.Machine.{kept}
 use Rattle.laws.specs.Sums.{each_at}
 use Rattle.laws.specs.Values.{values_length, values_at}
 use Rattle.steps.specs.Limits.{tap_limit, block_limit, symbol_limit, exponent_limit}
@@ -23,13 +25,14 @@ use Rattle.filter.specs.Calls.{LargestBitsAt, next_delay, SampleResultIs, filter
 use Rattle.filter.specs.declared.sample.SampleResult.{SampleResult}
 use Rattle.block.specs.Block.{Block, Memory, Outputs, newb, new_b, Γ, after, at, ψFits, entry_at, block_outputs, outputs_of}
 use Rattle.block.specs.Calls.{count, outputs_up_to, filter_state_after, filter_state_at, Advanceable, BegunOn, ProgressedOn, BlockResultIs}
+use Rattle.block.specs.Sound.{Sound}
 use Rattle.block.specs.Line.{place, newest}
 use Rattle.filter.specs.declared.sample.BlockExponents.{BlockExponents}
 use Rattle.block.specs.declared.run.Progress.{Progress}
 use Rattle.filter.proofs.NextLaws.{next_symbols}
 use Rattle.filter.proofs.DelayLaws.{next_delay_most, next_largest_bits_at}
 use Rattle.block.proofs.BlockCount.{count_most, count_all, count_stopped}
-use Rattle.block.proofs.BlockSound.{fit_at, fit_after}
+use Rattle.block.proofs.BlockSound.{fit_at}
 use Rattle.block.proofs.BlockWindow.{after_next}
 use Rattle.block.proofs.BlockMemory.{same_outputs}
 use Rattle.block.proofs.LineLaws.{newest_given, newest_largest_bits_at}
@@ -60,12 +63,6 @@ pub record Passed (k : Settings) (o : Memory) (i : Block) (samples : List ℤ) (
   pub ψ_fits_on : ψFits k o i w.n ≡ true
   pub delay_most : delay ≤ tap_limit + w.n
   pub largest_bits_at : LargestBitsAt k.r delay (newest k.q w.n w.symbols)
-
--- what is stored of a sample is what it gave
-pub record StoredAs (t : SampleResult) (y decision z : ℤ) : Type 0 where
-  pub y_as : y ≡ t.y
-  pub decision_as : decision ≡ t.decision
-  pub z_as : z ≡ t.z
 
 -- these are all that are run
 pub progressed : {k : Settings} {o : Memory} {i : Block} {samples : List ℤ} {l : Outputs} {w : Work} → Reached k o i samples l w → w.n ≡ count k o i k.N →
@@ -146,7 +143,7 @@ module _ {k : Settings} {o : Memory} {i : Block} {e : BlockExponents} {ψ : ℕ}
       }
 
       module _ {t : SampleResult} {forward back : List ℤ} (symbols : List ℤ) (h : SampleResultIs k e.gamma30 filters entry t forward back (newest (suc k.q) (suc w.n) symbols))
-          (long : length symbols ≡ line_length) {ty td tz : ℤ} (same : StoredAs t ty td tz) where
+          (long : length symbols ≡ line_length) (y_in : mag t.y < 2 ^ hbits w32) (decision_in : mag t.decision < 2 ^ hbits w8) (z_in : mag t.z < 2 ^ hbits w32) where
         -- a step of the definitions
         step : SampleResultIs k (Γ k o i) (at k o i w.n) (entry_at k o i w.n) t forward back (newest (suc k.q) (suc w.n) symbols)
         step = rw (filter_state_at_lem, b.exponents.Γ_is, entry_is) at h
@@ -162,8 +159,8 @@ module _ {k : Settings} {o : Memory} {i : Block} {e : BlockExponents} {ψ : ℕ}
           back = back;
           symbols = symbols;
           ψ = t.psi;
-          outputs = outputs_of (set w.outputs.y w.n ty) (set w.outputs.xi w.n t.xi) (set w.outputs.decision w.n td)
-              (set w.outputs.z w.n tz) (set w.outputs.theta w.n t.theta);
+          outputs = outputs_of (set w.outputs.y w.n (to_z w32 (of_z w32 t.y))) (set w.outputs.xi w.n t.xi) (set w.outputs.decision w.n (to_z w8 (of_z w8 t.decision)))
+              (set w.outputs.z w.n (to_z w32 (of_z w32 t.z))) (set w.outputs.theta w.n t.theta);
         }
 
         filter_state_next : filter_state_after k (suc w.n) forward back samples symbols t.psi ≡ after k o i (suc w.n)
@@ -184,10 +181,10 @@ module _ {k : Settings} {o : Memory} {i : Block} {e : BlockExponents} {ψ : ℕ}
           within = omega (arith, more);
           symbols_long = long;
           filter_state_is = rw (add-one w.n) filter_state_next;
-          y_written = written_next p.reached.y_written (pos 0) _ (rw values_length more) (rw b.outputs_long.y_long more) (same.y_as ∙ step.y ∙ sym (values_at _ (pos 0) k.N w.n more));
+          y_written = written_next p.reached.y_written (pos 0) _ (rw values_length more) (rw b.outputs_long.y_long more) (kept w32 t.y y_in ∙ step.y ∙ sym (values_at _ (pos 0) k.N w.n more));
           xi_written = written_next p.reached.xi_written 0 _ (rw values_length more) (rw b.outputs_long.xi_long more) (step.xi ∙ sym (values_at _ 0 k.N w.n more));
-          decision_written = written_next p.reached.decision_written (pos 0) _ (rw values_length more) (rw b.outputs_long.decision_long more) (same.decision_as ∙ step.decision_is ∙ sym (values_at _ (pos 0) k.N w.n more));
-          z_written = written_next p.reached.z_written (pos 0) _ (rw values_length more) (rw b.outputs_long.z_long more) (same.z_as ∙ step.z ∙ sym (values_at _ (pos 0) k.N w.n more));
+          decision_written = written_next p.reached.decision_written (pos 0) _ (rw values_length more) (rw b.outputs_long.decision_long more) (kept w8 t.decision decision_in ∙ step.decision_is ∙ sym (values_at _ (pos 0) k.N w.n more));
+          z_written = written_next p.reached.z_written (pos 0) _ (rw values_length more) (rw b.outputs_long.z_long more) (kept w32 t.z z_in ∙ step.z ∙ sym (values_at _ (pos 0) k.N w.n more));
           theta_written = written_next p.reached.theta_written 0 _ (rw values_length more) (rw b.outputs_long.theta_long more) (step.theta ∙ sym (values_at _ 0 k.N w.n more));
         }
 
@@ -210,12 +207,12 @@ module _ {k : Settings} {o : Memory} {i : Block} {e : BlockExponents} {ψ : ℕ}
 
 module _ {k : Settings} {o : Memory} {i : Block} {samples : List ℤ} {l : Outputs} {r : Progress} {forward back symbols : List ℤ} {l' : Outputs}
     (p : ProgressedOn k o i samples l r forward back symbols l') where
-  pub count_room : k.N ≤ block_limit → r.count ≤ block_limit
-  count_room h = omega (arith, p.count_is, count_most k o i k.N)
+  pub count_room : Sound k o → r.count ≤ block_limit
+  count_room s = omega (arith, p.count_is, count_most k o i k.N, s.within.N_most)
 
-  pub block_result : {window past : List ℤ} {p' q' : ℕ} → p' ≡ k.p → q' ≡ k.q → window ≡ newest p' r.count samples → past ≡ newest q' r.count symbols →
+  pub block_result : {window past : List ℤ} {p' q' : ℕ} → window ≡ newest p' r.count samples → past ≡ newest q' r.count symbols → p' ≡ k.p → q' ≡ k.q →
       {b bmax : ℕ} → b ≡ newb k o i → bmax ≡ new_b k o i → BlockResultIs k o i l (record { psi = r.psi; b = b; bmax = bmax }) forward back window past l'
-  block_result ep eq ew es eb eB = record {
+  block_result ew es ep eq eb eB = record {
     filter_state_is = ap₂ (λ (a b : List ℤ). filter_state_of forward back a b r.psi) (ew ∙ ap (λ (m : ℕ). newest m r.count samples) ep) (es ∙ ap (λ (m : ℕ). newest m r.count symbols) eq)
         ∙ p.filter_state_is;
     b = eb;

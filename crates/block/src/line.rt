@@ -18,6 +18,7 @@ pub fn add(new: &[i16], line: &mut [i16; LINE])
     requires { length new.now ≤ block_limit }
     ensures { line.new ≡ added (length new.now) new.now line.old }
 {
+    // No zip over the line from its end: what is written through one is not known after the loop.
     for (i, x) in new.iter().enumerate() {
         line[BLOCK - 1 - i] = *x;
     }

@@ -8,11 +8,13 @@ ghost use Rattle.block.specs.Lists.{block_in, outputs_in, memory_in, SameOutputs
 ghost use Rattle.block.specs.Calls.{BlockExponentsIs, Startable, FillBounds, filled, filter_state_at, Advanceable, Begun, Progressed, Runnable, BlockResultIs};
 
 use super::lists::{Block, Memory, Outputs};
-use filter::sample::{BlockExponents, SampleResult};
+use super::{line, stored};
+use filter::sample::{self, BlockExponents, SampleResult};
 use filter::weights::Weights;
 use numbers::bit_length::bit_length;
 use numbers::scale_count::scale_count;
 use steps::limits::{BLOCK, EXPONENT, LINE, TAPS};
+use steps::past::rescale_all;
 use steps::settings::Settings;
 
 // How many samples are run, and ψ after them.
@@ -35,9 +37,9 @@ pub fn begin(k: Settings, was: u32, m: &[i16], gains: &[u8]) -> BlockExponents
     requires { Startable k was m.now gains.now }
     ensures { BlockExponentsIs k was m.now gains.now result }
 {
-    let s = scale_count(k.p as usize);
-    let sb = scale_count(k.q as usize);
-    let b = bit_length(u64::from(super::stored::received_bits(m, gains)));
+    let s = scale_count(usize::from(k.p));
+    let sb = scale_count(usize::from(k.q));
+    let b = bit_length(u64::from(stored::received_bits(m, gains)));
     let bmax = b.max(was);
     BlockExponents {
         s,
@@ -49,13 +51,20 @@ pub fn begin(k: Settings, was: u32, m: &[i16], gains: &[u8]) -> BlockExponents
 }
 
 // The samples of a block as stored, and in a line before the old ones.
-fn fill(m: &[i16], gains: &[u8], shift: u32, old: &[i16], stored: &mut [i16], line: &mut [i16; LINE])
+fn fill(
+    m: &[i16],
+    gains: &[u8],
+    shift: u32,
+    old: &[i16],
+    stored: &mut [i16],
+    line: &mut [i16; LINE],
+)
     requires { FillBounds m.now gains.now shift old.now stored.old line.old }
     ensures { (stored.new ≡ stored_all shift m.now gains.now) × (line.new ≡ filled shift m.now gains.now old.now line.old) }
 {
-    super::stored::store(m, gains, shift, stored);
-    super::line::start(old, line);
-    super::line::add(stored, line);
+    stored::store(m, gains, shift, stored);
+    line::start(old, line);
+    line::add(stored, line);
 }
 
 // Sample n, on the lines of stored samples and of symbols.
@@ -75,9 +84,9 @@ fn advance(
     ensures sample { SampleResultIs k e.gamma30 (filter_state_at k n weights.old.forward.now weights.old.back.now samples.now symbols.old psi) entry result weights.new.forward.now weights.new.back.now (newest (suc k.q) (suc n) symbols.new) }
 {
     let first = BLOCK - 1 - n;
-    let oldest = first + (k.p as usize);
-    let last = first + (k.q as usize) + 1;
-    filter::sample::step(
+    let oldest = first + usize::from(k.p);
+    let last = first + usize::from(k.q) + 1;
+    sample::step(
         k,
         e,
         psi,
@@ -114,7 +123,7 @@ fn run_samples(
         outputs.decision[n] = t.decision;
         outputs.z[n] = t.z;
         outputs.theta[n] = t.theta;
-        delay = filter::sample::next_delay(k.r, delay, symbols[BLOCK - 1 - n]);
+        delay = sample::next_delay(k.r, delay, symbols[BLOCK - 1 - n]);
         at = t.psi;
         if EXPONENT < at {
             return Progress {
@@ -136,7 +145,7 @@ pub fn run(k: Settings, memory: &mut Memory, block: Block, outputs: &mut Outputs
     ensures block { BlockResultIs k (memory_in memory.old) (block_in block.entry) (outputs_in outputs.old) result memory.new.weights.forward.now memory.new.weights.back.now memory.new.samples.now memory.new.symbols.now (outputs_in outputs.new) }
 {
     let e = begin(k, memory.b, block.m, block.gains);
-    steps::past::rescale_all(memory.samples, memory.bmax, e.bmax);
+    rescale_all(memory.samples, memory.bmax, e.bmax);
     let mut stored = [0i16; BLOCK];
     let mut sample_line = [0i16; LINE];
     fill(
@@ -148,7 +157,7 @@ pub fn run(k: Settings, memory: &mut Memory, block: Block, outputs: &mut Outputs
         &mut sample_line,
     );
     let mut symbol_line = [0i16; LINE];
-    super::line::start(memory.symbols, &mut symbol_line);
+    line::start(memory.symbols, &mut symbol_line);
     let r = run_samples(
         k,
         e,
@@ -159,8 +168,8 @@ pub fn run(k: Settings, memory: &mut Memory, block: Block, outputs: &mut Outputs
         &mut symbol_line,
         outputs,
     );
-    super::line::newest(&sample_line, r.count, memory.samples);
-    super::line::newest(&symbol_line, r.count, memory.symbols);
+    line::newest(&sample_line, r.count, memory.samples);
+    line::newest(&symbol_line, r.count, memory.symbols);
     BlockResult {
         psi: r.psi,
         b: e.b,

@@ -45,6 +45,7 @@ pub fn store(m: &[i16], gains: &[u8], shift: u32, out: &mut [i16])
 {
     let up = DATA_UNIT.saturating_sub(shift);
     let down = shift.saturating_sub(DATA_UNIT);
+    // No zip over `out`: what is written through one is not known after the loop.
     for (i, x) in out.iter_mut().enumerate() {
         *x = shifted(received(m[i], gains[i]), up, down);
     }

@@ -86,14 +86,14 @@ pub fn filter_output(
     e: BlockExponents,
     psi: u32,
     weights: &Weights,
-    data: Data,
+    inputs: Data,
 ) -> Output
-    requires { FilterBounds e psi weights.now.forward.now weights.now.back.now data.samples.now data.symbols.now × SymbolBounds r delay data.symbols.now }
-    ensures { OutputIs e psi weights.now.forward.now weights.now.back.now data.entry.samples.now data.entry.symbols.now result }
+    requires { FilterBounds e psi weights.now.forward.now weights.now.back.now inputs.samples.now inputs.symbols.now × SymbolBounds r delay inputs.symbols.now }
+    ensures { OutputIs e psi weights.now.forward.now weights.now.back.now inputs.entry.samples.now inputs.entry.symbols.now result }
 {
-    let nu = e.sb + reach(r, delay, data.symbols);
-    let f = steps::weights::sum(weights.forward, data.samples);
-    let h = steps::weights::sum(weights.back, data.symbols);
+    let nu = e.sb + reach(r, delay, inputs.symbols);
+    let f = steps::weights::sum(weights.forward, inputs.samples);
+    let h = steps::weights::sum(weights.back, inputs.symbols);
     let o = steps::output::output(f, h, e.gamma30, nu, psi);
     Output {
         nu,
@@ -156,15 +156,15 @@ pub fn change(
     h: Output,
     j: Decision,
     weights: &mut Weights,
-    data: Data,
+    inputs: Data,
 ) -> u32
-    requires { ChangeBounds m e psi h j weights.old.forward.now weights.old.back.now data.samples.now data.symbols.now }
+    requires { ChangeBounds m e psi h j weights.old.forward.now weights.old.back.now inputs.samples.now inputs.symbols.now }
     ensures lists { SameLists weights.old weights.new }
-    ensures changed { ChangedIs m e psi h j weights.old.forward.now weights.old.back.now data.entry.samples.now data.entry.symbols.now result weights.new.forward.now weights.new.back.now }
+    ensures changed { ChangedIs m e psi h j weights.old.forward.now weights.old.back.now inputs.entry.samples.now inputs.entry.symbols.now result weights.new.forward.now weights.new.back.now }
 {
     let ahead = update(
         weights.forward,
-        data.samples,
+        inputs.samples,
         m,
         j.z,
         psi,
@@ -175,7 +175,7 @@ pub fn change(
     );
     let behind = update(
         weights.back,
-        data.symbols,
+        inputs.symbols,
         m,
         j.z,
         psi,

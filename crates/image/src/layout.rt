@@ -41,6 +41,7 @@ pub fn end_place(y: Layout, taps: usize) -> usize
 }
 
 // The layout of bytes, by their length: there has been one so far.
+#[tactic(auto, using(crate::proofs::LayoutLaws::only_current))]
 pub fn layout_of(bytes: &[u8]) -> Layout
     ensures { result ≡ layout_of bytes.now }
 {

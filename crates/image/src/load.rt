@@ -12,6 +12,8 @@ ghost use Rattle.image.specs.Calls.{Weighed};
 use super::layout::{LEAST_HEADER, Layout, data_place, end_place, layout_of};
 use state::equaliser::Equaliser;
 use state::refusal::Refusal;
+use state::sizes::sizes_fit;
+use state::sound::examined;
 use steps::settings::Settings;
 
 // Signed numbers of two bytes each, at the front of the slots.
@@ -27,6 +29,7 @@ pub fn words_in(bytes: &[u8], n: usize) -> [i16; Equaliser::SLOTS]
 }
 
 // The settings in a header.
+#[tactic(auto, using(words::proofs::LibraryLaws::number_four), unfolding(crate::specs::Load::state_by))]
 fn settings_in(bytes: &[u8]) -> Settings
     requires { least_header ≤ length bytes.now }
     ensures { result ≡ settings (state_in bytes.now) }
@@ -52,6 +55,7 @@ fn weights_in(y: Layout, bytes: &[u8], taps: usize) -> [i16; Equaliser::SLOTS]
 }
 
 // Whether bytes are as long as an image: bytes too short for a header are told first, then a size outside its limits.
+#[tactic(auto, using(crate::proofs::FrameLaws::fit_placed), unfolding(crate::specs::Load::frame_number, crate::specs::Load::state_by))]
 pub fn framed(bytes: &[u8]) -> Result<(), Refusal>
     ensures { number_in result ≡ frame_number bytes.now }
 {
@@ -59,7 +63,7 @@ pub fn framed(bytes: &[u8]) -> Result<(), Refusal>
         return Err(Refusal::Bytes);
     }
     let k = settings_in(bytes);
-    if !state::sizes::sizes_fit(k) {
+    if !sizes_fit(k) {
         return Err(Refusal::Size);
     }
     let taps = usize::from(k.p) + usize::from(k.q);
@@ -71,35 +75,38 @@ pub fn framed(bytes: &[u8]) -> Result<(), Refusal>
 }
 
 // The state in bytes of the right length.
+#[tactic(auto, using(crate::proofs::FrameLaws::few_placed, crate::proofs::FrameLaws::weighed), unfolding(crate::specs::Load::state_by))]
 pub fn state_in(bytes: &[u8]) -> Equaliser
     requires { (least_header ≤ length bytes.now) × (length bytes.now ≡ end_place (layout_of bytes.now) (taps_in bytes.now)) × (taps_in bytes.now ≤ slots) }
     ensures { result ≡ state_in bytes.now }
 {
-    let taps = usize::from(bytes[0]) + usize::from(bytes[1]);
+    let k = settings_in(bytes);
+    let taps = usize::from(k.p) + usize::from(k.q);
     let y = layout_of(bytes);
     let mid = data_place(y, taps);
     let end = end_place(y, taps);
     Equaliser {
-        p: bytes[0],
-        q: bytes[1],
-        n: bytes[2],
-        r: bytes[3],
-        l: bytes[4],
+        p: k.p,
+        q: k.q,
+        n: k.N,
+        r: k.r,
+        l: k.L,
         psi: bytes[5],
         b: bytes[6],
         bmax: bytes[7],
-        m: u32::from_le_bytes([bytes[8], bytes[9], bytes[10], bytes[11]]),
+        m: k.M,
         weights: weights_in(y, bytes, taps),
         past: words_in(&bytes[mid..end], taps),
     }
 }
 
 // The state that bytes hold, or why they are turned down.
+#[tactic(auto, using(state::proofs::RefusalLaws::refusals, crate::proofs::FrameLaws::framed_sound), unfolding(crate::specs::Load::load_number, crate::specs::Load::load_state))]
 pub fn load(bytes: &[u8]) -> Result<Equaliser, Refusal>
     ensures { Load bytes.now (answer_with refused result) }
 {
     framed(bytes)?;
     let e = state_in(bytes);
-    state::sound::examined(e)?;
+    examined(e)?;
     Ok(e)
 }

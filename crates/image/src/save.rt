@@ -7,6 +7,7 @@ ghost use Rattle.image.specs.Result.{saved_of};
 use super::layout::{current, data_place, end_place};
 use state::equaliser::Equaliser;
 use state::refusal::Refusal;
+use state::sound::examined;
 use words::write::put_words;
 
 // A number beside the length of an image, for C.
@@ -32,26 +33,21 @@ impl From<Result<usize, Refusal>> for Saved {
 }
 
 // What stands before the weights.
+#[tactic(auto, using(crate::proofs::ImageLaws::header_put, words::proofs::LibraryLaws::le_bytes_four))]
 pub fn put_header(e: Equaliser, out: &mut [u8])
     requires { length out.old ≡ current.header }
     ensures { out.new ≡ header_bytes e }
 {
-    out[0] = e.p;
-    out[1] = e.q;
-    out[2] = e.n;
-    out[3] = e.r;
-    out[4] = e.l;
-    out[5] = e.psi;
-    out[6] = e.b;
-    out[7] = e.bmax;
-    out[8..12].copy_from_slice(&e.m.to_le_bytes());
+    out[..8].copy_from_slice(&[e.p, e.q, e.n, e.r, e.l, e.psi, e.b, e.bmax]);
+    out[8..].copy_from_slice(&e.m.to_le_bytes());
 }
 
 // The length of the image at the front of a lent buffer, or why it is turned down: the buffer is then as it was.
+#[tactic(auto, using(crate::proofs::ImageLaws::save_refused, crate::proofs::ImageLaws::save_short, crate::proofs::ImageLaws::taps_most))]
 pub fn save(e: Equaliser, buffer: &mut [u8]) -> Result<usize, Refusal>
     ensures { Save e buffer.old (saved_of result) buffer.new }
 {
-    state::sound::examined(e)?;
+    examined(e)?;
     let taps = usize::from(e.p) + usize::from(e.q);
     let y = current();
     let start = y.header;

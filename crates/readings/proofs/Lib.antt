@@ -1,4 +1,5 @@
 pub mod ValueLaws
+pub mod FoldLaws
 pub mod ListLaws
 pub mod ReadableLaws
 pub mod ReadingsHold

@@ -7,19 +7,20 @@ use native.Mathlib.Omega.{arith}
 use native.Mathlib.Nat.{le_of_suc-le-suc, not-suc-le-zero, suc_inj, mul-le-mul}
 use native.Mathlib.Numerals.{add-one}
 use lib.IntN.{ℤ, pos}
-use lib.ListN.{length, get_or, take}
+use lib.ListN.{length, get_or, take, set}
 use lib.Seq.{take_all, length-take-le}
 use lib.Dec.{leb}
 use lib.Ieee.{Float}
 use borrow.Author.Tests.{leb-true, le-leb}
 use Rattle.laws.specs.Lists.{and_left, and_right, all, all_at}
-use Rattle.laws.specs.Loops.{Tested, tested_none, tested_next, tested_all}
+use Rattle.laws.specs.Loops.{Written, written_none, written_next, written_all, Tested, tested_none, tested_next, tested_all}
 use Rattle.laws.specs.Sums.{Each}
 use Rattle.laws.specs.Tests.{tested_each}
 use Rattle.steps.specs.Limits.{block_limit, output_exponent_limit}
 use Rattle.readings.specs.Limits.{amplitude_limit}
-use Rattle.readings.specs.Calls.{Exponent, sum_limit, sum_of, power_from}
-use Rattle.readings.specs.Readings.{pair_of, reading_of, pairs, amplitude, amplitudes, counted, is_uncut, squares, quotient, power_of, exponent_fits}
+use Rattle.readings.specs.Calls.{Exponent, Fillable, sum_limit, sum_of, power_from}
+use Rattle.readings.specs.Readings.{Lists, pair_of, reading_of, readings_of, pairs, amplitude, amplitudes, counted, is_uncut, squares, quotient, power_of, exponent_fits}
+use Rattle.readings.specs.declared.Reading.{Reading}
 use Rattle.readings.specs.declared.errors.Sum.{Sum}
 use Rattle.readings.specs.declared.Power.TheVariants.{Mean, Floor}
 
@@ -110,15 +111,54 @@ module _ {l : List ℕ} {sum : ℕ} {uncut : Bool} {i : ℕ} (s : Summed l sum u
   pub summed_all : length l ≤ i → (sum ≡ squares l) × (uncut ≡ all is_uncut l)
   summed_all h = (s.is ∙ ap squares (take_all i l h), tested_all s.tested h)
 
--- ---- the power
+-- ---- the readings and the sum, as a loop has them of the first i places
 
-pub power_chosen : (s : Sum) (n : ℕ) {b : Bool} → s.uncut ≡ b → power_from s n ≡ cond b (Mean (quotient s.sum n)) (Floor (quotient s.sum n))
-power_chosen s n e = ap (λ (b : Bool). cond b (Mean (quotient s.sum n)) (Floor (quotient s.sum n))) e
+pub record Filled (l : Lists) (before : List (List Float)) (i : ℕ) (now : List (List Float)) (s : Sum) : Type 0 where
+  pub written : Written (readings_of l) before i now
+  pub summed : Summed (amplitudes l.z l.theta) s.sum s.uncut i
+
+pub filled_none : (l : Lists) (before : List (List Float)) → Filled l before 0 before (record { sum = 0; uncut = true })
+filled_none l before = record { written = written_none (readings_of l) before; summed = summed_none (amplitudes l.z l.theta) }
+
+-- a place more
+abbrev pub added : Sum → ℤ → ℕ → Sum
+added s z theta = record { sum = s.sum + counted (amplitude z theta) * counted (amplitude z theta); uncut = s.uncut && is_uncut (amplitude z theta) }
+
+module _ {l : Lists} {before now : List (List Float)} {i : ℕ} {s : Sum} (r : Fillable l (length before)) (f : Filled l before i now s) where
+  long : length (readings_of l) ≡ length before
+  long = pairs_length l.y l.xi l.z l.theta (length before) r.long.y_long r.long.xi_long r.long.z_long r.long.theta_long
+
+  sums_long : length (amplitudes l.z l.theta) ≡ length before
+  sums_long = amplitudes_length l.z l.theta (r.long.theta_long ∙ sym r.long.z_long) ∙ r.long.z_long
+
+  pub filled_small : i < length before → s.sum ≤ sum_limit
+  filled_small h = summed_small f.summed (omega (arith, sums_long, r.long.few)) (omega (arith, sums_long))
+
+  pub filled_next : i < length before → (x : Reading) (t : Sum) → x ≡ reading_of (get_or l.y i (pos 0)) (get_or l.xi i 0) (get_or l.z i (pos 0)) (get_or l.theta i 0) → t ≡ added s (get_or l.z i (pos 0)) (get_or l.theta i 0) →
+      Filled l before (i + 1) (set now i (pair_of x)) t
+  filled_next h x t e g =
+      let y_in : i < length l.y = omega (arith, r.long.y_long) in
+      let xi_in : i < length l.xi = omega (arith, r.long.xi_long) in
+      let z_in : i < length l.z = omega (arith, r.long.z_long) in
+      let theta_in : i < length l.theta = omega (arith, r.long.theta_long) in
+      let a = amplitudes_at l.z l.theta i z_in theta_in in
+      record {
+        written = written_next f.written [] (pair_of x) (omega (arith, long)) h (ap pair_of e ∙ sym (pairs_at l.y l.xi l.z l.theta i [] y_in xi_in z_in theta_in));
+        summed = rw g (summed_next f.summed (amplitude (get_or l.z i (pos 0)) (get_or l.theta i 0)) (omega (arith, sums_long)) (sym a) refl);
+      }
+
+  pub filled_all : length before ≤ i → (now ≡ readings_of l) × (s ≡ sum_of l.z l.theta)
+  filled_all h =
+      let t = summed_all f.summed (omega (arith, sums_long)) in
+      (written_all f.written long h, ap₂ (λ (sum : ℕ) (uncut : Bool). record { sum = sum; uncut = uncut }) t.0 t.1)
+
+-- ---- the power
 
 module _ (Z : List ℤ) (θ : List ℕ) (n : ℕ) (e : length (amplitudes Z θ) ≡ n) where
   pub power_from_lem : power_from (sum_of Z θ) n ≡ power_of (amplitudes Z θ)
   unfolding power_of
-  power_from_lem = ap (power_from (sum_of Z θ)) (sym e)
+  power_from_lem = rw e refl
 
   pub power_is : {b : Bool} → all is_uncut (amplitudes Z θ) ≡ b → let q = quotient (squares (amplitudes Z θ)) n in power_of (amplitudes Z θ) ≡ cond b (Mean q) (Floor q)
-  power_is f = sym power_from_lem ∙ power_chosen (sum_of Z θ) n f
+  unfolding power_of
+  power_is f = rw (f, e) refl

@@ -1,11 +1,13 @@
 -- What can be read, and the answer where it can and where it can't.
 use mathlib.Core.Path.{◌≡◌, refl, sym, ap, ◌∙◌}
-use mathlib.Core.Bool.{Bool, true, false, cond, ◌&&◌, and-true, and-false}
+use mathlib.Core.Bool.{Bool, true, false, cond, ◌&&◌}
 use mathlib.Core.List.{List}
-use Prim.Native.Nat.{ℕ}
+use Prim.Native.Nat.{ℕ, ◌^◌, ◌≤◌, ◌<◌}
+use native.Mathlib.Omega.{arith}
 use lib.ListN.{length}
-use lib.IntN.{pos}
-use lib.Ieee.{Float, fin}
+use lib.Ieee.{Float}
+use Rattle.std.specs.Prelude.{Ok, Err}
+use Rattle.std.proofs.Common.{rules}
 use borrow.Author.Tests.{leb-true, le-leb, eq-eqb}
 use Rattle.laws.specs.Lists.{and_left, and_right, all}
 use Rattle.laws.specs.Tests.{last_le, last_eq}
@@ -13,22 +15,12 @@ use Rattle.steps.specs.Limits.{block_limit}
 use Rattle.steps.specs.Fir.{all_below}
 use Rattle.readings.specs.Limits.{output_limit, error_limit}
 use Rattle.readings.specs.Readings.{Lists, exponent_fits, lengths_readable, values_readable, readable, readings_of, amplitudes, is_uncut, squares, quotient, power_of}
-use Rattle.readings.specs.Answers.{answer_of, output_of, number_of, floor_of, value_in, read_number, read_floor, read_value, Read}
-use Rattle.readings.specs.Calls.{Long, Fillable}
+use Rattle.readings.specs.Answers.{answer_of, output_of, number_of, floor_of, value_in, Read}
+use Rattle.readings.specs.Calls.{Long, Fillable, sum_of, power_from}
 use Rattle.readings.specs.declared.Power.TheVariants.{Mean, Floor}
-use Rattle.readings.specs.declared.ReadAnswer.{ReadAnswer}
-use Rattle.readings.specs.declared.ReadAnswer.TheVariants.{Given, Refused}
-use Rattle.readings.proofs.ListLaws.{amplitudes_length}
+use Rattle.readings.proofs.ListLaws.{amplitudes_length, squares_bound, power_from_lem}
 
 module _ (l : Lists) (n : ℕ) where
-  pub readable_short : lengths_readable l n ≡ false → readable l n ≡ false
-  unfolding readable
-  readable_short e = ap (λ (b : Bool). b && values_readable l) e
-
-  pub readable_long : lengths_readable l n ≡ true → readable l n ≡ values_readable l
-  unfolding readable
-  readable_long e = ap (λ (b : Bool). b && values_readable l) e
-
   pub lengths_say : lengths_readable l n ≡ true → Long l n
   lengths_say h =
       let t = last_eq _ (length l.theta) n h in
@@ -37,13 +29,6 @@ module _ (l : Lists) (n : ℕ) where
       let y = last_eq _ (length l.y) n x.0 in
       let f = last_le _ n block_limit y.0 in
       record { some = leb-true 1 n f.0; few = f.1; y_long = y.1; xi_long = x.1; z_long = z.1; theta_long = t.1 }
-
--- the values in another order
-pub reordered : (y z x t : Bool) → ((y && z) && (x && t)) ≡ (z && x && t && y)
-reordered y false x t = ap (λ (b : Bool). b && (x && t)) (and-false y)
-reordered true true true t = sym (and-true t)
-reordered true true false t = refl
-reordered false true x t = sym (and-false (x && t))
 
 -- every cause is absent
 pub record Readable (l : Lists) (n : ℕ) : Type 0 where
@@ -79,56 +64,42 @@ module _ {l : Lists} {n : ℕ} where
 
 pub number_given : (l : Lists) (n : ℕ) → readable l n ≡ true → number_of (answer_of l n) ≡ 0
 unfolding answer_of
-number_given l n e = ap (λ (b : Bool). number_of (cond b (Given (power_of (amplitudes l.z l.theta))) Refused)) e
+number_given l n e = rw e refl
 
-power_floor : (a : List ℕ) → floor_of (Given (power_of a)) ≡ cond (all is_uncut a) 0 1
-unfolding power_of
-power_floor a = go (all is_uncut a)
-  where
-    go : (b : Bool) → floor_of (Given (cond b (Mean (quotient (squares a) (length a))) (Floor (quotient (squares a) (length a))))) ≡ cond b 0 1
-    go true = refl
-    go false = refl
+module _ (a : List ℕ) where
+  power_floor : floor_of (Ok (power_of a)) ≡ cond (all is_uncut a) 0 1
+  unfolding power_of
+  power_floor = elim (all is_uncut a) as (λ (b : Bool). floor_of (Ok (cond b (Mean (quotient (squares a) (length a))) (Floor (quotient (squares a) (length a))))) ≡ cond b 0 1) [ true ↦ refl | false ↦ refl ]
 
-power_value : (a : List ℕ) → value_in (Given (power_of a)) ≡ quotient (squares a) (length a)
-unfolding power_of
-power_value a = go (all is_uncut a)
-  where
-    go : (b : Bool) → value_in (Given (cond b (Mean (quotient (squares a) (length a))) (Floor (quotient (squares a) (length a))))) ≡ quotient (squares a) (length a)
-    go true = refl
-    go false = refl
+  power_value : value_in (Ok (power_of a)) ≡ quotient (squares a) (length a)
+  unfolding power_of
+  power_value = search rules
 
-module _ (l : Lists) where
+module _ (l : Lists) (n : ℕ) (is : readable l n ≡ true) where
   -- as many a as places
-  pub amplitudes_long : (n : ℕ) → readable l n ≡ true → length (amplitudes l.z l.theta) ≡ n
-  amplitudes_long n e = let f = (readable_says e).fill.long in amplitudes_length l.z l.theta (f.theta_long ∙ sym f.z_long) ∙ f.z_long
+  amplitudes_long : length (amplitudes l.z l.theta) ≡ n
+  amplitudes_long = let f = (readable_says is).fill.long in amplitudes_length l.z l.theta (f.theta_long ∙ sym f.z_long) ∙ f.z_long
 
-  -- the number and the values of an answer
-  answer_values : (n : ℕ) → (number_of (answer_of l n) ≡ read_number l n) × (floor_of (answer_of l n) ≡ read_floor l n) × (value_in (answer_of l n) ≡ read_value l n)
-  unfolding answer_of
-  answer_values n = go (readable l n) refl
-    where
-      as' : List ℕ
-      as' = amplitudes l.z l.theta
+  -- the sum of a² is exact as a float
+  pub sum_fits : (squares (amplitudes l.z l.theta) < 2 ^ 53) × (1 ≤ n) × (n ≤ block_limit)
+  sum_fits = let r = (readable_says is).fill.long in (omega (arith, squares_bound (amplitudes l.z l.theta), amplitudes_long, r.few), r.some, r.few)
 
-      go : (b : Bool) → readable l n ≡ b →
-          (number_of (cond b (Given (power_of as')) Refused) ≡ cond b 0 11) × (floor_of (cond b (Given (power_of as')) Refused) ≡ cond b (cond (all is_uncut as') 0 1) 0)
-          × (value_in (cond b (Given (power_of as')) Refused) ≡ cond b (quotient (squares as') n) (fin false 0 (pos 0)))
-      go true e = (refl, power_floor as', power_value as' ∙ ap (quotient (squares as')) (amplitudes_long n e))
-      go false e = (refl, refl, refl)
+  pub power_given : power_from (sum_of l.z l.theta) n ≡ power_of (amplitudes l.z l.theta)
+  power_given = power_from_lem l.z l.theta n amplitudes_long
 
-  -- so the contract is met by an answer and an output
-  pub read : (before : List (List Float)) {a : ReadAnswer} {after : List (List Float)} → a ≡ answer_of l (length before) → after ≡ output_of l before → Read l before a after
-  read before e o =
-      let v = answer_values (length before) in
-      record { answer = e; number = ap number_of e ∙ v.0; floor = ap floor_of e ∙ v.1; value = ap value_in e ∙ v.2; output = o }
+module _ (l : Lists) (before : List (List Float)) where
+  pub refused : readable l (length before) ≡ false → Read l before (Err (record {})) before
+  unfolding answer_of output_of
+  refused e = record { answer = rw e refl; number = rw e refl; floor = rw e refl; value = rw e refl; output = rw e refl }
 
-  module _ (before : List (List Float)) where
-    pub refused : readable l (length before) ≡ false → Read l before Refused before
-    unfolding answer_of output_of
-    refused e =
-        read before (sym (ap (λ (b : Bool). cond b (Given (power_of (amplitudes l.z l.theta))) Refused) e)) (sym (ap (λ (b : Bool). cond b (readings_of l) before) e))
-
-    pub given : readable l (length before) ≡ true → Read l before (Given (power_of (amplitudes l.z l.theta))) (readings_of l)
-    unfolding answer_of output_of
-    given e =
-        read before (sym (ap (λ (b : Bool). cond b (Given (power_of (amplitudes l.z l.theta))) Refused) e)) (sym (ap (λ (b : Bool). cond b (readings_of l) before) e))
+  pub given : readable l (length before) ≡ true → Read l before (Ok (power_of (amplitudes l.z l.theta))) (readings_of l)
+  unfolding answer_of output_of
+  given e =
+      let a = amplitudes l.z l.theta in
+      record {
+        answer = rw e refl;
+        number = rw e refl;
+        floor = rw e (power_floor a);
+        value = rw e (power_value a ∙ ap (quotient (squares a)) (amplitudes_long l (length before) e));
+        output = rw e refl;
+      }

@@ -6,8 +6,7 @@ use lib.IntN.{ℤ, pos, neg_ℤ}
 use lib.ListN.{get_or}
 use lib.Ieee.{Float, binary64, round, to_bits}
 use Rattle.readings.specs.Readings.{Lists, value_of, pairs, readings_of, amplitudes, squares, quotient, power_of, readable}
-use Rattle.readings.specs.Answers.{answer_of, number_of, floor_of, value_in}
-use Rattle.readings.specs.declared.ReadAnswer.{ReadAnswer}
+use Rattle.readings.specs.Answers.{ReadAnswer, answer_of, number_of, floor_of, value_in}
 
 pub record Case : Type 0 where
   pub gives : List ℕ

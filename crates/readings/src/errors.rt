@@ -45,7 +45,7 @@ fn quotient(sum: u64, n: usize) -> f64
     requires { (sum < 2 ^ 53) × (1 ≤ n) × (n ≤ block_limit) }
     ensures { result ≡ quotient sum n }
 {
-    (sum as f64) / ((65536 * (n as u64)) as f64)
+    (sum as f64) / ((65536 * n) as f64)
 }
 
 // A mean, or only a floor.

@@ -47,7 +47,7 @@ fn value(m: i32, e: u8, powers: &[f64; EXPONENTS]) -> f64
     requires { Exponent e × (powers.now ≡ power_table) }
     ensures { result ≡ value_of m e }
 {
-    (m as f64) * powers[e as usize]
+    (m as f64) * powers[usize::from(e)]
 }
 
 pub fn reading_of(y: i32, xi: u8, z: i32, theta: u8, powers: &[f64; EXPONENTS]) -> Reading

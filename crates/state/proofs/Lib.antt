@@ -1,4 +1,6 @@
 pub mod PaddedLaws
+pub mod RefusalLaws
+pub mod FoldLaws
 pub mod SizesLaws
 pub mod ElementTests
 pub mod SoundLaws

@@ -1,5 +1,5 @@
 -- The tests of the sizes and of the step admission, as bounds.
-use mathlib.Core.Path.{◌≡◌, refl, ap, ◌∙◌}
+use mathlib.Core.Path.{◌≡◌, refl, sym, ap, ◌∙◌}
 use mathlib.Core.Bool.{Bool, true, false, cond}
 use Prim.Native.Nat.{ℕ, ◌+◌, ◌*◌, ◌^◌, ◌≤◌, ◌<◌}
 use native.Mathlib.Omega.{arith}
@@ -90,3 +90,6 @@ two false b e = absurd (omega arith)
 pub settings_tests : (k : Settings) → settings_number k ≡ 0 → (sizes_fit k ≡ true) × (admits k ≡ true)
 unfolding settings_number
 settings_tests k e = two (sizes_fit k) (admits k) e
+
+pub passed_within : (k : Settings) → 0 ≡ settings_number k → Within k
+passed_within k e = fit_within k (settings_tests k (sym e)).0

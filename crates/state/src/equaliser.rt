@@ -5,6 +5,7 @@ ghost use Rattle.state.specs.Answers.{SetUp};
 ghost use Rattle.state.specs.Refusal.{answer_with};
 
 use super::refusal::Refusal;
+use super::sizes::admitted;
 use steps::limits;
 use steps::settings::Settings;
 
@@ -64,6 +65,7 @@ impl From<Equaliser> for Settings {
 }
 
 // Weights, ψ, past samples and symbols, b and B of 0.
+#[tactic(auto, unfolding(crate::specs::State::fresh))]
 pub fn fresh(k: Settings) -> Equaliser
     ensures { result ≡ fresh k }
 {
@@ -83,6 +85,7 @@ pub fn fresh(k: Settings) -> Equaliser
 }
 
 // The smallest state, which stands beside the number of a refusal.
+#[tactic(auto, unfolding(crate::specs::State::refused))]
 pub fn refused() -> Equaliser
     ensures { result ≡ refused }
 {
@@ -122,10 +125,11 @@ impl Equaliser {
         + (Equaliser::WEIGHT + Equaliser::DATUM) * Equaliser::SLOTS;
 
     // A fresh state, or why the settings are turned down.
+    #[tactic(auto, using(crate::proofs::RefusalLaws::refusals))]
     pub fn set_up(k: Settings) -> Result<Equaliser, Refusal>
         ensures { SetUp k (answer_with refused result) }
     {
-        super::sizes::admitted(k)?;
+        admitted(k)?;
         Ok(fresh(k))
     }
 }

@@ -6,6 +6,7 @@ ghost use Rattle.state.specs.Sizes.{sizes_fit, admits, settings_number};
 
 use super::equaliser::Equaliser;
 use super::refusal::Refusal;
+use steps::limits::STEP_UNIT;
 use steps::settings::Settings;
 
 // Whether every size is within its limits.
@@ -17,7 +18,7 @@ pub fn sizes_fit(k: Settings) -> bool
         & (1 <= k.q)
         & (k.q <= Equaliser::TAPS)
         & (1 <= k.N)
-        & ((k.p as u32) <= (k.N as u32) + 1)
+        & (u32::from(k.p) <= u32::from(k.N) + 1)
         & (k.N <= Equaliser::BLOCK)
         & (k.r <= Equaliser::SYMBOLS)
         & (k.L <= Equaliser::GAIN)
@@ -28,15 +29,16 @@ pub fn admits(k: Settings) -> bool
     requires { Within k }
     ensures { result ≡ admits k }
 {
-    let l = k.L as u64;
-    let e = 2 * (k.r as u64);
+    let l = u64::from(k.L);
+    let e = 2 * u64::from(k.r);
     let d = (1u64 << (e + 3 + l))
-        + (k.p as u64) * (1u64 << (e + 2))
-        + (k.q as u64) * (1u64 << (e + 2 + l));
-    (k.M as u64) * d <= 1u64 << ((steps::limits::STEP_UNIT as u64) + l)
+        + u64::from(k.p) * (1u64 << (e + 2))
+        + u64::from(k.q) * (1u64 << (e + 2 + l));
+    u64::from(k.M) * d <= 1u64 << (u64::from(STEP_UNIT) + l)
 }
 
 // Whether a station can be set up: a size outside its limits is told before an M that is not admitted.
+#[tactic(auto, unfolding(crate::specs::Sizes::settings_number))]
 pub fn admitted(k: Settings) -> Result<(), Refusal>
     ensures { number_in result ≡ settings_number k }
 {

@@ -10,23 +10,30 @@ ghost use Rattle.state.specs.Refusal.{number_in};
 
 use super::equaliser::Equaliser;
 use super::refusal::Refusal;
+use super::sizes::admitted;
+use numbers::scale_count::scale_count;
+use steps::limits::{DATA_UNIT, LENGTH};
+use steps::past::largest_bits;
 use steps::settings::Settings;
+use steps::weights;
 
+#[tactic(auto, using(crate::proofs::ElementTests::zeros_pass))]
 pub fn all_zero(xs: &[i16]) -> bool
     ensures { result ≡ all is_zero xs.now }
 {
-    steps::past::largest_bits(xs) == 0
+    largest_bits(xs) == 0
 }
 
 // |A|·2^(B+S) < 2^(DATA_UNIT + b) for each: it goes by the largest bit length.
+#[tactic(auto, using(crate::proofs::ElementTests::stored_largest_bits, crate::proofs::ElementTests::stored_zero))]
 pub fn all_stored(xs: &[i16], s: u32, b: u8, bmax: u8) -> bool
     requires { s ≤ scale_limit }
     ensures { result ≡ all (is_stored s b bmax) xs.now }
 {
-    let scale = (bmax as u32) + s;
-    let room = steps::limits::DATA_UNIT + (b as u32);
+    let scale = u32::from(bmax) + s;
+    let room = DATA_UNIT + u32::from(b);
     if scale < room {
-        steps::past::largest_bits(xs) <= room - scale
+        largest_bits(xs) <= room - scale
     } else {
         all_zero(xs)
     }
@@ -38,7 +45,7 @@ pub fn is_entry(v: i16, r: u32) -> bool
     ensures { result ≡ is_entry r v }
 {
     let size = v.unsigned_abs();
-    (size == 0) | ((size % 2 == 1) & (size <= (1u16 << (r + 1)) - 1))
+    (size == 0) | ((size % 2 == 1) & (size < 1 << (r + 1)))
 }
 
 pub fn all_symbols(xs: &[i16], r: u32) -> bool
@@ -53,33 +60,33 @@ fn sound_exponents(e: Equaliser) -> bool
 {
     (e.psi <= Equaliser::EXPONENT)
         & (e.b <= e.bmax)
-        & ((e.bmax as u32) + (e.l as u32) <= steps::limits::LENGTH)
+        & (u32::from(e.bmax) + u32::from(e.l) <= LENGTH)
 }
 
 fn sound_weights(e: Equaliser) -> bool
     requires { Within (settings e) }
     ensures { result ≡ sound_weights e }
 {
-    let weights = e.weights;
-    let taps = (e.p as usize) + (e.q as usize);
-    steps::weights::all_small(&weights[0..taps]) & steps::weights::all_zero(&weights[taps..])
+    let taps = usize::from(e.p) + usize::from(e.q);
+    weights::all_small(&e.weights[..taps]) & weights::all_zero(&e.weights[taps..])
 }
 
+#[tactic(auto, using(numbers::proofs::ScaleCountLaws::scale_least))]
 fn sound_past(e: Equaliser) -> bool
     requires { Within (settings e) }
     ensures { result ≡ sound_past e }
 {
-    let past = e.past;
-    let p = e.p as usize;
-    let taps = p + (e.q as usize);
-    let s = numbers::scale_count::scale_count(p);
+    let p = usize::from(e.p);
+    let taps = p + usize::from(e.q);
+    let s = scale_count(p);
     let last = p - 1;
-    all_stored(&past[0..last], s, e.b, e.bmax)
-        & (past[last] == 0)
-        & all_symbols(&past[p..taps], e.r as u32)
-        & all_zero(&past[taps..])
+    all_stored(&e.past[..last], s, e.b, e.bmax)
+        & (e.past[last] == 0)
+        & all_symbols(&e.past[p..taps], u32::from(e.r))
+        & all_zero(&e.past[taps..])
 }
 
+#[tactic(auto, unfolding(crate::specs::State::is_sound))]
 pub fn is_sound(e: Equaliser) -> bool
     requires { Within (settings e) }
     ensures { result ≡ is_sound e }
@@ -88,10 +95,11 @@ pub fn is_sound(e: Equaliser) -> bool
 }
 
 // What an operation finds of the state that it is given.
+#[tactic(auto, using(crate::proofs::SizesLaws::passed_within, crate::proofs::RefusalLaws::refusals), unfolding(crate::specs::Answers::examined))]
 pub fn examined(e: Equaliser) -> Result<(), Refusal>
     ensures { number_in result ≡ examined e }
 {
-    super::sizes::admitted(Settings::from(e))?;
+    admitted(Settings::from(e))?;
     if is_sound(e) {
         Ok(())
     } else {

@@ -16,7 +16,7 @@ use Rattle.steps.specs.Error.{error, error_exponent}
 use Rattle.steps.specs.Sound.{ErrorBounds, DifferenceBounds}
 use Rattle.steps.proofs.OutputLaws.{error_exponent_form}
 
-pub exponent_kept : (ξ κ : ℕ) → κ ≤ ξ → error_exponent ξ κ ≡ ξ
+exponent_kept : (ξ κ : ℕ) → κ ≤ ξ → error_exponent ξ κ ≡ ξ
 unfolding error_exponent
 exponent_kept ξ κ h = simp (le-ltb ξ κ h)
 
@@ -48,3 +48,17 @@ difference_bounds {r} {s} {ξ} {v} {y} m = record {
           Powers.raise (nat_abs v) (output_unit - s) n (output_unit - (s + n)) (omega (arith, length_most m, m.r_most, m.scale_most)) (bit_length_above (nat_abs v)),
           top,
         )
+
+-- where ξ is no smaller than any κ
+module _ {r s ξ : ℕ} {v y : ℤ} (m : ErrorBounds r s v y ξ) (h : s + r + 1 ≤ ξ) where
+  most : s + bit_length (nat_abs v) ≤ ξ
+  most = omega (arith, length_most m)
+
+  pub output_exponent_error : error_exponent ξ (s + bit_length (nat_abs v)) ≡ ξ
+  output_exponent_error = exponent_kept ξ (s + bit_length (nat_abs v)) most
+
+  pub output_error : error v y ξ (s + bit_length (nat_abs v)) ≡ raise v (output_unit - ξ) -ℤ cut y 0
+  output_error = error_kept v y ξ (s + bit_length (nat_abs v)) most
+
+  pub output_room : nat_abs v * 2 ^ (output_unit - ξ) ≤ 2 ^ (output_unit - 1)
+  output_room = rw (← output_exponent_error) (difference_bounds m).room

@@ -11,6 +11,7 @@ use lib.IntN.{ℤ, pos, nat_abs}
 use lib.Bits.{bit_or, and_le_l, and_le_r, or_lt, or_add_and, or_zero_r}
 use lib.ListN.{length, get_or, take, length-map, get_or-map}
 use lib.Seq.{take_all}
+use Rattle.std.specs.Prelude.{fold}
 use borrow.Author.Tests.{lt-ltb, le-ltb, ltb-true, ltb-false}
 use Rattle.laws.specs.Machine.{or_assoc}
 use Rattle.laws.specs.Powers.{positive}
@@ -131,6 +132,16 @@ seen_next l i seen n e f = or_all_next (magnitudes l) i seen n e (f ∙ sym (get
 
 pub seen_all : (l : List ℤ) (i seen : ℕ) → Seen l i seen → length l ≤ i → seen ≡ or_all (magnitudes l)
 seen_all l i seen e h = or_all_all (magnitudes l) i seen (rw length-map h) e
+
+-- ---- in a fold
+
+or_folded : (m : ℕ) (l : List ℤ) → fold (λ (seen : ℕ) (x : ℤ). bit_or seen (nat_abs x)) m l ≡ bit_or m (or_all (magnitudes l))
+unfolding or_all
+or_folded m [] = sym (or_zero_r m)
+or_folded m (x ∷ l) = or_folded (bit_or m (nat_abs x)) l ∙ or_assoc m (nat_abs x) (or_all (magnitudes l))
+
+pub folded_bits : (l : List ℤ) (n : ℕ) → n ≡ fold (λ (seen : ℕ) (x : ℤ). bit_or seen (nat_abs x)) 0 l → n ≡ or_all (magnitudes l)
+folded_bits l n e = e ∙ or_folded 0 l
 
 -- ---- below a limit
 

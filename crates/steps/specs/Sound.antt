@@ -1,11 +1,11 @@
 -- What the functions of the steps ask, as plain bounds.
-use Rattle.std.specs.Prelude.{◌≡◌, List, [], ◌∷◌, ℕ, ◌+◌, ◌*◌, ◌-◌, ◌^◌, ◌≤◌, ◌<◌, length, ℤ, nat_abs}
+use Rattle.std.specs.Prelude.{◌≡◌, List, [], ◌∷◌, ℕ, ◌+◌, ◌*◌, ◌-◌, ◌^◌, ◌≤◌, ◌<◌, length, get_or, ℤ, pos, nat_abs}
 use Rattle.std.specs.Int.Bits.{bit_or}
 use Rattle.laws.specs.Sums.{Each}
 use Rattle.numbers.specs.Cut.{rescale}
 use Rattle.steps.specs.Limits.{data_unit, output_unit, step_unit, received_unit, tap_limit, block_limit, symbol_limit, gain_limit, exponent_limit, halving_limit, scale_limit, data_exponent_limit, output_exponent_limit, length_limit}
 use Rattle.steps.specs.Settings.{Settings, step_bound}
-use Rattle.steps.specs.Fir.{Small, largest, magnitudes}
+use Rattle.steps.specs.Fir.{Small, adapted, largest, magnitudes}
 use Rattle.steps.specs.Error.{error_exponent}
 
 -- sizes within their limits
@@ -81,3 +81,11 @@ pub record Storable (i j : ℕ) (z : ℤ) : Type 0 where
 unfoldable pub or_all : List ℕ → ℕ
 or_all [] = 0
 or_all (n ∷ ns) = bit_or n (or_all ns)
+
+-- a call for each weight and its datum may be made
+abbrev pub MayMake : (ℤ → ℤ → Type 0) → List ℤ → List ℤ → Type 0
+MayMake pre w a = (i : ℕ) → i < length w → pre (get_or w i (pos 0)) (get_or a i (pos 0))
+
+-- and gives the new weight
+abbrev pub Makes : (ℤ → ℤ → ℤ → Type 0) → ℤ → List ℤ → List ℤ → Type 0
+Makes post k w a = (i : ℕ) (x : ℤ) → i < length w → post (get_or w i (pos 0)) (get_or a i (pos 0)) x → x ≡ adapted k (get_or w i (pos 0)) (get_or a i (pos 0))

@@ -16,12 +16,12 @@ pub fn largest_bits(xs: &[i16]) -> u32
     bit_length(u64::from(seen))
 }
 
-// T(z·2^(i−j)) of a number whose result fits 16 bits.
-fn restored(z: i64, i: u32, j: u32) -> i16
-    requires { Storable i j z }
-    ensures { result ≡ rescale z i j }
+// T(x·2^(i−j)) of a number whose result fits 16 bits.
+fn restored(x: i16, i: u32, j: u32) -> i16
+    requires { Storable i j x }
+    ensures { result ≡ rescale x i j }
 {
-    rescale(z, i, j) as i16
+    rescale(i64::from(x), i, j) as i16
 }
 
 // Stored samples at another exponent.
@@ -30,6 +30,6 @@ pub fn rescale_all(xs: &mut [i16], i: u32, j: u32)
     ensures { xs.new ≡ map (λ (a : ℤ). rescale a i j) xs.old }
 {
     for x in xs {
-        *x = restored(i64::from(*x), i, j);
+        *x = restored(*x, i, j);
     }
 }

@@ -1,10 +1,10 @@
 // Loops over the weights of a filter.
-ghost use Rattle.std.specs.Prelude.{◌≡◌, ◌+◌, ◌*◌, ◌-◌, ◌/◌, ◌^◌, ◌<◌, ◌≤◌, pos, nat_abs};
+ghost use Rattle.std.specs.Prelude.{◌≡◌, ◌+◌, ◌*◌, ◌-◌, ◌/◌, ◌^◌, ◌<◌, ◌≤◌, pos, nat_abs, ℤ, length};
 ghost use Rattle.laws.specs.Sums.{dot, Each};
 ghost use Rattle.numbers.specs.Cut.{cut, raise};
 ghost use Rattle.steps.specs.Limits.{data_unit, output_unit, update_shift};
 ghost use Rattle.steps.specs.Fir.{Small, adapted, adapt, all_below, all_small, halved, doubled, magnitudes};
-ghost use Rattle.steps.specs.Sound.{or_all, Summable, Adaptable};
+ghost use Rattle.steps.specs.Sound.{or_all, Summable, Adaptable, MayMake, Makes};
 
 use super::limits::{DATA_UNIT, HALVING, UPDATE_SHIFT};
 use numbers::cut::Register;
@@ -74,44 +74,33 @@ fn adapted(k: i64, w: i16, a: i16) -> i16
     (i64::from(w) + (k * i64::from(a)).cut(UPDATE_SHIFT)) as i16
 }
 
-// Step 6: one weight and what it gains, where k is J·2^(DATA_UNIT − t) and factor is |J|: by a signed product where
-// taps are few, and where they are many by magnitudes, of which a compiler takes several at a time.
-fn adapted_by(few: bool, j: i32, k: i64, factor: u32, t: u32, w: i16, a: i16) -> i16
-    requires { (t ≤ data_unit) × (k ≡ raise j (data_unit - t)) × (factor ≡ nat_abs j) × (Small w) × (nat_abs j * nat_abs a < 2 ^ (output_unit - 1 + t)) }
-    ensures { result ≡ adapted (raise j (data_unit - t)) w a }
+// The new weights, each made of a weight and its datum, and the bits of their magnitudes together.
+fn adapt_each<F: Fn(i16, i16) -> i16>(w: &mut [i16], a: &[i16], new: F) -> u16
+    requires { (length w.old ≤ length a.now) × MayMake (F.pre new) w.old a.now }
+    ensures { (k : ℤ) → Makes (F.post new) k w.old a.now → (w.new ≡ adapt k w.old a.now) × (result ≡ or_all (magnitudes w.new)) }
 {
-    if few {
-        adapted(k, w, a)
-    } else {
-        adapted_by_size(j, factor, t, w, a)
-    }
-}
-
-// The new weights, and the bits of their magnitudes together.
-fn adapt_all(few: bool, w: &mut [i16], a: &[i16], j: i32, t: u32) -> u16
-    requires { Adaptable j t w.old a.now }
-    ensures { (w.new ≡ adapt (raise j (data_unit - t)) w.old a.now) × (result ≡ or_all (magnitudes w.new)) }
-{
-    let k = i64::from(j).raise(DATA_UNIT - t);
-    let factor = j.unsigned_abs();
     let mut seen = 0;
-    for (w, a) in w.iter_mut().zip(a) {
-        *w = adapted_by(few, j, k, factor, t, *w, *a);
+    // By index: what is written through a zip of iter_mut is not known after it.
+    for (i, w) in w.iter_mut().enumerate() {
+        *w = new(*w, a[i]);
         seen |= w.unsigned_abs();
     }
     seen
 }
 
 // Step 6: the new weights of a filter, whose data are raised by DATA_UNIT − t bits, and the bits of their magnitudes
-// together.
+// together: by a signed product where taps are few, and where they are many by magnitudes, of which a compiler takes
+// several at a time.
 pub fn adapt(w: &mut [i16], a: &[i16], j: i32, t: u32) -> u16
     requires { Adaptable j t w.old a.now }
     ensures { (w.new ≡ adapt (raise j (data_unit - t)) w.old a.now) × (result ≡ or_all (magnitudes w.new)) }
 {
     if w.len() <= FEW {
-        adapt_all(true, w, a, j, t)
+        let k = i64::from(j).raise(DATA_UNIT - t);
+        adapt_each(w, a, |w, a| adapted(k, w, a))
     } else {
-        adapt_all(false, w, a, j, t)
+        let factor = j.unsigned_abs();
+        adapt_each(w, a, |w, a| adapted_by_size(j, factor, t, w, a))
     }
 }
 

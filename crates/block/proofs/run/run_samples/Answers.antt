@@ -1,9 +1,9 @@
 -- The samples one by one: when n are done, everything is as the definitions have it.
 use native.Mathlib.Omega.{arith}
 use borrow.Author.Rules.{rules}
-use mir.Syntax.{w8, w16, w32}
+use mir.Syntax.{w8, w16}
 use Rattle.laws.specs.Machine.{kept}
-use Rattle.block.proofs.RunLaws.{StoredAs, passed_none, delay_room, finished, advanceable, passed_next, stopped}
+use Rattle.block.proofs.RunLaws.{passed_none, delay_room, finished, advanceable, passed_next, stopped}
 use Rattle.block.proofs.run.run_samples.Goals as goal
 
 pub loop-n-init : goal.loop-n-init
@@ -23,18 +23,16 @@ next_delay-delay-requires c = let r = c.requires in delay_room r.begun (c.loop-n
 
 pub returns-then-at-gt-EXPONENT-clause-progress : goal.returns-then-at-gt-EXPONENT-clause-progress
 returns-then-at-gt-EXPONENT-clause-progress c o i b =
-    let t = c.advance-t.result in
     stopped b (c.loop-n.invariant.passed o i b) c.loop-n-test.true (kept w8 _ (omega arith)) c.advance-t.new.symbols c.advance-t.ensures.sample c.advance-t.array_long
-    (record { y_as = kept w32 t.y (omega arith); decision_as = kept w8 t.decision (omega arith); z_as = kept w32 t.z (omega arith) }) c.if-at-gt-EXPONENT.true
+    (omega arith) (omega arith) (omega arith) c.if-at-gt-EXPONENT.true
 
 pub loop-n-preserved : goal.loop-n-preserved
 loop-n-preserved c = record {
   lists = search rules;
   outputs = search rules;
   passed = λ o i b.
-      let t = c.advance-t.result in
       passed_next b (c.loop-n.invariant.passed o i b) c.loop-n-test.true (kept w8 _ (omega arith)) c.advance-t.new.symbols c.advance-t.ensures.sample c.advance-t.array_long
-      (record { y_as = kept w32 t.y (omega arith); decision_as = kept w8 t.decision (omega arith); z_as = kept w32 t.z (omega arith) }) c.if-at-gt-EXPONENT.false
+      (omega arith) (omega arith) (omega arith) c.if-at-gt-EXPONENT.false
       (kept w16 _ (omega arith)) c.next_delay-delay.ensures;
 }
 

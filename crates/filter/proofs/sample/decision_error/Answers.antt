@@ -1,5 +1,4 @@
 -- The error is taken of the symbol that was chosen.
-use mathlib.Core.Path.{◌∙◌}
 use mir.Syntax.{w16}
 use mir.Facts.{to_z-of_z}
 use borrow.Author.Rules.{rules}

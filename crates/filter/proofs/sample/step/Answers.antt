@@ -1,9 +1,8 @@
 -- The four parts of a step, each met by what the part before it promised.
 use mathlib.Core.Path.{refl}
 use Rattle.filter.proofs.SampleLaws.{past, past_kept}
-use Rattle.filter.proofs.StepLaws.{bounds, decision_bounds, Decided, decided, change_bounds, handable, result_as}
+use Rattle.filter.proofs.StepLaws.{bounds, decision_bounds, decided, change_bounds, handable, result_as}
 use Rattle.filter.proofs.sample.step.Goals as goal
-use Rattle.filter.proofs.sample.step.Goals.{After-decision_error-j}
 
 pub filter_output-h-requires : goal.filter_output-h-requires
 filter_output-h-requires c = bounds c.requires.0 c.from-r.ensures c.requires.1 (past c.args.symbols.now)

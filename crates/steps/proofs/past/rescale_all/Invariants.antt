@@ -1,13 +1,6 @@
-use mathlib.Core.List.{map}
-use Prim.Native.Nat.{◌-◌}
-use lib.ListN.{length}
-use lib.IntN.{ℤ}
-use Rattle.laws.specs.Loops.{Written}
+use Rattle.std.proofs.Common.{◌≡◌, ◌++◌, map, take, drop, ℤ}
 use Rattle.numbers.specs.Cut.{rescale}
 use Rattle.steps.proofs.past.rescale_all.Given as goal
 
-abbrev pub invariant-loop-n : goal.invariant-loop-n
-invariant-loop-n l = Written (map (λ (a : ℤ). rescale a l.i l.j) l.initial.xs) l.initial.xs l.n l.xs
-
-abbrev pub decreases-loop-n : goal.decreases-loop-n
-decreases-loop-n l = length l.initial.xs - l.n
+abbrev pub invariant-loop-x : goal.invariant-loop-x
+invariant-loop-x l = l.x-items ≡ map (λ (x : ℤ). rescale x l.fn.i l.fn.j) (take l.x-index l.initial.x-items) ++ drop l.x-index l.initial.x-items

@@ -1,11 +1,6 @@
-use Prim.Native.Nat.{◌-◌}
-use lib.ListN.{length}
-use Rattle.laws.specs.Loops.{Written}
-use Rattle.steps.specs.Fir.{halved}
+use Rattle.std.proofs.Common.{◌≡◌, ◌++◌, map, take, drop, ℤ}
+use Rattle.numbers.specs.Cut.{cut}
 use Rattle.steps.proofs.weights.halve.Given as goal
 
-abbrev pub invariant-loop-i : goal.invariant-loop-i
-invariant-loop-i l = Written (halved l.initial.w) l.initial.w l.i l.w
-
-abbrev pub decreases-loop-i : goal.decreases-loop-i
-decreases-loop-i l = length l.initial.w - l.i
+abbrev pub invariant-loop-x : goal.invariant-loop-x
+invariant-loop-x l = l.x-items ≡ map (λ (x : ℤ). cut x 1) (take l.x-index l.initial.x-items) ++ drop l.x-index l.initial.x-items

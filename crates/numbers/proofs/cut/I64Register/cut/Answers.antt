@@ -8,6 +8,6 @@ pub returns : goal.returns
 returns c =
     let a = c.args in
     elim c.if-self-lt0.branch [
-      then-self-lt0 v ↦ cut_negative w64 a.self a.k c.ranges.self c.requires v.if-self-lt0.true _ v.lifted-is
-    | else-self-lt0 v ↦ cut_whole w64 a.self a.k c.ranges.self v.if-self-lt0.false _ v.lifted-is
+      | then-self-lt0 v ↦ cut_negative w64 a.self a.k c.ranges.self c.requires v.if-self-lt0.true _ v.lifted-is
+      | else-self-lt0 v ↦ cut_whole w64 a.self a.k c.ranges.self v.if-self-lt0.false _ v.lifted-is
     ]
