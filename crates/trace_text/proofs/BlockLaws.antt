@@ -11,6 +11,8 @@ use mir.Syntax.{w16}
 use mir.Val.{to_z}
 use mir.Facts.{sfits_to_z}
 use borrow.Author.Tests.{eq-eqb, ne_eqb}
+use Rattle.std.specs.Prelude.{Result, Ok, Err}
+use Rattle.std.proofs.lemmas.List.{take-replicate}
 use Rattle.laws.specs.Sums.{each_of}
 use Rattle.laws.specs.Machine.{abs_fits}
 use Rattle.laws.specs.Values.{values_length, values_at}
@@ -24,12 +26,12 @@ use Rattle.block.specs.Block.{Outputs, outputs_of, Γ, at, entry_at, block_outpu
 use Rattle.block.proofs.BlockMemory as Left
 use Rattle.block.proofs.BlockHolds.{at_sample, output_at}
 use Rattle.state.specs.State.{settings, memory}
-use Rattle.std.specs.Prelude.{Result, Ok, Err}
 use Rattle.state.specs.Refusal.{number_of, number_in, answer_with}
 use Rattle.state.specs.declared.refusal.Refusal.{Refusal}
 use Rattle.state.specs.declared.refusal.Refusal.TheVariants.{Size, Step, Length, Gain, Entry, Exponent, Buffer, Bytes, State}
 use Rattle.state.specs.declared.equaliser.Equaliser.{Equaliser}
 use Rattle.state.specs.declared.equaliser.Answer.{Answer}
+use Rattle.state.proofs.RefusalLaws.{number_least}
 use Rattle.checks.specs.Checks.{Buffers, buffers_of}
 use Rattle.checks.specs.Calls.{Sampled, Checked}
 use Rattle.checks.proofs.CheckLaws.{checked_is}
@@ -43,23 +45,21 @@ use Rattle.trace_text.proofs.LineLaws.{lines_short}
 
 -- ---- refusals
 
-number_within : (x : Refusal) → (1 ≤ number_of x) × (number_of x ≤ 9)
-number_within Size = (omega arith, omega arith)
-number_within Step = (omega arith, omega arith)
-number_within Length = (omega arith, omega arith)
-number_within Gain = (omega arith, omega arith)
-number_within Entry = (omega arith, omega arith)
-number_within Exponent = (omega arith, omega arith)
-number_within Buffer = (omega arith, omega arith)
-number_within Bytes = (omega arith, omega arith)
-number_within State = (omega arith, omega arith)
-
 -- no refusal has the number 0
 pub number_some : (x : Refusal) → number_of x ≡ 0 → ⊥
-number_some x z = omega (arith, number_within x)
+number_some x z = omega (arith, number_least x)
 
+-- and each is one digit
 pub number_most : (x : Refusal) → number_of x ≤ 9
-number_most x = (number_within x).1
+number_most Size = omega arith
+number_most Step = omega arith
+number_most Length = omega arith
+number_most Gain = omega arith
+number_most Entry = omega arith
+number_most Exponent = omega arith
+number_most Buffer = omega arith
+number_most Bytes = omega arith
+number_most State = omega arith
 
 -- the number of an answer
 number_same : (e : Equaliser) (x : Result Equaliser Refusal) → number_in x ≡ (answer_with e x).number
@@ -68,15 +68,9 @@ number_same e (Err x) = refl
 
 -- ---- work areas
 
--- the front of a list of one element
-take_replicate {ℓ} : {A : Type ℓ} (n k : ℕ) (x : A) → n ≤ k → take n (replicate k x) ≡ replicate n x
-take_replicate zero k x h = refl
-take_replicate (suc n) zero x h = absurd (omega arith)
-take_replicate (suc n) (suc k) x h = ap (λ l. x ∷ l) (take_replicate n k x (omega arith))
-
 module _ {A : Type 0} (x : A) (n : ℕ) (h : n ≤ block_limit) where
   pub zeros : take n (replicate block_limit x) ≡ replicate n x
-  zeros = take_replicate n block_limit x h
+  zeros = take-replicate n block_limit x h
 
   pub zeros_long : length (take n (replicate block_limit x)) ≡ n
   zeros_long = ap length zeros ∙ length-replicate n x

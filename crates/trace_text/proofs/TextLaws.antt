@@ -8,12 +8,12 @@ use native.Mathlib.Nat.{mul-le-mul_right}
 use native.Mathlib.Numerals.{add-one}
 use lib.ListN.{length, length-append}
 use borrow.Author.Tests.{eq-eqb, ne_eqb}
+use Rattle.std.specs.Prelude.{Result, Ok, Err}
 use Rattle.words.specs.Words.{byte_at}
 use Rattle.steps.specs.Limits.{slots}
 use Rattle.steps.specs.Settings.{Settings}
 use Rattle.trace_layout.specs.Trace.{settings_in, count_in, well_formed}
 use Rattle.trace_layout.proofs.ReadLaws.{well_long, well_most}
-use Rattle.std.specs.Prelude.{Result, Ok, Err}
 use Rattle.state.specs.Refusal.{number_in, answer_with}
 use Rattle.state.specs.declared.equaliser.Equaliser.{Equaliser}
 use Rattle.state.specs.declared.refusal.Refusal.{Refusal}
@@ -23,7 +23,7 @@ use Rattle.trace_text.specs.Buffers.{buffers_at}
 use Rattle.trace_text.specs.Text.{block_text, text_from}
 use Rattle.trace_text.specs.Calls.{line_limit, text_limit, TextAt, OfTrace, Blockable, AddedIs, Traceable}
 use Rattle.trace_text.specs.declared.blocks.Added.{Added}
-use Rattle.trace_text.proofs.TextAtLaws.{text_none, text_same, text_long, text_then}
+use Rattle.trace_text.proofs.TextAtLaws.{text_same, text_long, text_then}
 use Rattle.trace_text.proofs.BlockLaws.{number_some, sampled, block_few, accepted_text, block_short}
 
 -- ---- one block more
