@@ -4,8 +4,8 @@ use mathlib.Core.List.{List, [], ◌∷◌, ◌++◌, append_assoc, append-nil}
 use Prim.Native.Nat.{ℕ, suc, ◌+◌, ◌≤◌, ◌<◌}
 use native.Mathlib.Omega.{arith}
 use native.Mathlib.Numerals.{add-one}
-use lib.ListN.{length, get_or, take, drop, set, length-append, length-drop, take-append-drop}
-use lib.Seq.{take_at, take-length, drop_at, drop-drop, length-take-le, set_split, append_snoc, paste, paste-suc}
+use lib.ListN.{length, take, drop, set, length-append, length-drop, take-append-drop}
+use lib.Seq.{take_at, drop_at, drop-drop, length-take-le, set_split, append_snoc}
 use Rattle.trace_text.specs.TextFront.{TextFront}
 use Rattle.trace_text.specs.Calls.{TextAt}
 
@@ -62,19 +62,6 @@ module _ {a b : ℕ} {s o o₁ : List ℕ} (f : TextAt a s o b o₁) where
           ∙ drop-drop (length t) (a + length s) o ∙ same_drop o (a + length s + length t) (a + length (s ++ t)) (omega (arith, length-append s t)))
           ∙ ap (λ (l : List ℕ). l ++ drop (a + length (s ++ t)) o) (append_assoc (take a o) s t);
     }
-
--- ---- a text copied byte by byte
-
-module _ (o : List ℕ) (at : ℕ) (text : List ℕ) where
-  pub pasted_next : (i : ℕ) (o₁ : List ℕ) → at + length text ≤ length o → i < length text → o₁ ≡ paste o at text i → set o₁ (at + i) (get_or text i 0) ≡ paste o at text (i + 1)
-  pasted_next i o₁ h k e =
-      ap (λ (l : List ℕ). set l (at + i) (get_or text i 0)) e ∙ paste-suc o at text i 0 (omega arith) k ∙ ap (paste o at text) (sym (add-one i))
-
-  pub pasted_all : (i : ℕ) (o₁ : List ℕ) → o₁ ≡ paste o at text i → i ≡ length text → TextAt at text o (at + i) o₁
-  pasted_all i o₁ e k = record {
-    end_is = ap (λ (n : ℕ). at + n) k;
-    contents = e ∙ ap (paste o at text) k ∙ ap (λ (l : List ℕ). take at o ++ l ++ drop (at + length text) o) (take-length text);
-  }
 
 -- ---- a text at the front
 

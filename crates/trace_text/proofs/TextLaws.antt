@@ -8,20 +8,23 @@ use native.Mathlib.Nat.{mul-le-mul_right}
 use native.Mathlib.Numerals.{add-one}
 use lib.ListN.{length, length-append}
 use borrow.Author.Tests.{eq-eqb, ne_eqb}
+use Rattle.std.specs.Prelude.{Result, Ok, Err}
 use Rattle.words.specs.Words.{byte_at}
 use Rattle.steps.specs.Limits.{slots}
 use Rattle.steps.specs.Settings.{Settings}
 use Rattle.trace_layout.specs.Trace.{settings_in, count_in, well_formed}
 use Rattle.trace_layout.proofs.ReadLaws.{well_long, well_most}
+use Rattle.state.specs.Refusal.{number_in, answer_with}
 use Rattle.state.specs.declared.equaliser.Equaliser.{Equaliser}
+use Rattle.state.specs.declared.refusal.Refusal.{Refusal}
 use Rattle.station.specs.Answers.{run_number, run_state}
 use Rattle.station.proofs.NumberLaws.{run_settings, run_long}
 use Rattle.trace_text.specs.Buffers.{buffers_at}
 use Rattle.trace_text.specs.Text.{block_text, text_from}
-use Rattle.trace_text.specs.Calls.{line_limit, text_limit, TextAt, OfTrace, AddedIs}
+use Rattle.trace_text.specs.Calls.{line_limit, text_limit, TextAt, OfTrace, Blockable, AddedIs, Traceable}
 use Rattle.trace_text.specs.declared.blocks.Added.{Added}
-use Rattle.trace_text.proofs.TextAtLaws.{text_none, text_same, text_long, text_then}
-use Rattle.trace_text.proofs.BlockLaws.{sampled, block_few, accepted_text, block_short}
+use Rattle.trace_text.proofs.TextAtLaws.{text_same, text_long, text_then}
+use Rattle.trace_text.proofs.BlockLaws.{number_some, sampled, block_few, accepted_text, block_short}
 
 -- ---- one block more
 
@@ -46,19 +49,10 @@ pub record Going (t : List ℕ) (first : Equaliser) (before : List ℕ) (i at : 
   pub text_is : text_from t (count_in t) 0 first ≡ done ++ text_from t (count_in t - i) i e
   pub short : length done ≤ line_limit * (i * (settings_in t).N)
 
-pub going_none : (t : List ℕ) (e : Equaliser) (out : List ℕ) → e.n ≡ (settings_in t).N → length e.weights ≡ slots → length e.past ≡ slots → Going t e out 0 0 e out
-going_none t e out h w d = record {
-  within = omega arith;
-  n_is = h;
-  weights_long = w;
-  past_long = d;
-  done = [];
-  written = text_none 0 out;
-  text_is = ap (λ (n : ℕ). text_from t n 0 e) (omega arith);
-  short = omega arith;
-}
+module _ (t : List ℕ) (first : Equaliser) (before : List ℕ) (i at : ℕ) (e : Equaliser) (out : List ℕ) (w : Going t first before i at e out) (q : Traceable t first before) where
+  of_trace : OfTrace t e
+  of_trace = record { well_formed_lem = q.trace.well_formed_lem; n_is = w.n_is; n_most = omega (arith, w.n_is, q.trace.n_is, q.trace.n_most) }
 
-module _ (t : List ℕ) (first : Equaliser) (before : List ℕ) (i at : ℕ) (e : Equaliser) (out : List ℕ) (w : Going t first before i at e out) where
   -- one block less is left
   module _ (h : i < count_in t) where
     left_over : text_from t (count_in t) 0 first ≡ w.done ++ text_from t (suc (count_in t - (i + 1))) i e
@@ -68,41 +62,42 @@ module _ (t : List ℕ) (first : Equaliser) (before : List ℕ) (i at : ℕ) (e 
         less = omega arith
 
   -- the next block is accepted
-  pub going_next : (r : Added) (p : List ℕ) → OfTrace t e → ((j : ℕ) → byte_at t j < 256) → i < count_in t → AddedIs t e i at r out p → r.number ≡ 0 →
-      Going t first before (i + 1) r.end r.state p
-  going_next r p o b h a z =
+  pub going_next : (r : Added) (s : Equaliser) (p : List ℕ) → r.next ≡ Ok s → ((j : ℕ) → byte_at t j < 256) → i < count_in t → AddedIs t e i at r out p →
+      Going t first before (i + 1) r.end s p
+  going_next r s p is b h a =
       let l = buffers_at t (i * e.n) in
-      let none : run_number e l ≡ 0 = sym a.number ∙ z in
+      let none : run_number e l ≡ 0 = sym a.number ∙ ap number_in is in
+      let state : s ≡ run_state e l = ap (λ (n : Result Equaliser Refusal). (answer_with e n).state) (sym is) ∙ a.state in
       let m = sampled t (i * e.n) _ _ _ b in
       let long = run_long e l none w.weights_long w.past_long m in
       record {
         within = omega arith;
-        n_is = ap (λ (s : Equaliser). s.n) a.state ∙ ap (λ (k : Settings). k.N) (run_settings e l) ∙ w.n_is;
-        weights_long = ap (λ (s : Equaliser). length s.weights) a.state ∙ long.0;
-        past_long = ap (λ (s : Equaliser). length s.past) a.state ∙ long.1;
+        n_is = ap (λ (k : Equaliser). k.n) state ∙ ap (λ (k : Settings). k.N) (run_settings e l) ∙ w.n_is;
+        weights_long = ap (λ (k : Equaliser). length k.weights) state ∙ long.0;
+        past_long = ap (λ (k : Equaliser). length k.past) state ∙ long.1;
         done = w.done ++ block_text t e i;
         written = text_then w.written (omega arith) a.written;
         text_is =
-            left_over h ∙ ap (λ (s : List ℕ). w.done ++ s) (goes_on t e i (count_in t - (i + 1)) none)
+            left_over h ∙ ap (λ (k : List ℕ). w.done ++ k) (goes_on t e i (count_in t - (i + 1)) none)
             ∙ sym (append_assoc w.done (block_text t e i) (text_from t (count_in t - (i + 1)) (suc i) (run_state e l)))
             ∙ ap (λ (n : ℕ). (w.done ++ block_text t e i) ++ text_from t (count_in t - (i + 1)) n (run_state e l)) (sym (add-one i))
-            ∙ ap (λ (s : Equaliser). (w.done ++ block_text t e i) ++ text_from t (count_in t - (i + 1)) (i + 1) s) (sym a.state);
+            ∙ ap (λ (k : Equaliser). (w.done ++ block_text t e i) ++ text_from t (count_in t - (i + 1)) (i + 1) k) (sym state);
         short = omega (
           arith,
           length-append w.done (block_text t e i),
           w.short,
           ap length (accepted_text t e i none),
-          block_short e l (i * e.n) none w.weights_long w.past_long m (omega (arith, block_few t e o i h)),
+          block_short e l (i * e.n) none w.weights_long w.past_long m (omega (arith, block_few t e of_trace i h)),
           ap (λ (n : ℕ). line_limit * n) w.n_is,
         );
       }
 
   -- the next block is refused
-  pub going_stops : (r : Added) (p : List ℕ) → i < count_in t → AddedIs t e i at r out p → (r.number ≡ 0 → ⊥) →
+  pub going_stops : (r : Added) (x : Refusal) (p : List ℕ) → r.next ≡ Err x → i < count_in t → AddedIs t e i at r out p →
       TextAt 0 (text_from t (count_in t) 0 first) before r.end p
-  going_stops r p h a f =
+  going_stops r x p is h a =
       text_same
-      (sym (left_over h ∙ ap (λ (s : List ℕ). w.done ++ s) (stops t e i (count_in t - (i + 1)) (λ z. f (a.number ∙ z)))))
+      (sym (left_over h ∙ ap (λ (s : List ℕ). w.done ++ s) (stops t e i (count_in t - (i + 1)) (λ z. number_some x (sym (ap number_in is) ∙ a.number ∙ z)))))
       (text_then w.written (omega arith) a.written)
 
   -- all blocks are written
@@ -112,17 +107,22 @@ module _ (t : List ℕ) (first : Equaliser) (before : List ℕ) (i at : ℕ) (e 
       let none : count_in t - i ≡ 0 = omega arith in
       text_same (sym (w.text_is ∙ ap (λ (n : ℕ). w.done ++ text_from t n i e) none ∙ append-nil w.done)) w.written
 
-  module _ (h : well_formed t ≡ true) (k : text_limit ≤ length before) where
-    pub going_long : length out ≡ length before
-    going_long = text_long w.written (omega (arith, k, w.short, well_long t h, well_most t h, mul-le-mul_right (settings_in t).N w.within))
+  going_long : length out ≡ length before
+  going_long =
+      let h = q.trace.well_formed_lem in
+      text_long w.written (omega (arith, q.room, w.short, well_long t h, well_most t h, mul-le-mul_right (settings_in t).N w.within))
 
-    -- there is room for another block
-    pub going_room : i < count_in t → at + line_limit * (e.n + 1) ≤ length out
-    going_room g =
-        let next : i + 1 ≤ count_in t = omega arith in
-        omega (
+  -- another block can be run, and there is room for its text
+  pub going_blockable : i < count_in t → Blockable t e i at out
+  going_blockable g =
+      let h = q.trace.well_formed_lem in
+      let next : i + 1 ≤ count_in t = omega arith in
+      record {
+        trace = of_trace;
+        within = g;
+        room = omega (
           arith,
-          k,
+          q.room,
           going_long,
           w.written.end_is,
           w.short,
@@ -130,4 +130,5 @@ module _ (t : List ℕ) (first : Equaliser) (before : List ℕ) (i at : ℕ) (e 
           well_long t h,
           well_most t h,
           mul-le-mul_right (settings_in t).N next,
-        )
+        );
+      }

@@ -9,7 +9,6 @@ use state::refusal::Refusal;
 use trace_layout::read::{settings_in, well_formed};
 
 pub mod blocks;
-pub mod decimal;
 pub mod limits;
 pub mod line;
 

@@ -4,7 +4,7 @@ ghost use Rattle.state.specs.Refusal.{number_of};
 ghost use Rattle.trace_text.specs.Text.{field, line, stop_line, lines};
 ghost use Rattle.trace_text.specs.Calls.{line_limit, TextAt, Printable, AllPrintable};
 
-use super::decimal::signed_decimal;
+use itoa::Buffer;
 use state::refusal::Refusal;
 
 // A number and the byte after it.
@@ -12,7 +12,8 @@ fn field(z: i32, last: u8, at: usize, out: &mut [u8]) -> usize
     requires { at + length (field z last) ≤ length out.old }
     ensures { TextAt at (field z last) out.old result out.new }
 {
-    let end = signed_decimal(z, at, out);
+    let mut digits = Buffer::new();
+    let end = word(digits.format(z).as_bytes(), at, out);
     out[end] = last;
     end + 1
 }

@@ -1,11 +1,6 @@
-use Prim.Native.Nat.{◌-◌, ◌≤◌}
-use lib.ListN.{length}
 use Rattle.trace_text.specs.Text.{lines}
 use Rattle.trace_text.specs.Calls.{TextAt}
 use Rattle.trace_text.proofs.line.lines.Given as goal
 
 abbrev pub invariant-loop-i : goal.invariant-loop-i
-invariant-loop-i l = (l.i ≤ length l.y) × TextAt l.at (lines l.place l.y l.xi l.decision l.i) l.initial.out l.end l.out
-
-abbrev pub decreases-loop-i : goal.decreases-loop-i
-decreases-loop-i l = length l.y - l.i
+invariant-loop-i l = TextAt l.at (lines l.place l.y l.xi l.decision l.i) l.initial.out l.end l.out
