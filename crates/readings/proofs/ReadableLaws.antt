@@ -1,6 +1,6 @@
 -- What can be read, and the answer where it can and where it can't.
 use mathlib.Core.Path.{◌≡◌, refl, sym, ap, ◌∙◌}
-use mathlib.Core.Bool.{Bool, true, false, cond, ◌&&◌}
+use mathlib.Core.Bool.{Bool, true, false, cond, ◌&&◌, and-true, and-false}
 use mathlib.Core.List.{List}
 use Prim.Native.Nat.{ℕ, ◌^◌, ◌≤◌, ◌<◌}
 use native.Mathlib.Omega.{arith}
@@ -29,6 +29,22 @@ module _ (l : Lists) (n : ℕ) where
       let y = last_eq _ (length l.y) n x.0 in
       let f = last_le _ n block_limit y.0 in
       record { some = leb-true 1 n f.0; few = f.1; y_long = y.1; xi_long = x.1; z_long = z.1; theta_long = t.1 }
+
+-- the values in another order
+reordered : (y z x t : Bool) → ((y && z) && (x && t)) ≡ (z && x && t && y)
+reordered y false x t = ap (λ (b : Bool). b && (x && t)) (and-false y)
+reordered true true true t = sym (and-true t)
+reordered true true false t = refl
+reordered false true x t = sym (and-false (x && t))
+
+module _ (l : Lists) (n : ℕ) where
+  pub readable_short : lengths_readable l n ≡ false → readable l n ≡ false
+  unfolding readable
+  readable_short e = rw e refl
+
+  pub readable_long : lengths_readable l n ≡ true → readable l n ≡ ((all_below output_limit l.y && all_below error_limit l.z) && (all exponent_fits l.xi && all exponent_fits l.theta))
+  unfolding readable
+  readable_long e = rw e (sym (reordered (all_below output_limit l.y) (all_below error_limit l.z) (all exponent_fits l.xi) (all exponent_fits l.theta)))
 
 -- every cause is absent
 pub record Readable (l : Lists) (n : ℕ) : Type 0 where

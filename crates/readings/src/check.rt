@@ -1,20 +1,22 @@
 // What can be read.
-ghost use Rattle.std.specs.Prelude.{◌≡◌};
+ghost use Rattle.std.specs.Prelude.{◌≡◌, ◌&&◌, length};
 ghost use Rattle.laws.specs.Lists.{all};
 ghost use Rattle.steps.specs.Fir.{all_below};
-ghost use Rattle.readings.specs.Readings.{exponent_fits, lengths_readable, values_readable, readable};
+ghost use Rattle.readings.specs.Limits.{output_limit, error_limit};
+ghost use Rattle.readings.specs.Readings.{exponent_fits, lengths_readable, readable};
 ghost use Rattle.readings.specs.Lent.{lists_in};
 
 use super::{Lists, limits};
 use steps::limits::BLOCK;
 
-// |Y| or |Z|.
-fn mantissas_fit(mantissas: &[i32], limit: u32) -> bool
-    ensures { result ≡ all_below limit mantissas.now }
+// |Y| and |Z|, in one loop.
+fn mantissas_fit(y: &[i32], z: &[i32]) -> bool
+    requires { length z.now ≡ length y.now }
+    ensures { result ≡ (all_below output_limit y.now && all_below error_limit z.now) }
 {
-    mantissas
-        .iter()
-        .fold(true, |fit, m| fit & (m.unsigned_abs() < limit))
+    y.iter().zip(z).fold(true, |fit, (y, z)| {
+        fit & (y.unsigned_abs() < limits::OUTPUT) & (z.unsigned_abs() < limits::ERROR)
+    })
 }
 
 fn exponent_fits(e: u8) -> bool
@@ -23,13 +25,14 @@ fn exponent_fits(e: u8) -> bool
     (1 <= e) & (e <= limits::EXPONENT)
 }
 
-// ξ or θ.
-fn exponents_fit(exponents: &[u8]) -> bool
-    ensures { result ≡ all exponent_fits exponents.now }
+// ξ and θ, in one loop.
+fn exponents_fit(xi: &[u8], theta: &[u8]) -> bool
+    requires { length theta.now ≡ length xi.now }
+    ensures { result ≡ (all exponent_fits xi.now && all exponent_fits theta.now) }
 {
-    exponents
-        .iter()
-        .fold(true, |fit, e| fit & exponent_fits(*e))
+    xi.iter().zip(theta).fold(true, |fit, (xi, theta)| {
+        fit & exponent_fits(*xi) & exponent_fits(*theta)
+    })
 }
 
 fn lengths_readable(lists: Lists, n: usize) -> bool
@@ -43,18 +46,10 @@ fn lengths_readable(lists: Lists, n: usize) -> bool
         & (lists.theta.len() == n)
 }
 
-fn values_readable(lists: Lists) -> bool
-    ensures { result ≡ values_readable (lists_in lists.entry) }
-{
-    mantissas_fit(lists.z, limits::ERROR)
-        & exponents_fit(lists.xi)
-        & exponents_fit(lists.theta)
-        & mantissas_fit(lists.y, limits::OUTPUT)
-}
-
 // Whether n readings can be given.
 pub fn readable(lists: Lists, n: usize) -> bool
     ensures { result ≡ readable (lists_in lists.entry) n }
 {
-    lengths_readable(lists, n) && values_readable(lists)
+    lengths_readable(lists, n)
+        && mantissas_fit(lists.y, lists.z) & exponents_fit(lists.xi, lists.theta)
 }

@@ -1,8 +1,10 @@
--- The fold tests every exponent.
+-- The fold tests every exponent of both lists.
 use Rattle.std.proofs.Common.{rules, tests}
 use Rattle.readings.specs.Readings.{exponent_fits}
-use Rattle.readings.proofs.FoldLaws.{slice_fold_all}
+use Rattle.readings.proofs.FoldLaws.{zip_fold_all}
 use Rattle.readings.proofs.check.exponents_fit.Goals as goal
 
 pub returns : goal.returns
-returns c = slice_fold_all exponent_fits c.args.exponents.now _ c.fold.ensures.ran (cc) (λ fit x b q k. search (rules, tests))
+returns c =
+    zip_fold_all exponent_fits exponent_fits c.args.xi.now c.args.theta.now _ c.fold.ensures.ran (cc) (cc) c.requires
+    (λ fit x b q k. search (rules, tests))
