@@ -69,7 +69,7 @@ number_same e (Err x) = refl
 -- ---- work areas
 
 module _ {A : Type 0} (x : A) (n : ℕ) (h : n ≤ block_limit) where
-  pub zeros : take n (replicate block_limit x) ≡ replicate n x
+  zeros : take n (replicate block_limit x) ≡ replicate n x
   zeros = take-replicate n block_limit x h
 
   pub zeros_long : length (take n (replicate block_limit x)) ≡ n
@@ -77,15 +77,15 @@ module _ {A : Type 0} (x : A) (n : ℕ) (h : n ≤ block_limit) where
 
 module _ {A : Type 0} (l rest : List A) (n : ℕ) (e : length l ≡ n) where
   -- a list that was put to the front
-  pub front_is : take n (l ++ rest) ≡ l
+  front_is : take n (l ++ rest) ≡ l
   front_is = take_at l rest n e
 
-  pub front_long : length (take n (l ++ rest)) ≡ n
+  front_long : length (take n (l ++ rest)) ≡ n
   front_long = ap length front_is ∙ e
 
 -- ---- the lists that a block is run on
 
-pub read_long : {t : List ℕ} {first n : ℕ} {m : List ℤ} {gains : List ℕ} {entries : List ℤ} → ReadIs t first n m gains entries →
+read_long : {t : List ℕ} {first n : ℕ} {m : List ℤ} {gains : List ℕ} {entries : List ℤ} → ReadIs t first n m gains entries →
     (length m ≡ n) × (length gains ≡ n) × (length entries ≡ n)
 read_long r = (ap length r.m_is ∙ values_length _ _, ap length r.gains_is ∙ values_length _ _, ap length r.entries_is ∙ values_length _ _)
 

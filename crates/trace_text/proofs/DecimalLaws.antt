@@ -39,7 +39,7 @@ pub decimal_one : (n : ℕ) → n < 10 → decimal n ≡ (48 + n) ∷ []
 unfolding decimal
 decimal_one n h = digits_one n n h
 
-pub decimal_more : (n : ℕ) → 10 ≤ n → decimal n ≡ decimal (n / 10) ++ ((48 + n % 10) ∷ [])
+decimal_more : (n : ℕ) → 10 ≤ n → decimal n ≡ decimal (n / 10) ++ ((48 + n % 10) ∷ [])
 unfolding decimal
 decimal_more zero h = absurd (omega arith)
 decimal_more (suc d) h =
@@ -47,14 +47,14 @@ decimal_more (suc d) h =
 
 -- ---- how many there are
 
-pub length_one : (n : ℕ) → n < 10 → length (decimal n) ≡ 1
+length_one : (n : ℕ) → n < 10 → length (decimal n) ≡ 1
 length_one n h = ap length (decimal_one n h)
 
-pub length_more : (n : ℕ) → 10 ≤ n → length (decimal n) ≡ length (decimal (n / 10)) + 1
+length_more : (n : ℕ) → 10 ≤ n → length (decimal n) ≡ length (decimal (n / 10)) + 1
 length_more n h = ap length (decimal_more n h) ∙ length-append (decimal (n / 10)) ((48 + n % 10) ∷ [])
 
 -- a number below 10^(k+1) has at most k + 1 digits
-pub decimal_short : (k n : ℕ) → n < 10 ^ suc k → length (decimal n) ≤ suc k
+decimal_short : (k n : ℕ) → n < 10 ^ suc k → length (decimal n) ≤ suc k
 decimal_short zero n h = omega (arith, length_one n h)
 decimal_short (suc k) n h = go (dec_lt n 10) (decimal_short k (n / 10) (omega (arith, pow-suc 10 (suc k))))
   where

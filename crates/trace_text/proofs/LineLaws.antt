@@ -21,7 +21,7 @@ signed_field : (k : ℕ) (z : ℤ) (last : ℕ) → nat_abs z < 10 ^ suc k → l
 unfolding field
 signed_field k z last h = omega (arith, length-append (signed_decimal z) (last ∷ []), signed_short k z h)
 
-pub line_short : (place : ℕ) (Y : ℤ) (ξ : ℕ) (d : ℤ) → Printable place Y ξ d → length (line place Y ξ d) ≤ line_limit
+line_short : (place : ℕ) (Y : ℤ) (ξ : ℕ) (d : ℤ) → Printable place Y ξ d → length (line place Y ξ d) ≤ line_limit
 unfolding line
 line_short place Y ξ d p =
     let a = field (pos place) space in
@@ -49,7 +49,7 @@ lines_short place Y ξ d (suc i) p h =
       line_short (place + i) (get_or Y i (pos 0)) (get_or ξ i 0) (get_or d i (pos 0)) (p.each i h),
     )
 
-pub stop_short : (number block : ℕ) → number ≤ 9 → block < 2 ^ 16 → length (stop_line number block) ≤ line_limit
+stop_short : (number block : ℕ) → number ≤ 9 → block < 2 ^ 16 → length (stop_line number block) ≤ line_limit
 unfolding stop_line
 stop_short number block h k =
     let a : List ℕ = 115 ∷ 116 ∷ 111 ∷ 112 ∷ space ∷ [] in

@@ -9,7 +9,7 @@ use lib.Seq.{take_at, drop_at, drop-drop, length-take-le, set_split, append_snoc
 use Rattle.trace_text.specs.TextFront.{TextFront}
 use Rattle.trace_text.specs.Calls.{TextAt}
 
-pub same_drop : (o : List ℕ) (m n : ℕ) → m ≡ n → drop m o ≡ drop n o
+same_drop : (o : List ℕ) (m n : ℕ) → m ≡ n → drop m o ≡ drop n o
 same_drop o m n e = ap (λ (k : ℕ). drop k o) e
 
 pub text_none : (a : ℕ) (o : List ℕ) → TextAt a [] o a o
