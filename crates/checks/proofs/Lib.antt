@@ -1,3 +1,2 @@
-pub mod GainLaws
 pub mod CheckLaws
 pub mod NumberLaws

@@ -11,13 +11,14 @@ ghost use Rattle.checks.specs.Lists.{buffers_in};
 use block::lists::{Block, Outputs};
 use state::equaliser::Equaliser;
 use state::refusal::Refusal;
+use state::sound::{examined, is_entry};
 
 pub fn all_entries(xs: &[i8], r: u32) -> bool
     requires { r ≤ symbol_limit }
     ensures { result ≡ all (is_entry r) xs.now }
 {
     xs.iter()
-        .fold(true, |fit, x| fit & state::sound::is_entry(i16::from(*x), r))
+        .fold(true, |fit, x| fit & is_entry(i16::from(*x), r))
 }
 
 pub fn all_gains(gains: &[u8], l: u8) -> bool
@@ -43,10 +44,11 @@ pub fn lengths_fit(n: usize, block: Block, outputs: &Outputs) -> bool
 }
 
 // What is examined before a block is run: the state, then the lengths, the gains and the training entries.
+#[tactic(auto, using(crate::proofs::CheckLaws::symbols_most, state::proofs::RefusalLaws::refusals), unfolding(crate::specs::Checks::check_number))]
 pub fn checked(e: Equaliser, block: Block, outputs: &Outputs) -> Result<(), Refusal>
     ensures { number_in result ≡ check_number e (buffers_in block.entry outputs.now) }
 {
-    state::sound::examined(e)?;
+    examined(e)?;
     if !lengths_fit(usize::from(e.n), block, outputs) {
         return Err(Refusal::Length);
     }
@@ -61,6 +63,7 @@ pub fn checked(e: Equaliser, block: Block, outputs: &Outputs) -> Result<(), Refu
 }
 
 // The samples have 16 bits. The loop only reads, for the proof: compiled, it is gone.
+#[tactic(auto, using(crate::proofs::CheckLaws::sampled_next, crate::proofs::CheckLaws::sampled_all))]
 pub fn sixteen_bits(m: &[i16])
     ensures { Sampled m.now }
 {

@@ -71,9 +71,16 @@ pub fn run_checked(e: Equaliser, block: Block, outputs: &mut Outputs) -> Result<
     if EXPONENT < r.psi {
         return Err(Refusal::Exponent);
     }
+    let Memory {
+        weights,
+        samples,
+        symbols,
+        ..
+    } = memory;
+    let Weights { forward, back } = weights;
     samples[p - 1] = 0;
-    let weights = joined(&forward[..p], &back[..q]);
-    let past = joined(&samples[..p], &symbols[..q]);
+    let weights = joined(forward, back);
+    let past = joined(samples, symbols);
     Ok(next(e, r, weights, past))
 }
 
@@ -98,10 +105,10 @@ pub fn run(e: Equaliser, block: Block, outputs: &mut Outputs) -> Result<Equalise
         theta: &mut theta[..n],
     };
     let next = run_checked(e, block, &mut areas)?;
-    outputs.y.copy_from_slice(&y[..n]);
-    outputs.xi.copy_from_slice(&xi[..n]);
-    outputs.decision.copy_from_slice(&decision[..n]);
-    outputs.z.copy_from_slice(&z[..n]);
-    outputs.theta.copy_from_slice(&theta[..n]);
+    outputs.y.copy_from_slice(areas.y);
+    outputs.xi.copy_from_slice(areas.xi);
+    outputs.decision.copy_from_slice(areas.decision);
+    outputs.z.copy_from_slice(areas.z);
+    outputs.theta.copy_from_slice(areas.theta);
     Ok(next)
 }

@@ -5,4 +5,4 @@ use Rattle.station.proofs.CopyLaws.{fronted_is}
 use Rattle.station.proofs.copies.fronted.Goals as goal
 
 pub returns : goal.returns
-returns c = fronted_is (pos 0) tap_limit _ _ c.copy16.ensures
+returns c = fronted_is tap_limit (pos 0) _ _ c.copy_from_slice.ensures.after
