@@ -1,6 +1,6 @@
 #![tactic(auto)]
 
-// The static library for firmware in C: the calls of the library `firmware`.
+// The static library for firmware in C: the calls of the library `firmware`, once more, since a library exports nothing to C.
 ghost use Rattle.steps.specs.Settings.{given};
 ghost use Rattle.checks.specs.Checks.{buffers_of};
 ghost use Rattle.state.specs.Answers.{SetUp};

@@ -28,7 +28,7 @@ pub fn words_in(bytes: &[u8], n: usize) -> [i16; Equaliser::SLOTS]
     out
 }
 
-// The settings in a header.
+// The settings in a header. A trace has a header of its own: that of an image will grow, and the trace's must not.
 #[tactic(auto, using(words::proofs::LibraryLaws::number_four), unfolding(crate::specs::Load::state_by))]
 fn settings_in(bytes: &[u8]) -> Settings
     requires { least_header ≤ length bytes.now }

@@ -1,6 +1,7 @@
 #![tactic(auto)]
 
-// The static library for the surface laboratory in C: the calls of the library `laboratory`.
+// The static library for the surface laboratory in C: the calls of the library `laboratory`, once more, since a library
+// exports nothing to C.
 ghost use Rattle.steps.specs.Settings.{given};
 ghost use Rattle.cable_trace.specs.Answers.{cable_of, Output};
 ghost use Rattle.readings.specs.Readings.{lists_of};

@@ -20,7 +20,7 @@ fn counted(a: u64) -> u64
     a.min(limits::AMPLITUDE)
 }
 
-// A sum of a², and whether none of them was cut.
+// A sum of a², and whether none of them was cut: a sum that is a floor is still added to.
 #[derive(Clone, Copy)]
 pub struct Sum {
     pub sum: u64,

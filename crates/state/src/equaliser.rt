@@ -9,6 +9,7 @@ use super::sizes::admitted;
 use steps::limits;
 use steps::settings::Settings;
 
+// The record that C holds too: arrays of a fixed length, without a heap, of whose slots p and q say how many are used.
 #[repr(C)]
 #[derive(Clone, Copy)]
 pub struct Equaliser {

@@ -39,7 +39,8 @@ pub fn all_stored(xs: &[i16], s: u32, b: u8, bmax: u8) -> bool
     }
 }
 
-// 0, or odd and of magnitude below 2^(r+1).
+// 0, or odd and of magnitude below 2^(r+1). That r is within its limit is asked here and wherever an r is handed on: it
+// comes from checked settings as a number, and a type for it would be built anew in every caller.
 pub fn is_entry(v: i16, r: u32) -> bool
     requires { r ≤ symbol_limit }
     ensures { result ≡ is_entry r v }

@@ -31,7 +31,8 @@ fn tell(err: &impl Print, program: &[u8], what: &[u8], error: &io::Error) {
     let _ = err.write_all(b"\n");
 }
 
-// Reads standard input to its end, or until buf is full or reading fails, and answers how many bytes came.
+// Reads standard input to its end, or until buf is full or reading fails, and answers how many bytes came. Rooms are
+// fixed, without a heap; a read takes as many bytes as the system gives, so no element is counted by hand.
 pub fn read(input: &impl Input, buf: &mut [u8]) -> usize
     ensures { IsPrefixLen result buf.new }
 {

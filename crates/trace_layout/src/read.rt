@@ -6,7 +6,8 @@ ghost use Rattle.trace_layout.specs.Calls.{Readable, ReadIs};
 use super::limits::{TRACE, TRACE_HEADER};
 use steps::settings::Settings;
 
-// The settings.
+// The settings. That a header is there is asked of each of these: they read the front of a description too, and the
+// definitions speak of places of the whole.
 pub fn settings_in(t: &[u8]) -> Settings
     requires { trace_header_length ≤ length t.now }
     ensures { result ≡ settings_in t.now }
