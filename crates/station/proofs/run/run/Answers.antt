@@ -44,13 +44,13 @@ slice_bounds-theta-end c = places_most _ _ c.in_ok-checked.ensures c.from-n.ensu
 pub slice_bounds-areas-end-5 : goal.slice_bounds-areas-end-5
 slice_bounds-areas-end-5 c = sym (area_long 0 (places_most _ _ c.in_ok-checked.ensures c.from-n.ensures))
 
-pub run_checked-requires : goal.run_checked-requires
-run_checked-requires c = (checked_is c.args.e _ (sym c.in_ok-checked.ensures) (search rules) (search rules) c.sixteen_bits.ensures, areas_long _ _ c.in_ok-checked.ensures c.from-n.ensures)
-
 pub returns-in_err-next-clause-run : goal.returns-in_err-next-clause-run
 returns-in_err-next-clause-run c =
     let p = err_from_is_err_and c.from_residual-in_err-next.result c.from_residual-in_err-next.ensures.1 in
     rw (p.1, p.2) (block_refused c.args.e _ c.in_ok-checked.ensures _ c.in_err-next.ensures.run)
+
+pub run_checked-requires : goal.run_checked-requires
+run_checked-requires c = (checked_is c.args.e _ (sym c.in_ok-checked.ensures) (search rules) (search rules) c.sixteen_bits.ensures, areas_long _ _ c.in_ok-checked.ensures c.from-n.ensures)
 
 pub copy_from_slice-requires : goal.copy_from_slice-requires
 copy_from_slice-requires c = let p = c.in_ok-checked.ensures in (outputs_long c.args.e _ (sym p)).y_long ∙ sym (handed_long _ _ p (areas_long _ _ p c.from-n.ensures) c.in_ok-next.ensures.run).y_long
