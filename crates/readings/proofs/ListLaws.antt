@@ -93,22 +93,19 @@ pub record Summed (l : List ℕ) (sum : ℕ) (uncut : Bool) (i : ℕ) : Type 0 w
   pub is : sum ≡ squares (take i l)
   pub tested : Tested is_uncut l uncut i
 
-pub summed_none : (l : List ℕ) → Summed l 0 true 0
+summed_none : (l : List ℕ) → Summed l 0 true 0
 unfolding squares
 summed_none l = record { is = refl; tested = tested_none is_uncut l }
 
 module _ {l : List ℕ} {sum : ℕ} {uncut : Bool} {i : ℕ} (s : Summed l sum uncut i) where
-  pub summed_small : length l ≤ block_limit → i ≤ length l → sum ≤ sum_limit
+  summed_small : length l ≤ block_limit → i ≤ length l → sum ≤ sum_limit
   summed_small h k = omega (arith, s.is, squares_bound (take i l), length-take-le i l k)
 
   -- one a more
-  pub summed_next : (a : ℕ) {one : Bool} → i < length l → a ≡ get_or l i 0 → one ≡ is_uncut a → Summed l (sum + counted a * counted a) (uncut && one) (i + 1)
-  summed_next a h e f = record {
-    is = ap₂ (λ (x y : ℕ). x + counted y * counted y) s.is e ∙ sym (squares_take l i h) ∙ ap (λ (j : ℕ). squares (take j l)) (sym (add-one i));
-    tested = tested_next s.tested 0 h (f ∙ ap is_uncut e);
-  }
+  summed_next : i < length l → let a = get_or l i 0 in Summed l (sum + counted a * counted a) (uncut && is_uncut a) (i + 1)
+  summed_next h = record { is = rw (s.is, add-one) (sym (squares_take l i h)); tested = tested_next s.tested 0 h refl }
 
-  pub summed_all : length l ≤ i → (sum ≡ squares l) × (uncut ≡ all is_uncut l)
+  summed_all : length l ≤ i → (sum ≡ squares l) × (uncut ≡ all is_uncut l)
   summed_all h = (s.is ∙ ap squares (take_all i l h), tested_all s.tested h)
 
 -- ---- the readings and the sum, as a loop has them of the first i places
@@ -144,7 +141,7 @@ module _ {l : Lists} {before now : List (List Float)} {i : ℕ} {s : Sum} (r : F
       let a = amplitudes_at l.z l.theta i z_in theta_in in
       record {
         written = written_next f.written [] (pair_of x) (omega (arith, long)) h (ap pair_of e ∙ sym (pairs_at l.y l.xi l.z l.theta i [] y_in xi_in z_in theta_in));
-        summed = rw g (summed_next f.summed (amplitude (get_or l.z i (pos 0)) (get_or l.theta i 0)) (omega (arith, sums_long)) (sym a) refl);
+        summed = rw g (rw a at (summed_next f.summed (omega (arith, sums_long))));
       }
 
   pub filled_all : length before ≤ i → (now ≡ readings_of l) × (s ≡ sum_of l.z l.theta)

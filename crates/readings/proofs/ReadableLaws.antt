@@ -17,7 +17,6 @@ use Rattle.readings.specs.Limits.{output_limit, error_limit}
 use Rattle.readings.specs.Readings.{Lists, exponent_fits, lengths_readable, values_readable, readable, readings_of, amplitudes, is_uncut, squares, quotient, power_of}
 use Rattle.readings.specs.Answers.{answer_of, output_of, number_of, floor_of, value_in, Read}
 use Rattle.readings.specs.Calls.{Long, Fillable, sum_of, power_from}
-use Rattle.readings.specs.declared.Power.TheVariants.{Mean, Floor}
 use Rattle.readings.proofs.ListLaws.{amplitudes_length, squares_bound, power_from_lem}
 
 module _ (l : Lists) (n : ℕ) where
@@ -85,7 +84,7 @@ number_given l n e = rw e refl
 module _ (a : List ℕ) where
   power_floor : floor_of (Ok (power_of a)) ≡ cond (all is_uncut a) 0 1
   unfolding power_of
-  power_floor = elim (all is_uncut a) as (λ (b : Bool). floor_of (Ok (cond b (Mean (quotient (squares a) (length a))) (Floor (quotient (squares a) (length a))))) ≡ cond b 0 1) [ true ↦ refl | false ↦ refl ]
+  power_floor = search rules
 
   power_value : value_in (Ok (power_of a)) ≡ quotient (squares a) (length a)
   unfolding power_of
