@@ -93,13 +93,7 @@ fn loudness(rt: &impl Print) {
     );
     let quiet = block(rt, "zeros after it", loud, 0, 0);
     block(rt, "zeros after those", quiet, 0, 0);
-    block(
-        rt,
-        "zeros first",
-        state(0, 0, 67108864, 0, 0, 0),
-        0,
-        0,
-    );
+    block(rt, "zeros first", state(0, 0, 67108864, 0, 0, 0), 0, 0);
 }
 
 fn ties(rt: &impl Print) {
@@ -137,39 +131,17 @@ fn silent(rt: &impl Print, about: &str, s: Equaliser) -> Equaliser {
 }
 
 fn doublings(rt: &impl Print) {
-    silent(
-        rt,
-        "weights 4095 at psi 1",
-        state(0, 1, 0, 4095, 4095, 0),
-    );
-    silent(
-        rt,
-        "a weight of 4096",
-        state(0, 1, 0, 4096, 4095, 0),
-    );
-    silent(
-        rt,
-        "a weight of -4096",
-        state(0, 1, 0, 4095, -4096, 0),
-    );
-    silent(
-        rt,
-        "weights 4095 at psi 0",
-        state(0, 0, 0, 4095, 4095, 0),
-    );
+    silent(rt, "weights 4095 at psi 1", state(0, 1, 0, 4095, 4095, 0));
+    silent(rt, "a weight of 4096", state(0, 1, 0, 4096, 4095, 0));
+    silent(rt, "a weight of -4096", state(0, 1, 0, 4095, -4096, 0));
+    silent(rt, "weights 4095 at psi 0", state(0, 0, 0, 4095, 4095, 0));
     let two = silent(rt, "weights 0 at psi 2", state(0, 2, 0, 0, 0, 0));
     let one = silent(rt, "the same once more", two);
     silent(rt, "the same at psi 0", one);
 }
 
 fn two_samples(rt: &impl Print) {
-    let first = block(
-        rt,
-        "first sample",
-        state(0, 0, 67108864, 0, 0, 0),
-        16384,
-        1,
-    );
+    let first = block(rt, "first sample", state(0, 0, 67108864, 0, 0, 0), 16384, 1);
     block(rt, "second sample", first, 16384, 0);
 }
 
