@@ -97,6 +97,23 @@ none_bytes symbols n =
     ext_get_or 0 (replicate n 0) (values (part_bytes false symbols) n) (length-replicate {A = ℕ} n 0 ∙ sym (values_length _ n))
     (λ i h. let l : i < n = omega (arith, length-replicate {A = ℕ} n 0) in get_or-replicate n i 0 0 l ∙ sym (values_at (part_bytes false symbols) 0 n i l))
 
+-- what is left after the bytes of the first t symbols, filled with 0
+pub rest_none : (symbols : List ℤ) (before u v : List ℕ) (t : ℕ) → t ≤ length symbols → length before ≡ length symbols → u ≡ values (part_bytes true (take t symbols)) (length (take t symbols)) →
+    v ≡ replicate (length (take (length (u ++ drop t before) - t) (drop t (u ++ drop t before)))) 0 →
+    v ≡ values (part_bytes false (take (length symbols - t) (drop t symbols))) (length (take (length symbols - t) (drop t symbols)))
+rest_none symbols before u v t h long eu ev = ev ∙ ap (λ (n : ℕ). replicate n 0) same ∙ none_bytes (take (length symbols - t) (drop t symbols)) _
+  where
+    long_u : length u ≡ t
+    long_u = ap length eu ∙ values_length _ _ ∙ length-take-le t symbols h
+
+    all : length (u ++ drop t before) ≡ length symbols
+    all = length-append u (drop t before) ∙ omega (arith, long_u, length-drop t before)
+
+    same : length (take (length (u ++ drop t before) - t) (drop t (u ++ drop t before))) ≡ length (take (length symbols - t) (drop t symbols))
+    same =
+        length-take-le (length (u ++ drop t before) - t) (drop t (u ++ drop t before)) (omega (arith, length-drop t (u ++ drop t before)))
+        ∙ ap (λ (n : ℕ). n - t) all ∙ sym (length-take-le (length symbols - t) (drop t symbols) (omega (arith, length-drop t symbols)))
+
 module _ (symbols : List ℤ) (before u v : List ℕ) (t : ℕ) (h : t ≤ length symbols) (long : length before ≡ length symbols)
     (eu : u ≡ values (part_bytes true (take t symbols)) (length (take t symbols)))
     (ev : v ≡ values (part_bytes false (take (length symbols - t) (drop t symbols))) (length (take (length symbols - t) (drop t symbols)))) where

@@ -20,15 +20,11 @@ fn samples(words: &[i32], out: &mut [u8])
     }
 }
 
-// The training entries of symbols that all are training entries, or of none: the symbols, or 0.
-fn part_entries(symbols: &[i8], trained: bool, out: &mut [u8])
+// The bytes of symbols.
+fn symbol_bytes(symbols: &[i8], out: &mut [u8])
     requires { length out.old ≡ length symbols.now }
-    ensures { out.new ≡ values (λ n. of_z w8 (cond trained (get_or symbols.now n (pos 0)) (pos 0))) (length symbols.now) }
+    ensures { out.new ≡ values (λ n. of_z w8 (get_or symbols.now n (pos 0))) (length symbols.now) }
 {
-    if !trained {
-        out.fill(0);
-        return;
-    }
     for (i, byte) in out.iter_mut().enumerate() {
         *byte = symbols[i].cast_unsigned();
     }
@@ -39,8 +35,8 @@ pub fn entries(symbols: &[i8], training: usize, out: &mut [u8])
     requires { (training ≤ length symbols.now) × (length out.old ≡ length symbols.now) }
     ensures { out.new ≡ values (λ n. of_z w8 (cond (ltb n training) (get_or symbols.now n (pos 0)) (pos 0))) (length symbols.now) }
 {
-    part_entries(&symbols[..training], true, &mut out[..training]);
-    part_entries(&symbols[training..], false, &mut out[training..]);
+    symbol_bytes(&symbols[..training], &mut out[..training]);
+    out[training..].fill(0);
 }
 
 // The whole trace, from the word of each sample.

@@ -1,7 +1,11 @@
 -- Two parts, one after the other.
-use Rattle.cable_trace.proofs.PutLaws.{entries_put}
+use borrow.Author.Rules.{rules}
+use Rattle.cable_trace.proofs.PutLaws.{entries_put, rest_none}
 use Rattle.cable_trace.proofs.put.entries.Goals as goal
 
 pub returns : goal.returns
 returns c =
-    entries_put c.args.symbols.now c.args.out.now c.part_entries.new.out c.part_entries-2.new.out c.args.training c.requires.0 c.requires.1 c.part_entries.ensures c.part_entries-2.ensures
+    let a = c.args in
+    let first = c.symbol_bytes.ensures in
+    let rest = rest_none a.symbols.now a.out.now c.symbol_bytes.new.out c.fill.new.self a.training c.requires.0 c.requires.1 first (c.fill.ensures.after (search rules)) in
+    entries_put a.symbols.now a.out.now c.symbol_bytes.new.out c.fill.new.self a.training c.requires.0 c.requires.1 first rest
