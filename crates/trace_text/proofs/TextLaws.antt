@@ -1,6 +1,6 @@
 -- The text of a trace, block after block.
 use mathlib.Core.Path.{◌≡◌, sym, ap, ◌∙◌}
-use mathlib.Core.Bool.{Bool, true, cond}
+use mathlib.Core.Bool.{Bool, cond}
 use mathlib.Core.List.{List, [], ◌++◌, append_assoc, append-nil}
 use Prim.Native.Nat.{ℕ, suc, ◌+◌, ◌*◌, ◌-◌, ◌≤◌, ◌<◌}
 use native.Mathlib.Omega.{arith}
@@ -12,7 +12,7 @@ use Rattle.std.specs.Prelude.{Result, Ok, Err}
 use Rattle.words.specs.Words.{byte_at}
 use Rattle.steps.specs.Limits.{slots}
 use Rattle.steps.specs.Settings.{Settings}
-use Rattle.trace_layout.specs.Trace.{settings_in, count_in, well_formed}
+use Rattle.trace_layout.specs.Trace.{settings_in, count_in}
 use Rattle.trace_layout.proofs.ReadLaws.{well_long, well_most}
 use Rattle.state.specs.Refusal.{number_in, answer_with}
 use Rattle.state.specs.declared.equaliser.Equaliser.{Equaliser}
@@ -21,7 +21,7 @@ use Rattle.station.specs.Answers.{run_number, run_state}
 use Rattle.station.proofs.NumberLaws.{run_settings, run_long}
 use Rattle.trace_text.specs.Buffers.{buffers_at}
 use Rattle.trace_text.specs.Text.{block_text, text_from}
-use Rattle.trace_text.specs.Calls.{line_limit, text_limit, TextAt, OfTrace, Blockable, AddedIs, Traceable}
+use Rattle.trace_text.specs.Calls.{line_limit, TextAt, OfTrace, Blockable, AddedIs, Traceable}
 use Rattle.trace_text.specs.declared.blocks.Added.{Added}
 use Rattle.trace_text.proofs.TextAtLaws.{text_same, text_long, text_then}
 use Rattle.trace_text.proofs.BlockLaws.{number_some, sampled, block_few, accepted_text, block_short}

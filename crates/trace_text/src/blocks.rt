@@ -65,7 +65,7 @@ pub fn block_text(t: &[u8], e: Equaliser, i: usize, at: usize, out: &mut [u8]) -
     let next = run_block(t, e, first, &mut y[..n], &mut xi[..n], &mut decision[..n]);
     let end = match next {
         Ok(_) => lines(first as u32, &y[..n], &xi[..n], &decision[..n], at, out),
-        Err(refusal) => stop_line(refusal, i as u32, at, out),
+        Err(refusal) => stop_line(u8::from(refusal), i as u32, at, out),
     };
     Added { next, end }
 }

@@ -17,10 +17,10 @@ pub fn text(trace: &[u8], out: &mut [u8; limits::TEXT]) -> usize
     ensures { TextFront (trace_text trace.now) out.old result out.new }
 {
     if !well_formed(trace) {
-        return line::stop_line(Refusal::Bytes, 0, 0, out);
+        return line::stop_line(u8::from(Refusal::Bytes), 0, 0, out);
     }
     match Equaliser::set_up(settings_in(trace)) {
         Ok(e) => blocks::all_blocks(trace, e, out),
-        Err(refusal) => line::stop_line(refusal, 0, 0, out),
+        Err(refusal) => line::stop_line(u8::from(refusal), 0, 0, out),
     }
 }

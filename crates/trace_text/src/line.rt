@@ -1,11 +1,9 @@
 // The lines of a trace, in lent bytes from a place on. Each function answers where its text ends.
 ghost use Rattle.std.specs.Prelude.{◌+◌, ◌*◌, ◌^◌, ◌≤◌, ◌<◌, length};
-ghost use Rattle.state.specs.Refusal.{number_of};
 ghost use Rattle.trace_text.specs.Text.{field, line, stop_line, lines};
 ghost use Rattle.trace_text.specs.Calls.{line_limit, TextAt, Printable, AllPrintable};
 
 use itoa::Buffer;
-use state::refusal::Refusal;
 
 // A number and the byte after it.
 fn field(z: i32, last: u8, at: usize, out: &mut [u8]) -> usize
@@ -40,12 +38,12 @@ pub fn word(text: &[u8], at: usize, out: &mut [u8]) -> usize
 }
 
 // The line of a refusal.
-pub fn stop_line(refusal: Refusal, block: u32, at: usize, out: &mut [u8]) -> usize
-    requires { (block < 2 ^ 16) × (at + line_limit ≤ length out.old) }
-    ensures { TextAt at (stop_line (number_of refusal) block) out.old result out.new }
+pub fn stop_line(number: u8, block: u32, at: usize, out: &mut [u8]) -> usize
+    requires { (number ≤ 9) × (block < 2 ^ 16) × (at + line_limit ≤ length out.old) }
+    ensures { TextAt at (stop_line number block) out.old result out.new }
 {
     let a = word(b"stop ", at, out);
-    let b = field(i32::from(u8::from(refusal)), b' ', a, out);
+    let b = field(i32::from(number), b' ', a, out);
     field(block as i32, b'\n', b, out)
 }
 

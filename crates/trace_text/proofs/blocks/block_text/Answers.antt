@@ -1,5 +1,5 @@
 -- A block that is run, then its lines or the line of its refusal.
-use mathlib.Core.Path.{◌≡◌, refl, sym, ap}
+use mathlib.Core.Path.{◌≡◌, refl, ap}
 use Prim.Native.Nat.{ℕ, ◌<◌}
 use native.Mathlib.Omega.{arith}
 use lib.ListN.{length}
@@ -24,4 +24,4 @@ pub returns-in-Ok : goal.returns-in-Ok
 returns-in-Ok c = block_added c.requires c.from-n.ensures c.in-Ok.ensures refl _ _ _ (ap (answer_with c.args.e) c.in-Ok.is) c.lines-end.ensures
 
 pub returns-in-Err : goal.returns-in-Err
-returns-in-Err c = stop_added c.requires c.from-n.ensures c.in-Err.ensures c.stop_line-end.ensures
+returns-in-Err c = stop_added c.requires c.from-n.ensures c.in-Err.ensures c.from.ensures c.stop_line-end.ensures
