@@ -4,7 +4,17 @@ ghost use Rattle.trace_layout.specs.Trace.{trace_limit};
 ghost use Rattle.trace_text.specs.Calls.{TextAt};
 ghost use Rattle.description.specs.Description.{malformed_line, refusal_line};
 
-use trace_text::line::word;
+use trace_text::line::Text;
+
+// One word, at the front.
+fn word(word: &[u8], out: &mut [u8]) -> usize
+    requires { length word.now ≤ length out.old }
+    ensures { TextAt 0 word.now out.old result out.new }
+{
+    let mut text = Text { out, end: 0 };
+    text.word(word);
+    text.end
+}
 
 pub fn malformed(out: &mut [u8]) -> usize
     requires { trace_limit ≤ length out.old }
@@ -12,7 +22,6 @@ pub fn malformed(out: &mut [u8]) -> usize
 {
     word(
         b"cable: 8, the description has a wrong length or its byte 5 is not 0\n",
-        0,
         out,
     )
 }
@@ -32,5 +41,5 @@ pub fn refusal(number: u8, reason: u8, out: &mut [u8]) -> usize
         (_, 5) => b"cable: 10, an entry is not a symbol\n",
         _ => b"cable: 10, some gain would be below L or does not exist\n",
     };
-    word(text, 0, out)
+    word(text, out)
 }

@@ -230,7 +230,7 @@ module _ {t : List ℕ} {e : Equaliser} {i at : ℕ} {out : List ℕ} (b : Block
     -- and are what the block adds
     pub block_added : {end : ℕ} {out' : List ℕ} {x : Result Equaliser Refusal} → answer_with e x ≡ a →
         TextAt at (lines (i * n) (take n (y ++ y')) (take n (xi ++ xi')) (take n (decision ++ decision')) (length (take n (y ++ y')))) out end out' →
-        AddedIs t e i at (record { next = x; end = end }) out out'
+        AddedIs t e i at x out end out'
     block_added {x = x} f w = record {
       number = number_same e x ∙ ap (λ (k : Answer). k.number) f ∙ ran.number;
       state = ap (λ (k : Answer). k.state) f ∙ ran.state;
@@ -240,7 +240,7 @@ module _ {t : List ℕ} {e : Equaliser} {i at : ℕ} {out : List ℕ} (b : Block
 -- a block that is refused adds a line
 pub stop_added : {t : List ℕ} {e : Equaliser} {i at : ℕ} {out : List ℕ} → Blockable t e i at out → {n : ℕ} → n ≡ e.n → {x : Refusal} {y : List ℤ} {xi : List ℕ} {decision : List ℤ} →
     RanIs e (buffers_with t (i * n) (take n (replicate block_limit (pos 0))) (take n (replicate block_limit 0)) (take n (replicate block_limit (pos 0)))) (answer_with e (Err x)) y xi decision →
-    {m end : ℕ} {out' : List ℕ} → m ≡ number_of x → TextAt at (stop_line m i) out end out' → AddedIs t e i at (record { next = Err x; end = end }) out out'
+    {m end : ℕ} {out' : List ℕ} → m ≡ number_of x → TextAt at (stop_line m i) out end out' → AddedIs t e i at (Err x) out end out'
 stop_added {t} {e} {i} b k {x} r f w =
     let q = ran b k r in
     record {
