@@ -1,6 +1,6 @@
 // Why a cable is turned down.
 ghost use Rattle.std.specs.Prelude.{◌≡◌};
-ghost use Rattle.cable_trace.specs.Refusal.{number_of};
+ghost use Rattle.cable_trace.specs.Refusal.{number_of, cause_of};
 ghost use Rattle.cable_trace.specs.declared.refusal.CableRefusal.TheVariants.{Settings};
 
 use state::refusal::Refusal;
@@ -33,6 +33,24 @@ impl From<CableRefusal> for u8 {
         match refusal {
             CableRefusal::Settings(refusal) => u8::from(refusal),
             _ => 10,
+        }
+    }
+}
+
+impl CableRefusal {
+    // What is wrong beside a 10: 1 to 7, else 0.
+    pub fn cause(self) -> u8
+        ensures { result ≡ cause_of self }
+    {
+        match self {
+            CableRefusal::Settings(_) => 0,
+            CableRefusal::Response => 1,
+            CableRefusal::Blocks => 2,
+            CableRefusal::Training => 3,
+            CableRefusal::Length => 4,
+            CableRefusal::Entry => 5,
+            CableRefusal::Output => 6,
+            CableRefusal::Gain => 7,
         }
     }
 }

@@ -1,5 +1,5 @@
 -- The lines of refusals: the last of each choice, and that no line is a trace.
-use mathlib.Core.Path.{◌≡◌, refl, ap, ◌∙◌}
+use mathlib.Core.Path.{◌≡◌, refl, sym, ap, ◌∙◌}
 use mathlib.Core.Bool.{Bool, true, false, cond, ◌&&◌, and-false}
 use mathlib.Core.List.{List}
 use Prim.Native.Nat.{ℕ, ◌+◌, ◌*◌, ◌<◌}
@@ -7,27 +7,23 @@ use native.Mathlib.Omega.{arith}
 use native.Mathlib.Decide.{dec_lt}
 use lib.Dec.{eqb}
 use lib.ListN.{length}
+use borrow.Author.Tests.{ne_eqb}
 use Rattle.words.specs.Words.{byte_at}
 use Rattle.trace_layout.specs.Trace.{trace_header_length, trace_limit, samples_in, well_formed}
 use Rattle.trace_layout.proofs.ReadLaws.{well_short, well_large, well_tested}
-use Rattle.state.specs.Refusal.{number_of}
-use Rattle.state.specs.declared.refusal.Refusal.{Refusal}
-use Rattle.state.specs.declared.refusal.Refusal.TheVariants.{Size, Step, Length, Gain, Entry, Exponent, Buffer, Bytes, State}
 use Rattle.description.specs.Texts.{text}
 use Rattle.description.specs.Description.{malformed_line, cause_line, refusal_line}
 
--- settings that are turned down for another reason have the last of the lines
-pub last_line : (r : Refusal) → (r ≡ Size → ⊥) → (r ≡ Step → ⊥) → cause_line 7 ≡ refusal_line (number_of r) 0
-unfolding cause_line refusal_line
-last_line Size a b = absurd (a refl)
-last_line Step a b = absurd (b refl)
-last_line Length a b = refl
-last_line Gain a b = refl
-last_line Entry a b = refl
-last_line Exponent a b = refl
-last_line Buffer a b = refl
-last_line Bytes a b = refl
-last_line State a b = refl
+pub other_cause : (k : ℕ) → (k ≡ 1 → ⊥) → (k ≡ 2 → ⊥) → (k ≡ 3 → ⊥) → (k ≡ 4 → ⊥) → (k ≡ 5 → ⊥) → cause_line 7 ≡ cause_line k
+unfolding cause_line
+other_cause k a b c d e = simp (ne_eqb k 1 a, ne_eqb k 2 b, ne_eqb k 3 c, ne_eqb k 4 d, ne_eqb k 5 e)
+
+pub other_number : (n k : ℕ) → (n ≡ 1 → ⊥) → (n ≡ 2 → ⊥) → cause_line k ≡ refusal_line n k
+unfolding refusal_line
+other_number n k a b = simp (ne_eqb n 1 a, ne_eqb n 2 b)
+
+pub cause_told : (n : ℕ) {k m : ℕ} → k ≡ m → (n ≡ 1 → ⊥) → (n ≡ 2 → ⊥) → cause_line m ≡ refusal_line n k
+cause_told n {k} e a b = ap cause_line (sym e) ∙ other_number n k a b
 
 -- ---- byte 5 is a colon
 

@@ -78,6 +78,6 @@ pub fn write(t: &[u8], out: &mut [u8]) -> usize
     let end = trace_end(read::symbol_count(t));
     match simulated(t, &mut out[..end]) {
         Ok(()) => end,
-        Err(refusal) => super::line::refusal(refusal, out),
+        Err(refusal) => super::line::refusal(u8::from(refusal), refusal.cause(), out),
     }
 }

@@ -1,10 +1,10 @@
 -- A block of a trace: work areas, the lists that it is run on, what it answers, the text that it adds.
 use mathlib.Core.Path.{◌≡◌, refl, sym, ap, ◌∙◌, subst}
-use mathlib.Core.List.{List, ◌∷◌, ◌++◌}
-use Prim.Native.Nat.{ℕ, zero, suc, ◌+◌, ◌*◌, ◌^◌, ◌≤◌, ◌<◌}
+use mathlib.Core.List.{List, ◌++◌}
+use Prim.Native.Nat.{ℕ, ◌+◌, ◌*◌, ◌^◌, ◌≤◌, ◌<◌}
 use native.Mathlib.Omega.{arith}
 use native.Mathlib.Nat.{mul-le-mul_right}
-use lib.ListN.{length, get_or, take, replicate, length-append, length-replicate}
+use lib.ListN.{length, get_or, take, replicate, length-replicate}
 use lib.Seq.{take_at}
 use lib.IntN.{ℤ, pos, nat_abs}
 use mir.Syntax.{w16}
@@ -22,13 +22,12 @@ use Rattle.trace_layout.specs.Trace.{trace_limit, settings_in, count_in, samples
 use Rattle.trace_layout.proofs.ReadLaws.{well_long, well_most}
 use Rattle.trace_layout.specs.Calls.{ReadIs}
 use Rattle.filter.proofs.DecisionSize.{decision_most}
-use Rattle.block.specs.Block.{Outputs, outputs_of, Γ, at, entry_at, block_outputs}
+use Rattle.block.specs.Block.{Outputs, Γ, at, entry_at, block_outputs}
 use Rattle.block.proofs.BlockMemory as Left
 use Rattle.block.proofs.BlockHolds.{at_sample, output_at}
 use Rattle.state.specs.State.{settings, memory}
 use Rattle.state.specs.Refusal.{number_of, number_in, answer_with}
 use Rattle.state.specs.declared.refusal.Refusal.{Refusal}
-use Rattle.state.specs.declared.refusal.Refusal.TheVariants.{Size, Step, Length, Gain, Entry, Exponent, Buffer, Bytes, State}
 use Rattle.state.specs.declared.equaliser.Equaliser.{Equaliser}
 use Rattle.state.specs.declared.equaliser.Answer.{Answer}
 use Rattle.state.proofs.RefusalLaws.{number_least}
@@ -48,18 +47,6 @@ use Rattle.trace_text.proofs.LineLaws.{lines_short}
 -- no refusal has the number 0
 pub number_some : (x : Refusal) → number_of x ≡ 0 → ⊥
 number_some x z = omega (arith, number_least x)
-
--- and each is one digit
-pub number_most : (x : Refusal) → number_of x ≤ 9
-number_most Size = omega arith
-number_most Step = omega arith
-number_most Length = omega arith
-number_most Gain = omega arith
-number_most Entry = omega arith
-number_most Exponent = omega arith
-number_most Buffer = omega arith
-number_most Bytes = omega arith
-number_most State = omega arith
 
 -- the number of an answer
 number_same : (e : Equaliser) (x : Result Equaliser Refusal) → number_in x ≡ (answer_with e x).number
@@ -243,7 +230,7 @@ module _ {t : List ℕ} {e : Equaliser} {i at : ℕ} {out : List ℕ} (b : Block
     -- and are what the block adds
     pub block_added : {end : ℕ} {out' : List ℕ} {x : Result Equaliser Refusal} → answer_with e x ≡ a →
         TextAt at (lines (i * n) (take n (y ++ y')) (take n (xi ++ xi')) (take n (decision ++ decision')) (length (take n (y ++ y')))) out end out' →
-        AddedIs t e i at (record { next = x; end = end }) out out'
+        AddedIs t e i at x out end out'
     block_added {x = x} f w = record {
       number = number_same e x ∙ ap (λ (k : Answer). k.number) f ∙ ran.number;
       state = ap (λ (k : Answer). k.state) f ∙ ran.state;
@@ -253,11 +240,11 @@ module _ {t : List ℕ} {e : Equaliser} {i at : ℕ} {out : List ℕ} (b : Block
 -- a block that is refused adds a line
 pub stop_added : {t : List ℕ} {e : Equaliser} {i at : ℕ} {out : List ℕ} → Blockable t e i at out → {n : ℕ} → n ≡ e.n → {x : Refusal} {y : List ℤ} {xi : List ℕ} {decision : List ℤ} →
     RanIs e (buffers_with t (i * n) (take n (replicate block_limit (pos 0))) (take n (replicate block_limit 0)) (take n (replicate block_limit (pos 0)))) (answer_with e (Err x)) y xi decision →
-    {end : ℕ} {out' : List ℕ} → TextAt at (stop_line (number_of x) i) out end out' → AddedIs t e i at (record { next = Err x; end = end }) out out'
-stop_added {t} {e} {i} b k {x} r w =
+    {m end : ℕ} {out' : List ℕ} → m ≡ number_of x → TextAt at (stop_line m i) out end out' → AddedIs t e i at (Err x) out end out'
+stop_added {t} {e} {i} b k {x} r f w =
     let q = ran b k r in
     record {
       number = q.number;
       state = q.state;
-      written = text_same (ap (λ (n : ℕ). stop_line n i) q.number ∙ refused_text t e i (λ z. number_some x (q.number ∙ z))) w;
+      written = text_same (ap (λ (n : ℕ). stop_line n i) (f ∙ q.number) ∙ refused_text t e i (λ z. number_some x (q.number ∙ z))) w;
     }

@@ -1,16 +1,16 @@
 -- How long lines are, and lines put together from their fields.
-use mathlib.Core.Path.{◌≡◌, refl, sym, ap, ◌∙◌}
+use mathlib.Core.Path.{◌≡◌, sym, ap}
 use mathlib.Core.List.{List, [], ◌∷◌, ◌++◌}
 use Prim.Native.Nat.{ℕ, zero, suc, ◌+◌, ◌*◌, ◌^◌, ◌≤◌, ◌<◌}
 use native.Mathlib.Omega.{arith}
 use native.Mathlib.Numerals.{add-one}
-use lib.ListN.{length, get_or, set, length-append}
+use lib.ListN.{length, get_or, length-append}
 use lib.IntN.{ℤ, pos, nat_abs}
 use Rattle.trace_text.specs.Decimal.{signed_decimal}
 use Rattle.trace_text.specs.Text.{space, newline, field, line, stop_line, lines}
 use Rattle.trace_text.specs.Calls.{line_limit, TextAt, Printable, AllPrintable}
 use Rattle.trace_text.proofs.DecimalLaws.{unsigned_short, signed_short}
-use Rattle.trace_text.proofs.TextAtLaws.{text_same, text_byte, text_long, text_then, text_room, room_front}
+use Rattle.trace_text.proofs.TextAtLaws.{text_same, text_long, text_then, text_room, room_front}
 
 -- a number of k + 1 digits and the byte after it
 unsigned_field : (k n last : ℕ) → n < 10 ^ suc k → length (field (pos n) last) ≤ k + 2
@@ -62,7 +62,7 @@ stop_short number block h k =
       unsigned_field 4 block newline (omega arith),
     )
 
--- ---- a field: the text of its number is written, then a byte
+-- ---- a field: the text of its number, then a byte
 
 module _ (z : ℤ) (last at : ℕ) (out : List ℕ) {text : List ℕ} (e : text ≡ signed_decimal z) (h : at + length (field z last) ≤ length out) where
   pub field_room : at + length text ≤ length out
@@ -70,13 +70,13 @@ module _ (z : ℤ) (last at : ℕ) (out : List ℕ) {text : List ℕ} (e : text 
   field_room = omega (arith, ap length e, length-append (signed_decimal z) (last ∷ []), h)
 
   module _ {end : ℕ} {out₁ : List ℕ} (w : TextAt at text out end out₁) where
-    pub field_below : end < length out₁
+    pub last_room : end + 1 ≤ length out₁
     unfolding field
-    field_below = omega (arith, text_room (text_same e w) (last ∷ []) h)
+    last_room = text_room (text_same e w) (last ∷ []) h
 
-    pub field_written : TextAt at (field z last) out (end + 1) (set out₁ end last)
+    pub field_written : {end' : ℕ} {out₂ : List ℕ} → TextAt end (last ∷ []) out₁ end' out₂ → TextAt at (field z last) out end' out₂
     unfolding field
-    field_written = text_then (text_same e w) (omega (arith, h)) (text_byte end last out₁ field_below)
+    field_written v = text_then (text_same e w) (omega (arith, h)) v
 
 -- the field of the same number
 field_same : (last : ℕ) {at end : ℕ} {z x : ℤ} {o o₁ : List ℕ} → z ≡ x → TextAt at (field z last) o end o₁ → TextAt at (field x last) o end o₁

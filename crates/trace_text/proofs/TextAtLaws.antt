@@ -1,11 +1,10 @@
 -- Text in lent bytes, put together from parts.
-use mathlib.Core.Path.{◌≡◌, refl, sym, ap, ap₂, ◌∙◌, subst}
-use mathlib.Core.List.{List, [], ◌∷◌, ◌++◌, append_assoc, append-nil}
-use Prim.Native.Nat.{ℕ, suc, ◌+◌, ◌≤◌, ◌<◌}
+use mathlib.Core.Path.{◌≡◌, sym, ap, ap₂, ◌∙◌, subst}
+use mathlib.Core.List.{List, [], ◌++◌, append_assoc, append-nil}
+use Prim.Native.Nat.{ℕ, ◌+◌, ◌≤◌}
 use native.Mathlib.Omega.{arith}
-use native.Mathlib.Numerals.{add-one}
-use lib.ListN.{length, take, drop, set, length-append, length-drop, take-append-drop}
-use lib.Seq.{take_at, drop_at, drop-drop, length-take-le, set_split, append_snoc}
+use lib.ListN.{length, take, drop, length-append, length-drop, take-append-drop}
+use lib.Seq.{take_at, drop_at, drop-drop, length-take-le}
 use Rattle.trace_text.specs.TextFront.{TextFront}
 use Rattle.trace_text.specs.Calls.{TextAt}
 
@@ -16,12 +15,6 @@ pub text_none : (a : ℕ) (o : List ℕ) → TextAt a [] o a o
 text_none a o = record {
   end_is = omega arith;
   contents = sym (ap₂ ◌++◌ (append-nil (take a o)) (same_drop o (a + 0) a (omega arith)) ∙ take-append-drop a o);
-}
-
-pub text_byte : (a : ℕ) (x : ℕ) (o : List ℕ) → a < length o → TextAt a (x ∷ []) o (a + 1) (set o a x)
-text_byte a x o h = record {
-  end_is = refl;
-  contents = set_split o a x h ∙ sym (append_snoc (take a o) x (drop (suc a) o)) ∙ ap (λ (n : ℕ). take a o ++ (x ∷ []) ++ drop n o) (sym (add-one a));
 }
 
 pub text_same : {a b : ℕ} {s t o o₁ : List ℕ} → s ≡ t → TextAt a s o b o₁ → TextAt a t o b o₁

@@ -1,6 +1,6 @@
 -- The text of a trace, block after block.
 use mathlib.Core.Path.{◌≡◌, sym, ap, ◌∙◌}
-use mathlib.Core.Bool.{Bool, true, cond}
+use mathlib.Core.Bool.{Bool, cond}
 use mathlib.Core.List.{List, [], ◌++◌, append_assoc, append-nil}
 use Prim.Native.Nat.{ℕ, suc, ◌+◌, ◌*◌, ◌-◌, ◌≤◌, ◌<◌}
 use native.Mathlib.Omega.{arith}
@@ -8,22 +8,20 @@ use native.Mathlib.Nat.{mul-le-mul_right}
 use native.Mathlib.Numerals.{add-one}
 use lib.ListN.{length, length-append}
 use borrow.Author.Tests.{eq-eqb, ne_eqb}
-use Rattle.std.specs.Prelude.{Result, Ok, Err}
+use Rattle.std.specs.Prelude.{Ok, Err}
 use Rattle.words.specs.Words.{byte_at}
 use Rattle.steps.specs.Limits.{slots}
 use Rattle.steps.specs.Settings.{Settings}
-use Rattle.trace_layout.specs.Trace.{settings_in, count_in, well_formed}
+use Rattle.trace_layout.specs.Trace.{settings_in, count_in}
 use Rattle.trace_layout.proofs.ReadLaws.{well_long, well_most}
-use Rattle.state.specs.Refusal.{number_in, answer_with}
 use Rattle.state.specs.declared.equaliser.Equaliser.{Equaliser}
 use Rattle.state.specs.declared.refusal.Refusal.{Refusal}
 use Rattle.station.specs.Answers.{run_number, run_state}
 use Rattle.station.proofs.NumberLaws.{run_settings, run_long}
 use Rattle.trace_text.specs.Buffers.{buffers_at}
 use Rattle.trace_text.specs.Text.{block_text, text_from}
-use Rattle.trace_text.specs.Calls.{line_limit, text_limit, TextAt, OfTrace, Blockable, AddedIs, Traceable}
-use Rattle.trace_text.specs.declared.blocks.Added.{Added}
-use Rattle.trace_text.proofs.TextAtLaws.{text_same, text_long, text_then}
+use Rattle.trace_text.specs.Calls.{line_limit, TextAt, OfTrace, Blockable, AddedIs, Traceable}
+use Rattle.trace_text.proofs.TextAtLaws.{text_none, text_same, text_long, text_then}
 use Rattle.trace_text.proofs.BlockLaws.{number_some, sampled, block_few, accepted_text, block_short}
 
 -- ---- one block more
@@ -39,19 +37,35 @@ module _ (t : List ℕ) (e : Equaliser) (i m : ℕ) where
 
 -- ---- the first i blocks are written
 
-pub record Going (t : List ℕ) (first : Equaliser) (before : List ℕ) (i at : ℕ) (e : Equaliser) (out : List ℕ) : Type 0 where
+pub record Going (t : List ℕ) (first : Equaliser) (start : ℕ) (before : List ℕ) (i at : ℕ) (e : Equaliser) (out : List ℕ) : Type 0 where
   pub within : i ≤ count_in t
   pub n_is : e.n ≡ (settings_in t).N
   pub weights_long : length e.weights ≡ slots
   pub past_long : length e.past ≡ slots
   pub done : List ℕ
-  pub written : TextAt 0 done before at out
+  pub written : TextAt start done before at out
   pub text_is : text_from t (count_in t) 0 first ≡ done ++ text_from t (count_in t - i) i e
   pub short : length done ≤ line_limit * (i * (settings_in t).N)
 
-module _ (t : List ℕ) (first : Equaliser) (before : List ℕ) (i at : ℕ) (e : Equaliser) (out : List ℕ) (w : Going t first before i at e out) (q : Traceable t first before) where
+-- none is written
+pub going_none : {t : List ℕ} {e : Equaliser} {start : ℕ} {out : List ℕ} → Traceable t e start out → length e.weights ≡ slots → length e.past ≡ slots → Going t e start out 0 start e out
+going_none {t} {e} {start} {out} q w d = record {
+  within = omega arith;
+  n_is = q.trace.n_is;
+  weights_long = w;
+  past_long = d;
+  done = [];
+  written = text_none start out;
+  text_is = ap (λ (n : ℕ). text_from t n 0 e) (omega arith);
+  short = omega arith;
+}
+
+module _ {t : List ℕ} {first : Equaliser} {start : ℕ} {before : List ℕ} {i at : ℕ} {e : Equaliser} {out : List ℕ} (w : Going t first start before i at e out) (q : Traceable t first start before) where
   of_trace : OfTrace t e
   of_trace = record { well_formed_lem = q.trace.well_formed_lem; n_is = w.n_is; n_most = omega (arith, w.n_is, q.trace.n_is, q.trace.n_most) }
+
+  start_room : start ≤ length before
+  start_room = omega (arith, q.room)
 
   -- one block less is left
   module _ (h : i < count_in t) where
@@ -62,12 +76,11 @@ module _ (t : List ℕ) (first : Equaliser) (before : List ℕ) (i at : ℕ) (e 
         less = omega arith
 
   -- the next block is accepted
-  pub going_next : (r : Added) (s : Equaliser) (p : List ℕ) → r.next ≡ Ok s → ((j : ℕ) → byte_at t j < 256) → i < count_in t → AddedIs t e i at r out p →
-      Going t first before (i + 1) r.end s p
-  going_next r s p is b h a =
+  pub going_next : {s : Equaliser} {end : ℕ} {p : List ℕ} → ((j : ℕ) → byte_at t j < 256) → i < count_in t → AddedIs t e i at (Ok s) out end p → Going t first start before (i + 1) end s p
+  going_next {s} b h a =
       let l = buffers_at t (i * e.n) in
-      let none : run_number e l ≡ 0 = sym a.number ∙ ap number_in is in
-      let state : s ≡ run_state e l = ap (λ (n : Result Equaliser Refusal). (answer_with e n).state) (sym is) ∙ a.state in
+      let none : run_number e l ≡ 0 = sym a.number in
+      let state : s ≡ run_state e l = a.state in
       let m = sampled t (i * e.n) _ _ _ b in
       let long = run_long e l none w.weights_long w.past_long m in
       record {
@@ -76,7 +89,7 @@ module _ (t : List ℕ) (first : Equaliser) (before : List ℕ) (i at : ℕ) (e 
         weights_long = ap (λ (k : Equaliser). length k.weights) state ∙ long.0;
         past_long = ap (λ (k : Equaliser). length k.past) state ∙ long.1;
         done = w.done ++ block_text t e i;
-        written = text_then w.written (omega arith) a.written;
+        written = text_then w.written start_room a.written;
         text_is =
             left_over h ∙ ap (λ (k : List ℕ). w.done ++ k) (goes_on t e i (count_in t - (i + 1)) none)
             ∙ sym (append_assoc w.done (block_text t e i) (text_from t (count_in t - (i + 1)) (suc i) (run_state e l)))
@@ -93,15 +106,14 @@ module _ (t : List ℕ) (first : Equaliser) (before : List ℕ) (i at : ℕ) (e 
       }
 
   -- the next block is refused
-  pub going_stops : (r : Added) (x : Refusal) (p : List ℕ) → r.next ≡ Err x → i < count_in t → AddedIs t e i at r out p →
-      TextAt 0 (text_from t (count_in t) 0 first) before r.end p
-  going_stops r x p is h a =
+  pub going_stops : {x : Refusal} {end : ℕ} {p : List ℕ} → i < count_in t → AddedIs t e i at (Err x) out end p → TextAt start (text_from t (count_in t) 0 first) before end p
+  going_stops {x} h a =
       text_same
-      (sym (left_over h ∙ ap (λ (s : List ℕ). w.done ++ s) (stops t e i (count_in t - (i + 1)) (λ z. number_some x (sym (ap number_in is) ∙ a.number ∙ z)))))
-      (text_then w.written (omega arith) a.written)
+      (sym (left_over h ∙ ap (λ (s : List ℕ). w.done ++ s) (stops t e i (count_in t - (i + 1)) (λ z. number_some x (a.number ∙ z)))))
+      (text_then w.written start_room a.written)
 
   -- all blocks are written
-  pub going_all : count_in t ≤ i → TextAt 0 (text_from t (count_in t) 0 first) before at out
+  pub going_all : count_in t ≤ i → TextAt start (text_from t (count_in t) 0 first) before at out
   unfolding text_from
   going_all h =
       let none : count_in t - i ≡ 0 = omega arith in

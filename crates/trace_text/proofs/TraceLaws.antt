@@ -39,7 +39,7 @@ module _ (t : List ℕ) where
     accepted_text z =
         simp (h, eq-eqb (settings_number (settings_in t)) 0 (sym s.number ∙ z)) (ap (text_from t (count_in t) 0) (state_is z))
 
-    pub traceable : (out : List ℕ) → text_limit ≤ length out → a.number ≡ 0 → Traceable t a.state out
+    pub traceable : (out : List ℕ) → text_limit ≤ length out → a.number ≡ 0 → Traceable t a.state 0 out
     traceable out room z =
         let n_is : a.state.n ≡ (settings_in t).N = ap (λ (e : Equaliser). e.n) (state_is z) ∙ ap (λ (k : Settings). k.N) (fresh_settings (settings_in t)) in
         record {
@@ -48,5 +48,5 @@ module _ (t : List ℕ) where
             n_is = n_is;
             n_most = omega (arith, n_is, (fit_within (settings_in t) (settings_tests (settings_in t) (sym s.number ∙ z)).0).N_most);
           };
-          room = room;
+          room = omega (arith, room);
         }

@@ -1,15 +1,15 @@
 -- What the functions that write text ask and promise.
-use Rattle.std.specs.Prelude.{true, List, ◌++◌, ◌≡◌, ℕ, ◌+◌, ◌*◌, ◌-◌, ◌/◌, ◌^◌, ◌≤◌, ◌<◌, length, get_or, take, drop, ℤ, pos, nat_abs}
+use Rattle.std.specs.Prelude.{true, Result, List, ◌++◌, ◌≡◌, ℕ, ◌+◌, ◌*◌, ◌-◌, ◌/◌, ◌^◌, ◌≤◌, ◌<◌, length, get_or, take, drop, ℤ, pos, nat_abs}
 use Rattle.steps.specs.Limits.{output_unit, block_limit, symbol_limit, output_exponent_limit}
 use Rattle.trace_layout.specs.Trace.{trace_limit, settings_in, count_in, samples_in, well_formed}
 use Rattle.state.specs.Refusal.{number_in, answer_with}
 use Rattle.state.specs.declared.equaliser.Equaliser.{Equaliser}
 use Rattle.state.specs.declared.equaliser.Answer.{Answer}
+use Rattle.state.specs.declared.refusal.Refusal.{Refusal}
 use Rattle.checks.specs.Checks.{Buffers}
 use Rattle.station.specs.Answers.{run_number, run_state, run_outputs}
 use Rattle.trace_text.specs.Buffers.{buffers_at}
 use Rattle.trace_text.specs.Text.{block_text}
-use Rattle.trace_text.specs.declared.blocks.Added.{Added}
 
 -- ---- room for lines and texts
 
@@ -69,13 +69,15 @@ pub record Blockable (t : List ℕ) (e : Equaliser) (i at : ℕ) (out : List ℕ
   pub within : i < count_in t
   pub room : at + line_limit * (e.n + 1) ≤ length out
 
-pub record AddedIs (t : List ℕ) (e : Equaliser) (i at : ℕ) (r : Added) (before after : List ℕ) : Type 0 where
-  pub number : number_in r.next ≡ run_number e (buffers_at t (i * e.n))
-  pub state : (answer_with e r.next).state ≡ run_state e (buffers_at t (i * e.n))
-  pub written : TextAt at (block_text t e i) before r.end after
+-- what the block i answers, and its text from a place on
+pub record AddedIs (t : List ℕ) (e : Equaliser) (i at : ℕ) (r : Result Equaliser Refusal) (before : List ℕ) (end : ℕ) (after : List ℕ) : Type 0 where
+  pub number : number_in r ≡ run_number e (buffers_at t (i * e.n))
+  pub state : (answer_with e r).state ≡ run_state e (buffers_at t (i * e.n))
+  pub written : TextAt at (block_text t e i) before end after
 
 -- ---- the whole trace
 
-pub record Traceable (t : List ℕ) (e : Equaliser) (out : List ℕ) : Type 0 where
+-- room for any text from a place on
+pub record Traceable (t : List ℕ) (e : Equaliser) (at : ℕ) (out : List ℕ) : Type 0 where
   pub trace : OfTrace t e
-  pub room : text_limit ≤ length out
+  pub room : at + text_limit ≤ length out

@@ -1,22 +1,16 @@
 // The text of the blocks of a trace.
+ghost use Rattle.std.specs.Prelude.{◌≡◌};
 ghost use Rattle.trace_layout.specs.Trace.{count_in};
 ghost use Rattle.state.specs.Refusal.{answer_with};
 ghost use Rattle.trace_text.specs.Text.{text_from};
 ghost use Rattle.trace_text.specs.Buffers.{buffers_with};
 ghost use Rattle.trace_text.specs.Calls.{TextAt, BlockRunnable, RanIs, Blockable, AddedIs, Traceable};
 
-use super::line::{lines, stop_line};
+use super::line::Text;
 use block::lists::{Block, Outputs};
 use state::equaliser::Equaliser;
 use state::refusal::Refusal;
 use steps::limits::BLOCK;
-
-// What a block answers, and where its text ends.
-#[derive(Clone, Copy)]
-pub struct Added {
-    pub next: Result<Equaliser, Refusal>,
-    pub end: usize,
-}
 
 // The block whose first sample has this place; Y, ξ and decision go to lent lists.
 pub fn run_block(
@@ -53,9 +47,10 @@ pub fn run_block(
 }
 
 // The lines of a block, or the line of its refusal.
-pub fn block_text(t: &[u8], e: Equaliser, i: usize, at: usize, out: &mut [u8]) -> Added
-    requires { Blockable t.now e i at out.old }
-    ensures { AddedIs t.now e i at result out.old out.new }
+pub fn block_text(t: &[u8], e: Equaliser, i: usize, text: &mut Text) -> Result<Equaliser, Refusal>
+    requires { Blockable t.now e i text.old.end text.old.out.now }
+    ensures same_reference { text.new.out.ghost_name ≡ text.old.out.ghost_name }
+    ensures added { AddedIs t.now e i text.old.end result text.old.out.now text.new.end text.new.out.now }
 {
     let n = usize::from(e.n);
     let first = i * n;
@@ -63,27 +58,24 @@ pub fn block_text(t: &[u8], e: Equaliser, i: usize, at: usize, out: &mut [u8]) -
     let mut xi = [0u8; BLOCK];
     let mut decision = [0i8; BLOCK];
     let next = run_block(t, e, first, &mut y[..n], &mut xi[..n], &mut decision[..n]);
-    let end = match next {
-        Ok(_) => lines(first as u32, &y[..n], &xi[..n], &decision[..n], at, out),
-        Err(refusal) => stop_line(refusal, i as u32, at, out),
-    };
-    Added { next, end }
+    match next {
+        Ok(_) => text.lines(first as u32, &y[..n], &xi[..n], &decision[..n]),
+        Err(refusal) => text.stop_line(u8::from(refusal), i as u32),
+    }
+    next
 }
 
 // The blocks one after the other, up to a refusal.
-pub fn all_blocks(t: &[u8], e: Equaliser, out: &mut [u8]) -> usize
-    requires { Traceable t.now e out.old }
-    ensures { TextAt 0 (text_from t.now (count_in t.now) 0 e) out.old result out.new }
+pub fn all_blocks(t: &[u8], e: Equaliser, text: &mut Text)
+    requires { Traceable t.now e text.old.end text.old.out.now }
+    ensures same_reference { text.new.out.ghost_name ≡ text.old.out.ghost_name }
+    ensures text { TextAt text.old.end (text_from t.now (count_in t.now) 0 e) text.old.out.now text.new.end text.new.out.now }
 {
     let mut state = e;
-    let mut at = 0;
     for i in 0..trace_layout::read::count_in(t) {
-        let added = block_text(t, state, i, at, out);
-        at = added.end;
-        match added.next {
+        match block_text(t, state, i, text) {
             Ok(next) => state = next,
-            Err(_) => return at,
+            Err(_) => return,
         }
     }
-    at
 }

@@ -1,62 +1,70 @@
-// The lines of a trace, in lent bytes from a place on. Each function answers where its text ends.
-ghost use Rattle.std.specs.Prelude.{◌+◌, ◌*◌, ◌^◌, ◌≤◌, ◌<◌, length};
-ghost use Rattle.state.specs.Refusal.{number_of};
+// The lines of a trace, in lent bytes.
+ghost use Rattle.std.specs.Prelude.{◌≡◌, ◌+◌, ◌*◌, ◌^◌, ◌≤◌, ◌<◌, length};
 ghost use Rattle.trace_text.specs.Text.{field, line, stop_line, lines};
 ghost use Rattle.trace_text.specs.Calls.{line_limit, TextAt, Printable, AllPrintable};
 
 use itoa::Buffer;
-use state::refusal::Refusal;
 
-// A number and the byte after it.
-fn field(z: i32, last: u8, at: usize, out: &mut [u8]) -> usize
-    requires { at + length (field z last) ≤ length out.old }
-    ensures { TextAt at (field z last) out.old result out.new }
-{
-    let mut digits = Buffer::new();
-    let end = word(digits.format(z).as_bytes(), at, out);
-    out[end] = last;
-    end + 1
+// Lent bytes, and where the text in them ends. Each method writes from there on.
+#[derive(Drop)]
+pub struct Text<'a> {
+    pub out: &'a mut [u8],
+    pub end: usize,
 }
 
-// The line of a sample.
-pub fn line(place: u32, y: i32, xi: u8, decision: i8, at: usize, out: &mut [u8]) -> usize
-    requires { (Printable place y xi decision) × (at + line_limit ≤ length out.old) }
-    ensures { TextAt at (line place y xi decision) out.old result out.new }
-{
-    let a = field(place as i32, b' ', at, out);
-    let b = field(y, b' ', a, out);
-    let c = field(i32::from(xi), b' ', b, out);
-    field(i32::from(decision), b'\n', c, out)
-}
-
-// A word.
-pub fn word(text: &[u8], at: usize, out: &mut [u8]) -> usize
-    requires { at + length text.now ≤ length out.old }
-    ensures { TextAt at text.now out.old result out.new }
-{
-    let end = at + text.len();
-    out[at..end].copy_from_slice(text);
-    end
-}
-
-// The line of a refusal.
-pub fn stop_line(refusal: Refusal, block: u32, at: usize, out: &mut [u8]) -> usize
-    requires { (block < 2 ^ 16) × (at + line_limit ≤ length out.old) }
-    ensures { TextAt at (stop_line (number_of refusal) block) out.old result out.new }
-{
-    let a = word(b"stop ", at, out);
-    let b = field(i32::from(u8::from(refusal)), b' ', a, out);
-    field(block as i32, b'\n', b, out)
-}
-
-// The lines of a block whose first sample has this place.
-pub fn lines(place: u32, y: &[i32], xi: &[u8], decision: &[i8], at: usize, out: &mut [u8]) -> usize
-    requires { (AllPrintable place y.now xi.now decision.now) × (at + line_limit * length y.now ≤ length out.old) }
-    ensures { TextAt at (lines place y.now xi.now decision.now (length y.now)) out.old result out.new }
-{
-    let mut end = at;
-    for (i, y) in y.iter().enumerate() {
-        end = line(place + i as u32, *y, xi[i], decision[i], end, out);
+impl Text<'_> {
+    pub fn word(&mut self, text: &[u8])
+        requires { self.old.end + length text.now ≤ length self.old.out.now }
+        ensures same_reference { self.new.out.ghost_name ≡ self.old.out.ghost_name }
+        ensures text { TextAt self.old.end text.now self.old.out.now self.new.end self.new.out.now }
+    {
+        let end = self.end + text.len();
+        self.out[self.end..end].copy_from_slice(text);
+        self.end = end;
     }
-    end
+
+    // A number and the byte after it.
+    fn field(&mut self, z: i32, last: u8)
+        requires { self.old.end + length (field z last) ≤ length self.old.out.now }
+        ensures same_reference { self.new.out.ghost_name ≡ self.old.out.ghost_name }
+        ensures text { TextAt self.old.end (field z last) self.old.out.now self.new.end self.new.out.now }
+    {
+        let mut digits = Buffer::new();
+        self.word(digits.format(z).as_bytes());
+        self.word(&[last]);
+    }
+
+    // The line of a sample.
+    pub fn line(&mut self, place: u32, y: i32, xi: u8, decision: i8)
+        requires { (Printable place y xi decision) × (self.old.end + line_limit ≤ length self.old.out.now) }
+        ensures same_reference { self.new.out.ghost_name ≡ self.old.out.ghost_name }
+        ensures text { TextAt self.old.end (line place y xi decision) self.old.out.now self.new.end self.new.out.now }
+    {
+        self.field(place as i32, b' ');
+        self.field(y, b' ');
+        self.field(i32::from(xi), b' ');
+        self.field(i32::from(decision), b'\n');
+    }
+
+    // The line of a refusal.
+    pub fn stop_line(&mut self, number: u8, block: u32)
+        requires { (number ≤ 9) × (block < 2 ^ 16) × (self.old.end + line_limit ≤ length self.old.out.now) }
+        ensures same_reference { self.new.out.ghost_name ≡ self.old.out.ghost_name }
+        ensures text { TextAt self.old.end (stop_line number block) self.old.out.now self.new.end self.new.out.now }
+    {
+        self.word(b"stop ");
+        self.field(i32::from(number), b' ');
+        self.field(block as i32, b'\n');
+    }
+
+    // The lines of a block whose first sample has this place.
+    pub fn lines(&mut self, place: u32, y: &[i32], xi: &[u8], decision: &[i8])
+        requires { (AllPrintable place y.now xi.now decision.now) × (self.old.end + line_limit * length y.now ≤ length self.old.out.now) }
+        ensures same_reference { self.new.out.ghost_name ≡ self.old.out.ghost_name }
+        ensures text { TextAt self.old.end (lines place y.now xi.now decision.now (length y.now)) self.old.out.now self.new.end self.new.out.now }
+    {
+        for (i, y) in y.iter().enumerate() {
+            self.line(place + i as u32, *y, xi[i], decision[i]);
+        }
+    }
 }

@@ -1,11 +1,11 @@
 -- The trace in the first bytes, or the line over bytes that are as they were.
-use mathlib.Core.Path.{◌≡◌, refl, sym, ap, ◌∙◌}
+use mathlib.Core.Path.{◌≡◌, refl, sym, ap, ap₂, ◌∙◌}
 use Prim.Native.Nat.{◌≤◌}
 use native.Mathlib.Omega.{arith}
 use lib.ListN.{length}
 use Rattle.trace_text.proofs.TextAtLaws.{text_same}
 use Rattle.cable_trace.specs.Cable.{Cable, sample_count}
-use Rattle.description.specs.Description.{cable_in}
+use Rattle.description.specs.Description.{cable_in, refusal_line}
 use Rattle.description.specs.Calls.{trace_end}
 use Rattle.description.proofs.ReadLaws.{well_long, well_most}
 use Rattle.description.proofs.WriteLaws.{samples_in_lem, end_most, trace_written, over_untouched, line_is}
@@ -45,4 +45,4 @@ returns-in-Err c =
     let b = c.args.out.now in
     let f = number_some c.in-Err.refusal in
     over_untouched (cable e) c.trace_end-end.result (end_is e) b (within e) (Err c.in-Err.refusal) _ c.in-Err.ensures f
-    (text_same (line_is (cable e) c.trace_end-end.result (end_is e) b (within e) (Err c.in-Err.refusal) _ c.in-Err.ensures f) c.refusal.ensures)
+    (text_same (ap₂ refusal_line c.from.ensures c.cause.ensures ∙ line_is (cable e) c.trace_end-end.result (end_is e) b (within e) (Err c.in-Err.refusal) _ c.in-Err.ensures f) c.refusal.ensures)
