@@ -19,9 +19,8 @@ fn total(w: &[i16], a: &[i16]) -> i32
     ensures { result ≡ dot w.now a.now }
 {
     let mut total = 0;
-    // By index: tried with zip, by which a compiler does not know that few taps are a short loop (a fifth slower at one).
-    for i in 0..w.len() {
-        total = mac(total, w[i], a[i]);
+    for (w, a) in w.iter().zip(a) {
+        total = mac(total, *w, *a);
     }
     total
 }
@@ -81,10 +80,10 @@ fn adapt_each<F: Fn(i16, i16) -> i16>(w: &mut [i16], a: &[i16], new: F) -> u16
     ensures { (k : ℤ) → Makes (F.post new) k w.old a.now → (w.new ≡ adapt k w.old a.now) × (result ≡ or_all (magnitudes w.new)) }
 {
     let mut seen = 0;
-    // By index, as the sum; what is written through a zip of iter_mut is not known after it either.
-    for i in 0..w.len() {
-        w[i] = new(w[i], a[i]);
-        seen |= w[i].unsigned_abs();
+    // By index: what is written through a zip of iter_mut is not known after it.
+    for (i, w) in w.iter_mut().enumerate() {
+        *w = new(*w, a[i]);
+        seen |= w.unsigned_abs();
     }
     seen
 }
