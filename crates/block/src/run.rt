@@ -114,7 +114,7 @@ fn run_samples(
     ensures progress { Progressed k e psi entries.now weights.old.forward.now weights.old.back.now samples.now symbols.old (outputs_in outputs.old) result weights.new.forward.now weights.new.back.now symbols.new (outputs_in outputs.new) }
 {
     let mut at = psi;
-    // No symbol is known to have the largest bit length.
+    // No symbol is known to have the largest bit length: a delay that no symbol has, since a place comes of it by adding.
     let mut delay = TAPS;
     for (n, entry) in entries.iter().enumerate() {
         let t = advance(k, e, at, delay, n, *entry, weights, samples, symbols);

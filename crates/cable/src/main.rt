@@ -5,6 +5,7 @@ use description::limits::DESCRIPTION;
 use std::io::{Input, IsTerminal, Print};
 use trace_layout::limits::TRACE;
 
+// As the program `trace` but for sizes, names and what is made: what both share is in `streams`.
 // One byte more than a description may have, so that an oversize one is seen.
 fn run<R: Input + Print>(rt: &R, err: &impl Print)
 where

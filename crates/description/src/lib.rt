@@ -11,7 +11,7 @@ pub mod line;
 pub mod read;
 pub mod write;
 
-// The trace of a description, or the line of a refusal, at the front of lent bytes. Answers its length.
+// The trace of a description, or the line of a refusal, at the front of lent bytes. Answers its length, as its promise says.
 pub fn described(t: &[u8], out: &mut [u8; TRACE]) -> usize
     ensures { TextFront (described t.now) out.old result out.new }
 {

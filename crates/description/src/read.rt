@@ -8,7 +8,8 @@ ghost use Rattle.description.specs.Description.{description_header_length, respo
 
 use super::limits::{DESCRIPTION, DESCRIPTION_HEADER};
 
-// How many values the response has, how many symbols there are, and how many of these are training entries.
+// How many values the response has, how many symbols there are, and how many of these are training entries. That a header
+// is there is asked of each, since the definitions speak of places of the whole.
 pub fn response_count(t: &[u8]) -> usize
     requires { description_header_length ≤ length t.now }
     ensures { result ≡ response_in t.now }

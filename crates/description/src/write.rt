@@ -62,7 +62,7 @@ fn simulated(t: &[u8], out: &mut [u8]) -> Result<(), CableRefusal>
     cable_trace::simulate(cable, out)
 }
 
-// Where the trace of n symbols ends; 0 where it would be too long.
+// Where the trace of n symbols ends; 0 where it would be too long: the simulator itself turns down an output of 0 bytes.
 fn trace_end(n: usize) -> usize
     requires { n ≤ description_limit }
     ensures { result ≡ trace_end n }

@@ -126,6 +126,7 @@ pub fn decision_error(r: u32, sb: u32, y: i32, xi: u32, entry: i16) -> Decision
 }
 
 // Step 6: the new weights of a filter whose data are raised by some bits more, and the bits of their magnitudes together.
+// Its numbers, and those of the steps below, come from several places and go together nowhere else.
 pub fn update(
     w: &mut [i16],
     a: &[i16],

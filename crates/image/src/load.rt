@@ -22,6 +22,7 @@ pub fn words_in(bytes: &[u8], n: usize) -> [i16; Equaliser::SLOTS]
     ensures { result ≡ padded (words_of w16 n bytes.now) }
 {
     let mut out = [0i16; Equaliser::SLOTS];
+    // By place: what is written through a zip of iter_mut is not known after it.
     for i in 0..n {
         out[i] = i16::from_le_bytes([bytes[2 * i], bytes[2 * i + 1]]);
     }

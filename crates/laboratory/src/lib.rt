@@ -48,7 +48,7 @@ pub extern "C" fn tigbulode_cable(
     }
 }
 
-// The error power of a block: 0 or 11, whether it is only a floor, and the power.
+// For C, the error power of a block: 0 or 11, whether it is only a floor, and the power.
 #[repr(C)]
 #[derive(Clone, Copy)]
 pub struct PowerAnswer {

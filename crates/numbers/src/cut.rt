@@ -1,4 +1,4 @@
-ghost use Rattle.std.specs.Prelude.{◌≡◌, ◌+◌, ◌*◌, ◌-◌, ◌^◌, ◌<◌, ℕ, ℤ, nat_abs};
+ghost use Rattle.std.specs.Prelude.{◌≡◌, ◌+◌, ◌*◌, ◌-◌, ◌^◌, ◌<◌, ℕ, ℤ, pos, nat_abs};
 ghost use Rattle.numbers.specs.Cut.{cut, raise, rescale};
 
 // A register of a signed whole number, of so many bits.
@@ -18,7 +18,8 @@ pub trait Register: Copy {
         ensures { value result ≡ raise (value self) k };
 }
 
-// A negative number is raised by 2^k − 1, so that a shift, which rounds down, gives T.
+// A negative number is raised by 2^k − 1, so that a shift, which rounds down, gives T. Two bodies: operators of a type
+// parameter would take more laws than they spare lines.
 impl Register for i64 {
     ghost value = { λ z. z };
 
@@ -49,6 +50,14 @@ impl Register for i32 {
     fn raise(self, k: u32) -> i32 {
         self * (1 << k)
     }
+}
+
+// 2^k − 1 in 32 bits.
+pub fn ones32(k: u32) -> i32
+    requires { k < 32 }
+    ensures { result ≡ pos (2 ^ k - 1) }
+{
+    ((1u32 << k) - 1).cast_signed()
 }
 
 // T(z·2^(i−j)). Every number of 64 bits is below 2^64, so from there on nothing is left.

@@ -19,6 +19,7 @@ pub fn fill(lists: Lists, out: &mut [[f64; 2]]) -> Sum
         sum: 0,
         uncut: true,
     };
+    // By place: four lists are read in step, which nested zips would hide.
     for (i, place) in out.iter_mut().enumerate() {
         let r = reading_of(y[i], xi[i], z[i], theta[i], &table);
         *place = [r.y, r.error];

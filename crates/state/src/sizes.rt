@@ -24,7 +24,8 @@ pub fn sizes_fit(k: Settings) -> bool
         & (k.L <= Equaliser::GAIN)
 }
 
-// Whether M.D ≤ 2^STEP_UNIT, both sides times 2^L.
+// Whether M.D ≤ 2^STEP_UNIT, both sides times 2^L. That sizes are within their limits is asked here and by the tests of
+// a state, which a loaded one reaches before it is examined: a type for it would only be taken apart there.
 pub fn admits(k: Settings) -> bool
     requires { Within k }
     ensures { result ≡ admits k }

@@ -84,7 +84,8 @@ pub fn run_checked(e: Equaliser, block: Block, outputs: &mut Outputs) -> Result<
     Ok(next(e, r, weights, past))
 }
 
-// One block: the next state and the block's outputs, or why it is turned down and everything as it was.
+// One block: the next state and the block's outputs, or why it is turned down and everything as it was. Its work areas have
+// a fixed length, without a heap.
 pub fn run(e: Equaliser, block: Block, outputs: &mut Outputs) -> Result<Equaliser, Refusal>
     ensures lists { SameOutputs outputs.old outputs.new }
     ensures run { Run e (buffers_in block.entry outputs.old) (answer_with e result) (outputs_in outputs.new) }

@@ -4,13 +4,14 @@ ghost use Rattle.steps.specs.Limits.{output_unit, symbol_limit};
 ghost use Rattle.steps.specs.Decision.{floor, clip, top_symbol, decide};
 
 use super::limits::OUTPUT_UNIT;
+use numbers::cut::ones32;
 
 // The greatest symbol.
 fn top_symbol(r: u32) -> i32
     requires { r ≤ symbol_limit }
     ensures { result ≡ top_symbol r }
 {
-    ((1u32 << (r + 1)) - 1) as i32
+    ones32(r + 1)
 }
 
 // The odd number nearest to y·2^(ξ − OUTPUT_UNIT).

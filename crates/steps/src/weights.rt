@@ -147,7 +147,7 @@ pub fn halve(w: &mut [i16])
     }
 }
 
-// After step 7: twice each weight.
+// After step 7: twice each weight. As halving but for what is done to each, which alone tells them apart.
 pub fn double(w: &mut [i16])
     requires { Each Small w.old }
     ensures { w.new ≡ doubled w.old }

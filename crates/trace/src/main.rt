@@ -5,6 +5,7 @@ use std::io::{Input, IsTerminal, Print};
 use trace_layout::limits::TRACE;
 use trace_text::limits::TEXT;
 
+// As the program `cable` but for sizes, names and what is made: what both share is in `streams`.
 // One byte more than a trace may have, so that an oversize one is seen, and room for the longest text.
 fn run<R: Input + Print>(rt: &R, err: &impl Print)
 where

@@ -13,7 +13,7 @@ pub mod blocks;
 pub mod limits;
 pub mod line;
 
-// The text of a trace at the front of lent bytes. Answers its length.
+// The text of a trace at the front of lent bytes, without a heap. Answers its length, as its promise says.
 pub fn text(trace: &[u8], out: &mut [u8; limits::TEXT]) -> usize
     ensures { TextFront (trace_text trace.now) out.old result out.new }
 {

@@ -46,7 +46,7 @@ impl Text<'_> {
         self.field(i32::from(decision), b'\n');
     }
 
-    // The line of a refusal.
+    // The line of a refusal, by its number: for every number up to 9, 0 too.
     pub fn stop_line(&mut self, number: u8, block: u32)
         requires { (number ≤ 9) × (block < 2 ^ 16) × (self.old.end + line_limit ≤ length self.old.out.now) }
         ensures same_reference { self.new.out.ghost_name ≡ self.old.out.ghost_name }
