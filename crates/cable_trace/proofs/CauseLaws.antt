@@ -18,7 +18,7 @@ use Rattle.state.specs.Refusal as State
 use Rattle.state.specs.declared.refusal.Refusal.{Refusal}
 use Rattle.state.proofs.RefusalLaws.{number_least}
 use Rattle.cable_trace.specs.Limits.{response_limit, count_limit}
-use Rattle.cable_trace.specs.Calls.{sent_limit, Made}
+use Rattle.cable_trace.specs.Calls.{sent_limit}
 use Rattle.cable_trace.specs.Cable.{Cable, s, sample_count, trace_length, cable_trace, response_fits, blocks_fit, gain_available, length_cause, list_cause, cause, cable_number}
 use Rattle.cable_trace.specs.Answers.{Simulation}
 use Rattle.cable_trace.specs.Refusal.{number_of, cause_of}
@@ -148,14 +148,14 @@ module _ (c : Cable) (before : List ℕ) where
         let t = ne_eqb (list_cause c (length before)) 0 some in
         refused x (n ∙ simp (a, e, t)) (simp (a, t) e)
 
-    module _ (b : list_cause c (length before) ≡ 0) (after : List ℕ) where
-      pub made_fit : Made c before true after → Simulation c before (Ok tt) after
+    module _ (b : list_cause c (length before) ≡ 0) where
+      pub made_fit : (after : List ℕ) → all (gain_available c.settings) (values (s c) (sample_count c)) ≡ true → after ≡ cable_trace c → Simulation c before (Ok tt) after
       unfolding cable_number cause
-      made_fit d = let g = sym d.fit_is in record { output = record { number_is = simp (a, b, g); contents = simp (a, b, g) d.contents }; cause_is = simp (a, b, g) }
+      made_fit after g t = record { output = record { number_is = simp (a, b, g); contents = simp (a, b, g) t }; cause_is = simp (a, b, g) }
 
-      pub made_off : Made c before false after → Simulation c before (Err Gain) after
+      pub made_off : all (gain_available c.settings) (values (s c) (sample_count c)) ≡ false → Simulation c before (Err Gain) before
       unfolding cable_number cause
-      made_off d = let g = sym d.fit_is in record { output = record { number_is = simp (a, b, g); contents = simp (a, b, g) d.contents }; cause_is = simp (a, b, g) }
+      made_off g = record { output = record { number_is = simp (a, b, g); contents = simp (a, b, g) }; cause_is = simp (a, b, g) }
 
 -- ---- where a length is a cause, the output's length does not count
 

@@ -171,8 +171,3 @@ pub record Puttable (k : Settings) (symbols : List ℤ) (training : ℕ) (words 
 pub record Makeable (c : Cable) (room : ℕ) : Type 0 where
   pub settings : settings_number c.settings ≡ 0
   pub lists : list_cause c room ≡ 0
-
--- whether the gains fit, and the output at the end
-pub record Made (c : Cable) (before : List ℕ) (fit : Bool) (after : List ℕ) : Type 0 where
-  pub fit_is : fit ≡ all (gain_available c.settings) (values (s c) (sample_count c))
-  pub contents : after ≡ cond fit (cable_trace c) before

@@ -3,7 +3,7 @@
 // A cable on paper: the trace that a station receives over it.
 ghost use Rattle.std.specs.Prelude.{length};
 ghost use Rattle.cable_trace.specs.Answers.{Simulation};
-ghost use Rattle.cable_trace.specs.Calls.{Makeable, Made};
+ghost use Rattle.cable_trace.specs.Calls.{Makeable};
 ghost use Rattle.cable_trace.specs.Lent.{cable_in};
 
 use numbers::bit_length::bit_length;
@@ -27,10 +27,10 @@ pub struct Cable<'a> {
     pub training: usize,
 }
 
-// The trace of a cable whose settings and lists fit. Whether its gains fit too: where they don't, the output is as it was.
-fn make(cable: Cable, out: &mut [u8]) -> bool
+// The trace of a cable whose settings and lists fit, where its gains fit too.
+fn make(cable: Cable, out: &mut [u8]) -> Result<(), CableRefusal>
     requires { Makeable (cable_in cable) (length out.old) }
-    ensures { Made (cable_in cable.entry) out.old result out.new }
+    ensures { Simulation (cable_in cable.entry) out.old result out.new }
 {
     let k = cable.settings;
     let mut line = sums::empty_line();
@@ -40,10 +40,10 @@ fn make(cable: Cable, out: &mut [u8]) -> bool
     sums::line(cable.symbols, &mut line);
     let bits = sums::sums(cable.response, &line, &mut sums[..n]);
     if DATA_UNIT + u32::from(k.r) - u32::from(k.L) < bit_length(u64::from(bits)) {
-        return false;
+        return Err(CableRefusal::Gain);
     }
     put::trace(cable, &mut sums[..n], out);
-    true
+    Ok(())
 }
 
 // The trace that a station receives, or why it is turned down and the output as it was.
@@ -52,9 +52,5 @@ pub fn simulate(cable: Cable, out: &mut [u8]) -> Result<(), CableRefusal>
 {
     state::sizes::admitted(cable.settings)?;
     causes::lists_fit(cable, out.len())?;
-    if make(cable, out) {
-        Ok(())
-    } else {
-        Err(CableRefusal::Gain)
-    }
+    make(cable, out)
 }

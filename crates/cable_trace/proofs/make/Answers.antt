@@ -20,7 +20,7 @@ use Rattle.state.proofs.SizesLaws.{settings_tests, fit_within}
 use Rattle.cable_trace.specs.Cable.{Cable, s, sample_count, gain_available}
 use Rattle.cable_trace.specs.Lent.{cable_in}
 use Rattle.cable_trace.specs.Calls.{sums, Gainable, sample_words}
-use Rattle.cable_trace.proofs.CauseLaws.{Listed, listed}
+use Rattle.cable_trace.proofs.CauseLaws.{Listed, listed, made_fit, made_off}
 use Rattle.cable_trace.proofs.GainLaws.{gains_fit, gains_each}
 use Rattle.cable_trace.proofs.LineLaws.{empty_sums_lem}
 use Rattle.cable_trace.proofs.SumLaws.{sums_are, line_summable, words_whole, trace_is}
@@ -84,7 +84,9 @@ fit c =
 
 pub returns-then-from-bit_length : goal.returns-then-from-bit_length
 returns-then-from-bit_length c =
-    record { fit_is = sym (lt-leb _ _ c.if-from-bit_length.true) ∙ fit (goal.at.returns-then-from-bit_length c).After-bit_length; contents = refl }
+    let at = goal.at.returns-then-from-bit_length c in
+    let b = at.Start in
+    made_off (cable b) b.args.out.now b.requires.settings b.requires.lists (sym (fit at.After-bit_length) ∙ lt-leb _ _ c.if-from-bit_length.true)
 
 -- ---- the trace
 
@@ -137,8 +139,7 @@ trace-requires c =
 pub returns : goal.returns
 returns c =
     let at = goal.at.returns c in
-    let k = cable at.Start in
-    record {
-      fit_is = sym (sym (fit at.After-bit_length) ∙ le-leb _ _ c.if-from-bit_length.false);
-      contents = c.trace.ensures.1 ∙ trace_is k _ (c.trace.ensures.0 ∙ ap (sample_words k.settings.r) (written at.After-sums-bits)) (gains at.Else-from-bit_length);
-    }
+    let b = at.Start in
+    let k = cable b in
+    made_fit k b.args.out.now b.requires.settings b.requires.lists c.trace.new.out (sym (fit at.After-bit_length) ∙ le-leb _ _ c.if-from-bit_length.false)
+    (c.trace.ensures.1 ∙ trace_is k _ (c.trace.ensures.0 ∙ ap (sample_words k.settings.r) (written at.After-sums-bits)) (gains at.Else-from-bit_length))

@@ -1,11 +1,9 @@
 -- The settings, the lists and the gains, one after another.
-use mathlib.Core.Path.{sym, subst}
-use mathlib.Core.Bool.{Bool}
+use mathlib.Core.Path.{sym}
 use Rattle.std.proofs.lemmas.Result.{err_from_is_err_and}
 use Rattle.state.proofs.SizesLaws.{settings_tests, fit_within}
 use Rattle.cable_trace.specs.Lent.{cable_in}
-use Rattle.cable_trace.specs.Calls.{Made}
-use Rattle.cable_trace.proofs.CauseLaws.{settings_off, lists_off, made_fit, made_off}
+use Rattle.cable_trace.proofs.CauseLaws.{settings_off, lists_off}
 use Rattle.cable_trace.proofs.simulate.Goals as goal
 
 pub returns-in_err-admitted : goal.returns-in_err-admitted
@@ -27,15 +25,3 @@ returns-in_err-lists_fit c =
 
 pub make-requires : goal.make-requires
 make-requires c = record { settings = sym c.in_ok-admitted.ensures; lists = sym c.in_ok-lists_fit.ensures.cause }
-
-pub returns-then-make : goal.returns-then-make
-returns-then-make c =
-    let k = cable_in c.args.cable in
-    made_fit k c.args.out.now (sym c.in_ok-admitted.ensures) (sym c.in_ok-lists_fit.ensures.cause) c.make.new.out
-    (subst (λ (b : Bool). Made k c.args.out.now b c.make.new.out) c.if-make.true c.make.ensures)
-
-pub returns-else-make : goal.returns-else-make
-returns-else-make c =
-    let k = cable_in c.args.cable in
-    made_off k c.args.out.now (sym c.in_ok-admitted.ensures) (sym c.in_ok-lists_fit.ensures.cause) c.make.new.out
-    (subst (λ (b : Bool). Made k c.args.out.now b c.make.new.out) c.if-make.false c.make.ensures)
