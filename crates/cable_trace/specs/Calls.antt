@@ -1,7 +1,6 @@
 -- What the functions of the cable ask of each other.
-use Rattle.std.specs.Prelude.{◌≡◌, Bool, true, cond, List, ◌++◌, map, ℕ, zero, suc, ◌+◌, ◌*◌, ◌-◌, ◌/◌, ◌%◌, ◌^◌, ◌≤◌, leb, ltb, length, get_or, take, drop, replicate, ℤ, pos, negsuc, nat_abs}
+use Rattle.std.specs.Prelude.{◌≡◌, true, cond, List, ◌++◌, map, ℕ, zero, suc, ◌+◌, ◌*◌, ◌-◌, ◌/◌, ◌%◌, ◌^◌, ◌≤◌, leb, ltb, length, get_or, take, drop, replicate, ℤ, pos, negsuc, nat_abs}
 use Rattle.std.proofs.lemmas.List.Edits.{sets}
-use Rattle.laws.specs.Lists.{all}
 use Rattle.laws.specs.Sums.{Each, dot}
 use Rattle.std.specs.Int.{w8, w16}
 use Rattle.std.proofs.Common.{of_z}
@@ -14,7 +13,7 @@ use Rattle.steps.specs.Settings.{Settings}
 use Rattle.trace_layout.specs.Trace.{trace_header_length, trace_limit, trace_header}
 use Rattle.cable_trace.specs.Limits.{response_limit}
 use Rattle.state.specs.Sizes.{settings_number}
-use Rattle.cable_trace.specs.Cable.{Cable, s, gain, has_gain, sample, sample_count, cable_trace, gain_available, list_cause}
+use Rattle.cable_trace.specs.Cable.{Cable, s, gain, has_gain, sample, list_cause}
 
 -- ---- lengths that follow from those of a trace
 

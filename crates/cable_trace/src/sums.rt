@@ -36,10 +36,7 @@ fn twice(h: &[i16], taps: &mut [i16])
     ensures { taps.new ≡ twice h.now }
 {
     for (i, tap) in taps.iter_mut().enumerate() {
-        *tap = match h.get(i % RESPONSE) {
-            Some(x) => *x,
-            None => 0,
-        };
+        *tap = h.get(i % RESPONSE).copied().unwrap_or(0);
     }
 }
 

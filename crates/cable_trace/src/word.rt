@@ -34,7 +34,7 @@ fn leading(s: i32, b: u32) -> i32
     requires { (0 < nat_abs s) × (nat_abs s < 2 ^ float_digits) × (b ≡ float_bits s) }
     ensures { result ≡ leading s }
 {
-    let m = (FIRST + b / LAST % FIRST) as i32;
+    let m = (FIRST + b / LAST % FIRST).cast_signed();
     if s < 0 { -m } else { m }
 }
 
@@ -57,7 +57,7 @@ fn word(r: u32, s: i32) -> i32
     let b = float_bits(s);
     let e = b / DIGITS % EXPONENTS;
     let m = (sample(r, s, b, e) as i16).cast_unsigned();
-    (u32::from(m) + GAIN_UNIT * gain(r, e)) as i32
+    (u32::from(m) + GAIN_UNIT * gain(r, e)).cast_signed()
 }
 
 // Each s replaced by its word.

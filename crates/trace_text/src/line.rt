@@ -40,7 +40,7 @@ impl Text<'_> {
         ensures same_reference { self.new.out.ghost_name ≡ self.old.out.ghost_name }
         ensures text { TextAt self.old.end (line place y xi decision) self.old.out.now self.new.end self.new.out.now }
     {
-        self.field(place as i32, b' ');
+        self.field(place.cast_signed(), b' ');
         self.field(y, b' ');
         self.field(i32::from(xi), b' ');
         self.field(i32::from(decision), b'\n');
@@ -54,7 +54,7 @@ impl Text<'_> {
     {
         self.word(b"stop ");
         self.field(i32::from(number), b' ');
-        self.field(block as i32, b'\n');
+        self.field(block.cast_signed(), b'\n');
     }
 
     // The lines of a block whose first sample has this place.

@@ -8,10 +8,10 @@ use mir.Facts.{to_z_pos, to_z-of_z}
 use Rattle.laws.specs.Machine.{kept}
 use Rattle.trace_text.proofs.LineLaws.{line_one, line_two, line_three, line_four, line_written}
 use Rattle.trace_text.proofs.line.Text.line.Goals as goal
-use Rattle.trace_text.proofs.line.Text.line.Goals.{Start, After-from, After-from-2}
+use Rattle.trace_text.proofs.line.Text.line.Goals.{After-cast_signed, After-from, After-from-2}
 
-place : (c : Start) → to_z w32 c.args.place ≡ pos c.args.place
-place c = to_z_pos w32 {n = c.args.place} (omega (arith, c.requires.0.place_below))
+place : (c : After-cast_signed) → to_z w32 (of_z w32 c.cast_signed.result) ≡ pos c.args.place
+place c = kept w32 _ c.cast_signed.type_inv ∙ c.cast_signed.ensures ∙ to_z_pos w32 (omega (arith, c.requires.0.place_below))
 
 xi : (c : After-from) → to_z w32 (of_z w32 c.from.result) ≡ pos c.args.xi
 xi c = kept w32 _ c.from.type_inv ∙ c.from.ensures
@@ -23,28 +23,28 @@ pub field-requires : goal.field-requires
 field-requires c =
     let a = c.args in
     let at = goal.at.field-requires c in
-    line_one a.place a.y a.xi a.decision a.self.now.end a.self.now.out.now c.requires.0 c.requires.1 (place at.Start)
+    line_one a.place a.y a.xi a.decision a.self.now.end a.self.now.out.now c.requires.0 c.requires.1 (place at.After-cast_signed)
 
 pub field-requires-2 : goal.field-requires-2
 field-requires-2 c =
     let a = c.args in
     let at = goal.at.field-requires-2 c in
-    line_two a.place a.y a.xi a.decision a.self.now.end a.self.now.out.now c.requires.0 c.requires.1 (place at.Start) c.field.ensures.text (to_z-of_z c.ranges.y)
+    line_two a.place a.y a.xi a.decision a.self.now.end a.self.now.out.now c.requires.0 c.requires.1 (place at.After-cast_signed) c.field.ensures.text (to_z-of_z c.ranges.y)
 
 pub field-requires-3 : goal.field-requires-3
 field-requires-3 c =
     let a = c.args in
     let at = goal.at.field-requires-3 c in
-    line_three a.place a.y a.xi a.decision a.self.now.end a.self.now.out.now c.requires.0 c.requires.1 (place at.Start) c.field.ensures.text (to_z-of_z c.ranges.y) c.field-2.ensures.text (xi at.After-from)
+    line_three a.place a.y a.xi a.decision a.self.now.end a.self.now.out.now c.requires.0 c.requires.1 (place at.After-cast_signed) c.field.ensures.text (to_z-of_z c.ranges.y) c.field-2.ensures.text (xi at.After-from)
 
 pub field-requires-4 : goal.field-requires-4
 field-requires-4 c =
     let a = c.args in
     let at = goal.at.field-requires-4 c in
-    line_four a.place a.y a.xi a.decision a.self.now.end a.self.now.out.now c.requires.0 c.requires.1 (place at.Start) c.field.ensures.text (to_z-of_z c.ranges.y) c.field-2.ensures.text (xi at.After-from) c.field-3.ensures.text (decision at.After-from-2)
+    line_four a.place a.y a.xi a.decision a.self.now.end a.self.now.out.now c.requires.0 c.requires.1 (place at.After-cast_signed) c.field.ensures.text (to_z-of_z c.ranges.y) c.field-2.ensures.text (xi at.After-from) c.field-3.ensures.text (decision at.After-from-2)
 
 pub returns-clause-text : goal.returns-clause-text
 returns-clause-text c =
     let a = c.args in
     let at = goal.at.returns-clause-text c in
-    line_written a.place a.y a.xi a.decision a.self.now.end a.self.now.out.now c.requires.0 c.requires.1 (place at.Start) c.field.ensures.text (to_z-of_z c.ranges.y) c.field-2.ensures.text (xi at.After-from) c.field-3.ensures.text (decision at.After-from-2) c.field-4.ensures.text
+    line_written a.place a.y a.xi a.decision a.self.now.end a.self.now.out.now c.requires.0 c.requires.1 (place at.After-cast_signed) c.field.ensures.text (to_z-of_z c.ranges.y) c.field-2.ensures.text (xi at.After-from) c.field-3.ensures.text (decision at.After-from-2) c.field-4.ensures.text
