@@ -8,16 +8,38 @@ use Rattle.steps.specs.Settings.{Settings, scale_forward, scale_back}
 use Rattle.steps.specs.Fir.{largest, magnitudes}
 use Rattle.filter.specs.Sample.{FilterState}
 use Rattle.filter.specs.Calls.{LargestBitsAt, Ready, filter_state_of}
+use Rattle.filter.specs.Lent.{SameLists}
 use Rattle.filter.specs.declared.sample.BlockExponents.{BlockExponents}
 use Rattle.block.specs.Line.{newest, started, added}
-use Rattle.block.specs.Block.{Block, Memory, Outputs, received_all, stored_all, newb, new_b, Γ, after, ψFits, block_outputs}
+use Rattle.block.specs.Block.{Block, Memory, Outputs, outputs_of, received_all, stored_all, newb, new_b, Γ, after, ψFits, block_outputs}
 use Rattle.block.specs.Sound.{Sound, Acceptable, Receivable, StoreBounds}
+use Rattle.block.specs.declared.lists.Handed as Read
+use Rattle.block.specs.declared.lists.Memory as Kept
 use Rattle.block.specs.declared.run.Progress.{Progress}
 use Rattle.block.specs.declared.run.BlockResult.{BlockResult}
 
 -- the window has the last p − 1 stored samples and a place for the next
 abbrev pub memory_of : List ℤ → List ℤ → List ℤ → List ℤ → ℕ → ℕ → ℕ → Memory
 memory_of forward back window symbols ψ b B = record { forward = forward; back = back; samples = take (length window - 1) window; symbols = symbols; ψ = ψ; b = b; B = B }
+
+-- ---- the lists of structs that only functions inside take
+
+abbrev pub handed_in : Read.Handed → Outputs
+handed_in l = outputs_of l.y.now l.xi.now l.decision.now l.z.now l.theta.now
+
+abbrev pub memory_in : Kept.Memory → Memory
+memory_in o = memory_of o.weights.forward.now o.weights.back.now o.samples.now o.symbols.now o.psi o.b o.bmax
+
+-- each list is still the one that was lent, whatever is in it, and the numbers beside them stay
+pub record SameMemory (o o' : Kept.Memory) : Type 0 where
+  pub weights : SameLists o.weights o'.weights
+  pub samples : o'.samples.ghost_name ≡ o.samples.ghost_name
+  pub symbols : o'.symbols.ghost_name ≡ o.symbols.ghost_name
+  pub psi : o'.psi ≡ o.psi
+  pub b : o'.b ≡ o.b
+  pub bmax : o'.bmax ≡ o.bmax
+
+-- ---- the parts of a block
 
 -- 1: b
 abbrev pub block_length : List ℤ → List ℕ → ℕ

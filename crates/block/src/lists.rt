@@ -1,4 +1,8 @@
 // The lists of a block.
+ghost use Rattle.std.specs.Prelude.{◌≡◌};
+ghost use Rattle.block.specs.Calls.{handed_in};
+ghost use Rattle.block.specs.Lists.{outputs_in};
+
 use filter::weights::Weights;
 
 // What a block is given: m, the gains and the training entries.
@@ -17,6 +21,31 @@ pub struct Outputs<'a> {
     pub decision: &'a mut [i8],
     pub z: &'a mut [i32],
     pub theta: &'a mut [u8],
+}
+
+// The lists for the outputs where they are only read.
+#[derive(Clone, Copy)]
+pub struct Handed<'a> {
+    pub y: &'a [i32],
+    pub xi: &'a [u8],
+    pub decision: &'a [i8],
+    pub z: &'a [i32],
+    pub theta: &'a [u8],
+}
+
+impl Outputs<'_> {
+    // The same lists, to be read.
+    pub fn read(&self) -> Handed<'_>
+        ensures { handed_in result ≡ outputs_in self.now }
+    {
+        Handed {
+            y: self.y,
+            xi: self.xi,
+            decision: self.decision,
+            z: self.z,
+            theta: self.theta,
+        }
+    }
 }
 
 // What the block before left, and this one leaves: the samples end in a place for the next.

@@ -4,8 +4,8 @@ ghost use Rattle.filter.specs.Calls.{SampleResultIs};
 ghost use Rattle.filter.specs.Lent.{SameLists};
 ghost use Rattle.block.specs.Block.{stored_all};
 ghost use Rattle.block.specs.Line.{newest};
-ghost use Rattle.block.specs.Lists.{block_in, outputs_in, memory_in, SameOutputs, SameMemory};
-ghost use Rattle.block.specs.Calls.{BlockExponentsIs, Startable, FillBounds, filled, filter_state_at, Advanceable, Begun, Progressed, Runnable, BlockResultIs};
+ghost use Rattle.block.specs.Lists.{block_in, outputs_in, SameOutputs};
+ghost use Rattle.block.specs.Calls.{memory_in, SameMemory, BlockExponentsIs, Startable, FillBounds, filled, filter_state_at, Advanceable, Begun, Progressed, Runnable, BlockResultIs};
 
 use super::lists::{Block, Memory, Outputs};
 use super::{line, stored};

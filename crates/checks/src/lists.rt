@@ -3,12 +3,11 @@ ghost use Rattle.std.specs.Prelude.{◌≡◌, ◌≤◌};
 ghost use Rattle.laws.specs.Lists.{all};
 ghost use Rattle.steps.specs.Limits.{symbol_limit};
 ghost use Rattle.steps.specs.Settings.{is_entry};
-ghost use Rattle.state.specs.Refusal.{number_in};
+ghost use Rattle.state.specs.Calls.{number_in};
 ghost use Rattle.checks.specs.Checks.{gain_fits, lengths_fit, check_number};
-ghost use Rattle.checks.specs.Calls.{Sampled};
-ghost use Rattle.checks.specs.Lists.{buffers_in};
+ghost use Rattle.checks.specs.Calls.{Sampled, buffers_read};
 
-use block::lists::{Block, Outputs};
+use block::lists::{Block, Handed};
 use state::equaliser::Equaliser;
 use state::refusal::Refusal;
 use state::sound::{examined, is_entry};
@@ -30,8 +29,8 @@ pub fn all_gains(gains: &[u8], l: u8) -> bool
 }
 
 // Whether every lent list is N long.
-pub fn lengths_fit(n: usize, block: Block, outputs: &Outputs) -> bool
-    ensures { result ≡ lengths_fit n (buffers_in block.entry outputs.now) }
+pub fn lengths_fit(n: usize, block: Block, outputs: Handed) -> bool
+    ensures { result ≡ lengths_fit n (buffers_read block.entry outputs.entry) }
 {
     (block.m.len() == n)
         & (block.gains.len() == n)
@@ -44,9 +43,9 @@ pub fn lengths_fit(n: usize, block: Block, outputs: &Outputs) -> bool
 }
 
 // What is examined before a block is run: the state, then the lengths, the gains and the training entries.
-#[tactic(auto, using(crate::proofs::CheckLaws::symbols_most, state::proofs::RefusalLaws::refusals), unfolding(crate::specs::Checks::check_number))]
-pub fn checked(e: Equaliser, block: Block, outputs: &Outputs) -> Result<(), Refusal>
-    ensures { number_in result ≡ check_number e (buffers_in block.entry outputs.now) }
+#[tactic(auto, using(crate::proofs::CheckLaws::checks, state::proofs::RefusalLaws::number_least))]
+pub fn checked(e: Equaliser, block: Block, outputs: Handed) -> Result<(), Refusal>
+    ensures { number_in result ≡ check_number e (buffers_read block.entry outputs.entry) }
 {
     examined(e)?;
     if !lengths_fit(usize::from(e.n), block, outputs) {

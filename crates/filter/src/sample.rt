@@ -6,7 +6,7 @@ ghost use Rattle.steps.specs.Fir.{largest_bits, magnitudes};
 ghost use Rattle.filter.specs.Calls.{LargestBitsAt, next_delay, SymbolBounds, FilterBounds, OutputIs, DecisionBounds, DecisionIs, chosen, UpdateBounds, updated, ChangeBounds, ChangedIs, result_of, Ready, SampleResultIs, filter_state_of};
 ghost use Rattle.filter.specs.Lent.{SameLists};
 
-use super::weights::Weights;
+use super::weights::{Coefficients, Weights};
 use steps::limits::{DATA_UNIT, RECEIVED_UNIT, STEP_UNIT};
 use steps::settings::Settings;
 
@@ -85,11 +85,11 @@ pub fn filter_output(
     delay: usize,
     e: BlockExponents,
     psi: u32,
-    weights: &Weights,
+    weights: Coefficients,
     inputs: Data,
 ) -> Output
-    requires { FilterBounds e psi weights.now.forward.now weights.now.back.now inputs.samples.now inputs.symbols.now × SymbolBounds r delay inputs.symbols.now }
-    ensures { OutputIs e psi weights.now.forward.now weights.now.back.now inputs.entry.samples.now inputs.entry.symbols.now result }
+    requires { FilterBounds e psi weights.forward.now weights.back.now inputs.samples.now inputs.symbols.now × SymbolBounds r delay inputs.symbols.now }
+    ensures { OutputIs e psi weights.entry.forward.now weights.entry.back.now inputs.entry.samples.now inputs.entry.symbols.now result }
 {
     let nu = e.sb + reach(r, delay, inputs.symbols);
     let f = steps::weights::sum(weights.forward, inputs.samples);
@@ -223,7 +223,7 @@ pub fn step(
         samples,
         symbols: &symbols[1..],
     };
-    let h = filter_output(r, delay, e, psi, weights, before);
+    let h = filter_output(r, delay, e, psi, weights.read(), before);
     let j = decision_error(r, e.sb, h.y, h.xi, entry);
     symbols[0] = j.v;
     let after = Data {

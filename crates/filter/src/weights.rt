@@ -16,7 +16,24 @@ pub struct Weights<'a> {
     pub back: &'a mut [i16],
 }
 
+// The weights of both filters where they are only read.
+#[derive(Clone, Copy)]
+pub struct Coefficients<'a> {
+    pub forward: &'a [i16],
+    pub back: &'a [i16],
+}
+
 impl Weights<'_> {
+    // The same weights, to be read.
+    pub fn read(&self) -> Coefficients<'_>
+        ensures { (result.forward.now ≡ self.now.forward.now) × (result.back.now ≡ self.now.back.now) }
+    {
+        Coefficients {
+            forward: self.forward,
+            back: self.back,
+        }
+    }
+
     // Half of each weight of both filters.
     fn halve(&mut self)
         ensures lists { SameLists self.old self.new }
