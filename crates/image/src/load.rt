@@ -3,7 +3,8 @@ ghost use Rattle.std.specs.Prelude.{◌≡◌, ◌+◌, ◌*◌, ◌≤◌, leng
 ghost use Rattle.std.specs.Int.{w16};
 ghost use Rattle.words.specs.Words.{words_of, width};
 ghost use Rattle.steps.specs.Limits.{slots};
-ghost use Rattle.state.specs.Refusal.{number_in, answer_with};
+ghost use Rattle.state.specs.Calls.{number_in};
+ghost use Rattle.state.specs.Refusal.{answer_with};
 ghost use Rattle.state.specs.State.{settings, padded, refused};
 ghost use Rattle.image.specs.Layout.{least_header, end_place, taps_in, layout_of};
 ghost use Rattle.image.specs.Load.{weights_by, state_in, frame_number, Load};

@@ -16,11 +16,6 @@ number_of Buffer = 7
 number_of Bytes = 8
 number_of State = 9
 
--- 0, or the number of the refusal
-abbrev pub number_in : {A : Type 0} → Result A Refusal → ℕ
-number_in (Ok x) = 0
-number_in (Err x) = number_of x
-
 -- the number beside the state that was made, or beside the one that stands with a refusal
 abbrev pub answer_with : Equaliser → Result Equaliser Refusal → Answer
 answer_with e (Ok s) = record { number = 0; state = s }

@@ -1,7 +1,7 @@
 // The sizes and the step admission.
 ghost use Rattle.std.specs.Prelude.{◌≡◌};
 ghost use Rattle.steps.specs.Sound.{Within};
-ghost use Rattle.state.specs.Refusal.{number_in};
+ghost use Rattle.state.specs.Calls.{number_in};
 ghost use Rattle.state.specs.Sizes.{sizes_fit, admits, settings_number};
 
 use super::equaliser::Equaliser;

@@ -6,7 +6,7 @@ ghost use Rattle.steps.specs.Settings.{is_entry};
 ghost use Rattle.steps.specs.Sound.{Within};
 ghost use Rattle.state.specs.State.{is_zero, is_stored, sound_exponents, sound_weights, sound_past, is_sound, settings};
 ghost use Rattle.state.specs.Answers.{examined};
-ghost use Rattle.state.specs.Refusal.{number_in};
+ghost use Rattle.state.specs.Calls.{number_in};
 
 use super::equaliser::Equaliser;
 use super::refusal::Refusal;

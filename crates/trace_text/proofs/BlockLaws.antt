@@ -26,7 +26,8 @@ use Rattle.block.specs.Block.{Outputs, Γ, at, entry_at, block_outputs}
 use Rattle.block.proofs.BlockMemory as Left
 use Rattle.block.proofs.BlockHolds.{at_sample, output_at}
 use Rattle.state.specs.State.{settings, memory}
-use Rattle.state.specs.Refusal.{number_of, number_in, answer_with}
+use Rattle.state.specs.Calls.{number_in}
+use Rattle.state.specs.Refusal.{number_of, answer_with}
 use Rattle.state.specs.declared.refusal.Refusal.{Refusal}
 use Rattle.state.specs.declared.equaliser.Equaliser.{Equaliser}
 use Rattle.state.specs.declared.equaliser.Answer.{Answer}

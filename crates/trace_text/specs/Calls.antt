@@ -2,7 +2,8 @@
 use Rattle.std.specs.Prelude.{true, Result, List, ◌++◌, ◌≡◌, ℕ, ◌+◌, ◌*◌, ◌-◌, ◌/◌, ◌^◌, ◌≤◌, ◌<◌, length, get_or, take, drop, ℤ, pos, nat_abs}
 use Rattle.steps.specs.Limits.{output_unit, block_limit, symbol_limit, output_exponent_limit}
 use Rattle.trace_layout.specs.Trace.{trace_limit, settings_in, count_in, samples_in, well_formed}
-use Rattle.state.specs.Refusal.{number_in, answer_with}
+use Rattle.state.specs.Calls.{number_in}
+use Rattle.state.specs.Refusal.{answer_with}
 use Rattle.state.specs.declared.equaliser.Equaliser.{Equaliser}
 use Rattle.state.specs.declared.equaliser.Answer.{Answer}
 use Rattle.state.specs.declared.refusal.Refusal.{Refusal}
