@@ -1,12 +1,14 @@
 -- The digits of a number, how many there are, and that the library prints them.
-use mathlib.Core.Path.{◌≡◌, sym, ap, ◌∙◌}
+use mathlib.Core.Path.{◌≡◌, refl, sym, ap, ◌∙◌}
 use mathlib.Core.List.{List, [], ◌∷◌, ◌++◌}
 use Prim.Native.Nat.{ℕ, zero, suc, ◌+◌, ◌/◌, ◌%◌, ◌^◌, ◌≤◌, ◌<◌}
 use native.Mathlib.Omega.{arith}
 use native.Mathlib.Nat.{pow-suc}
 use native.Mathlib.Decide.{dec_lt}
 use lib.ListN.{length, length-append}
+use lib.Dec.{ltb→lt}
 use lib.IntN.{ℤ, pos, negsuc, nat_abs}
+use lib.Signed.{◌≤ℤ◌, ◌<ℤ◌}
 use borrow.Author.Tests.{lt-ltb, le-ltb}
 use Rattle.std.specs.Fmt as Library
 use Rattle.std.proofs.lemmas.Fmt as Printed
@@ -47,14 +49,14 @@ decimal_more (suc d) h =
 
 -- ---- how many there are
 
-length_one : (n : ℕ) → n < 10 → length (decimal n) ≡ 1
+pub length_one : (n : ℕ) → n < 10 → length (decimal n) ≡ 1
 length_one n h = ap length (decimal_one n h)
 
-length_more : (n : ℕ) → 10 ≤ n → length (decimal n) ≡ length (decimal (n / 10)) + 1
+pub length_more : (n : ℕ) → 10 ≤ n → length (decimal n) ≡ length (decimal (n / 10)) + 1
 length_more n h = ap length (decimal_more n h) ∙ length-append (decimal (n / 10)) ((48 + n % 10) ∷ [])
 
 -- a number below 10^(k+1) has at most k + 1 digits
-decimal_short : (k n : ℕ) → n < 10 ^ suc k → length (decimal n) ≤ suc k
+pub decimal_short : (k n : ℕ) → n < 10 ^ suc k → length (decimal n) ≤ suc k
 decimal_short zero n h = omega (arith, length_one n h)
 decimal_short (suc k) n h = go (dec_lt n 10) (decimal_short k (n / 10) (omega (arith, pow-suc 10 (suc k))))
   where
@@ -82,6 +84,16 @@ unfolding signed_decimal
 signed_short k (pos n) h = omega (arith, decimal_short k n h)
 signed_short k (negsuc n) h = omega (arith, decimal_short k (suc n) h)
 
+pub signed_below : (z : ℤ) → z <ℤ pos 0 → signed_decimal z ≡ 45 ∷ decimal (nat_abs z)
+unfolding signed_decimal
+signed_below (pos n) h = absurd (omega (arith, ltb→lt n 0 h.lt))
+signed_below (negsuc n) h = refl
+
+pub signed_whole : (z : ℤ) → pos 0 ≤ℤ z → signed_decimal z ≡ decimal (nat_abs z)
+unfolding signed_decimal
+signed_whole (pos n) h = refl
+signed_whole (negsuc n) h = absurd h.le
+
 -- ---- what the library prints
 
 library_digits : (d n : ℕ) → n ≤ d → n < 2 ^ 64 → Library.decimal n ≡ decimal_digits d n
@@ -94,7 +106,11 @@ library_digits (suc d) n h k = go (dec_lt n 10) (λ l. library_digits d (n / 10)
         let m : 10 ≤ n = omega arith in
         Printed.decimal_step n m k ∙ ap (λ (t : List ℕ). t ++ ((48 + n % 10) ∷ [])) (rest m) ∙ sym (digits_more d n m)
 
+pub digits_printed : (n : ℕ) → n < 2 ^ 64 → Library.decimal n ≡ decimal n
+unfolding decimal
+digits_printed n h = library_digits n n (omega arith) h
+
 pub printed : (z : ℤ) → nat_abs z < 2 ^ 64 → Library.signed_decimal z ≡ signed_decimal z
-unfolding decimal signed_decimal
-printed (pos n) h = library_digits n n (omega arith) h
-printed (negsuc n) h = ap (λ (t : List ℕ). 45 ∷ t) (library_digits (suc n) (suc n) (omega arith) h)
+unfolding signed_decimal
+printed (pos n) h = digits_printed n h
+printed (negsuc n) h = ap (λ (t : List ℕ). 45 ∷ t) (digits_printed (suc n) h)

@@ -21,22 +21,23 @@ signed_field : (k : ℕ) (z : ℤ) (last : ℕ) → nat_abs z < 10 ^ suc k → l
 unfolding field
 signed_field k z last h = omega (arith, length-append (signed_decimal z) (last ∷ []), signed_short k z h)
 
-line_short : (place : ℕ) (Y : ℤ) (ξ : ℕ) (d : ℤ) → Printable place Y ξ d → length (line place Y ξ d) ≤ line_limit
-unfolding line
-line_short place Y ξ d p =
-    let a = field (pos place) space in
-    let b = field Y space in
-    let c = field (pos ξ) space in
+-- whatever byte is after each number
+fields_short : (place : ℕ) (Y : ℤ) (ξ : ℕ) (d : ℤ) (a b c e : ℕ) → Printable place Y ξ d → length (field (pos place) a ++ field Y b ++ field (pos ξ) c ++ field d e) ≤ line_limit
+fields_short place Y ξ d a b c e p =
     omega (
       arith,
-      length-append (a ++ b ++ c) (field d newline),
-      length-append (a ++ b) c,
-      length-append a b,
-      unsigned_field 4 place space (omega (arith, p.place_below)),
-      signed_field 8 Y space (omega (arith, p.Y_below)),
-      unsigned_field 1 ξ space (omega (arith, p.ξ_most)),
-      signed_field 1 d newline (omega (arith, p.decision_below)),
+      length-append (field (pos place) a ++ field Y b ++ field (pos ξ) c) (field d e),
+      length-append (field (pos place) a ++ field Y b) (field (pos ξ) c),
+      length-append (field (pos place) a) (field Y b),
+      unsigned_field 4 place a (omega (arith, p.place_below)),
+      signed_field 8 Y b (omega (arith, p.Y_below)),
+      unsigned_field 1 ξ c (omega (arith, p.ξ_most)),
+      signed_field 1 d e (omega (arith, p.decision_below)),
     )
+
+line_short : (place : ℕ) (Y : ℤ) (ξ : ℕ) (d : ℤ) → Printable place Y ξ d → length (line place Y ξ d) ≤ line_limit
+unfolding line
+line_short place Y ξ d p = fields_short place Y ξ d space space space newline p
 
 pub lines_short : (place : ℕ) (Y : List ℤ) (ξ : List ℕ) (d : List ℤ) (i : ℕ) → AllPrintable place Y ξ d → i ≤ length Y → length (lines place Y ξ d i) ≤ line_limit * i
 unfolding lines
@@ -49,18 +50,21 @@ lines_short place Y ξ d (suc i) p h =
       line_short (place + i) (get_or Y i (pos 0)) (get_or ξ i 0) (get_or d i (pos 0)) (p.each i h),
     )
 
-stop_short : (number block : ℕ) → number ≤ 9 → block < 2 ^ 16 → length (stop_line number block) ≤ line_limit
-unfolding stop_line
-stop_short number block h k =
-    let a : List ℕ = 115 ∷ 116 ∷ 111 ∷ 112 ∷ space ∷ [] in
-    let b = field (pos number) space in
+-- whatever byte is after each number
+stop_fields_short : (number block a b : ℕ) → number ≤ 9 → block < 2 ^ 16 → length ((115 ∷ 116 ∷ 111 ∷ 112 ∷ space ∷ []) ++ field (pos number) a ++ field (pos block) b) ≤ line_limit
+stop_fields_short number block a b h k =
+    let s : List ℕ = 115 ∷ 116 ∷ 111 ∷ 112 ∷ space ∷ [] in
     omega (
       arith,
-      length-append (a ++ b) (field (pos block) newline),
-      length-append a b,
-      unsigned_field 0 number space (omega arith),
-      unsigned_field 4 block newline (omega arith),
+      length-append (s ++ field (pos number) a) (field (pos block) b),
+      length-append s (field (pos number) a),
+      unsigned_field 0 number a (omega arith),
+      unsigned_field 4 block b (omega arith),
     )
+
+stop_short : (number block : ℕ) → number ≤ 9 → block < 2 ^ 16 → length (stop_line number block) ≤ line_limit
+unfolding stop_line
+stop_short number block h k = stop_fields_short number block space newline h k
 
 -- ---- a field: the text of its number, then a byte
 
@@ -82,84 +86,80 @@ module _ (z : ℤ) (last at : ℕ) (out : List ℕ) {text : List ℕ} (e : text 
 field_same : (last : ℕ) {at end : ℕ} {z x : ℤ} {o o₁ : List ℕ} → z ≡ x → TextAt at (field z last) o end o₁ → TextAt at (field x last) o end o₁
 field_same last e w = text_same (ap (λ (n : ℤ). field n last) e) w
 
--- ---- the line of a sample: four fields
+-- ---- the line of a sample: four fields, which have room whatever byte is after each number
 
 module _ (place : ℕ) (Y : ℤ) (ξ : ℕ) (d : ℤ) (at : ℕ) (o : List ℕ) (p : Printable place Y ξ d) (h : at + line_limit ≤ length o) where
-  abbrev A : List ℕ
-  A = field (pos place) space
+  abbrev A : ℕ → List ℕ
+  A a = field (pos place) a
 
-  abbrev B : List ℕ
-  B = field Y space
+  abbrev B : ℕ → List ℕ
+  B b = field Y b
 
-  abbrev C : List ℕ
-  C = field (pos ξ) space
+  abbrev C : ℕ → List ℕ
+  C c = field (pos ξ) c
 
-  abbrev D : List ℕ
-  D = field d newline
+  abbrev D : ℕ → List ℕ
+  D e = field d e
 
-  room₄ : at + length (A ++ B ++ C ++ D) ≤ length o
-  unfolding line
-  room₄ = omega (arith, line_short place Y ξ d p, h)
+  room₄ : (a b c e : ℕ) → at + length (A a ++ B b ++ C c ++ D e) ≤ length o
+  room₄ a b c e = omega (arith, fields_short place Y ξ d a b c e p, h)
 
-  room₃ : at + length (A ++ B ++ C) ≤ length o
-  room₃ = room_front at (A ++ B ++ C) D room₄
+  room₃ : (a b c : ℕ) → at + length (A a ++ B b ++ C c) ≤ length o
+  room₃ a b c = room_front at (A a ++ B b ++ C c) (D newline) (room₄ a b c newline)
 
-  room₂ : at + length (A ++ B) ≤ length o
-  room₂ = room_front at (A ++ B) C room₃
+  room₂ : (a b : ℕ) → at + length (A a ++ B b) ≤ length o
+  room₂ a b = room_front at (A a ++ B b) (C space) (room₃ a b space)
 
-  module _ {z₁ : ℤ} (e₁ : z₁ ≡ pos place) where
-    pub line_one : at + length (field z₁ space) ≤ length o
-    line_one = rw e₁ (room_front at A B room₂)
+  module _ {z₁ : ℤ} (e₁ : z₁ ≡ pos place) (a : ℕ) where
+    pub line_one : at + length (field z₁ a) ≤ length o
+    line_one = rw e₁ (room_front at (A a) (B space) (room₂ a space))
 
-    module _ {m₁ : ℕ} {o₁ : List ℕ} (w₁ : TextAt at (field z₁ space) o m₁ o₁) {z₂ : ℤ} (e₂ : z₂ ≡ Y) where
-      pub line_two : m₁ + length (field z₂ space) ≤ length o₁
-      line_two = rw e₂ (text_room (field_same space e₁ w₁) B room₂)
+    module _ {m₁ : ℕ} {o₁ : List ℕ} (w₁ : TextAt at (field z₁ a) o m₁ o₁) {z₂ : ℤ} (e₂ : z₂ ≡ Y) (b : ℕ) where
+      pub line_two : m₁ + length (field z₂ b) ≤ length o₁
+      line_two = rw e₂ (text_room (field_same a e₁ w₁) (B b) (room₂ a b))
 
-      module _ {m₂ : ℕ} {o₂ : List ℕ} (w₂ : TextAt m₁ (field z₂ space) o₁ m₂ o₂) {z₃ : ℤ} (e₃ : z₃ ≡ pos ξ) where
-        two : TextAt at (A ++ B) o m₂ o₂
-        two = text_then (field_same space e₁ w₁) (omega (arith, h)) (field_same space e₂ w₂)
+      module _ {m₂ : ℕ} {o₂ : List ℕ} (w₂ : TextAt m₁ (field z₂ b) o₁ m₂ o₂) {z₃ : ℤ} (e₃ : z₃ ≡ pos ξ) (c : ℕ) where
+        two : TextAt at (A a ++ B b) o m₂ o₂
+        two = text_then (field_same a e₁ w₁) (omega (arith, h)) (field_same b e₂ w₂)
 
-        pub line_three : m₂ + length (field z₃ space) ≤ length o₂
-        line_three = rw e₃ (text_room two C room₃)
+        pub line_three : m₂ + length (field z₃ c) ≤ length o₂
+        line_three = rw e₃ (text_room two (C c) (room₃ a b c))
 
-        module _ {m₃ : ℕ} {o₃ : List ℕ} (w₃ : TextAt m₂ (field z₃ space) o₂ m₃ o₃) {z₄ : ℤ} (e₄ : z₄ ≡ d) where
-          three : TextAt at (A ++ B ++ C) o m₃ o₃
-          three = text_then two (omega (arith, h)) (field_same space e₃ w₃)
+        module _ {m₃ : ℕ} {o₃ : List ℕ} (w₃ : TextAt m₂ (field z₃ c) o₂ m₃ o₃) {z₄ : ℤ} (e₄ : z₄ ≡ d) (e : ℕ) where
+          three : TextAt at (A a ++ B b ++ C c) o m₃ o₃
+          three = text_then two (omega (arith, h)) (field_same c e₃ w₃)
 
-          pub line_four : m₃ + length (field z₄ newline) ≤ length o₃
-          line_four = rw e₄ (text_room three D room₄)
+          pub line_four : m₃ + length (field z₄ e) ≤ length o₃
+          line_four = rw e₄ (text_room three (D e) (room₄ a b c e))
 
-          pub line_written : {m₄ : ℕ} {o₄ : List ℕ} → TextAt m₃ (field z₄ newline) o₃ m₄ o₄ → TextAt at (line place Y ξ d) o m₄ o₄
-          unfolding line
-          line_written w₄ = text_then three (omega (arith, h)) (field_same newline e₄ w₄)
+          pub fields_written : {m₄ : ℕ} {o₄ : List ℕ} → TextAt m₃ (field z₄ e) o₃ m₄ o₄ → TextAt at (A a ++ B b ++ C c ++ D e) o m₄ o₄
+          fields_written w₄ = text_then three (omega (arith, h)) (field_same e e₄ w₄)
 
 -- ---- the line of a refusal: a word and two fields
 
 module _ (number block at : ℕ) (o : List ℕ) (number_most : number ≤ 9) (block_below : block < 2 ^ 16) (h : at + line_limit ≤ length o)
-    {m₁ : ℕ} {o₁ : List ℕ} (w₁ : TextAt at (115 ∷ 116 ∷ 111 ∷ 112 ∷ space ∷ []) o m₁ o₁) {z₂ : ℤ} (e₂ : z₂ ≡ pos number) where
+    {m₁ : ℕ} {o₁ : List ℕ} (w₁ : TextAt at (115 ∷ 116 ∷ 111 ∷ 112 ∷ space ∷ []) o m₁ o₁) {z₂ : ℤ} (e₂ : z₂ ≡ pos number) (a : ℕ) where
   abbrev S : List ℕ
   S = 115 ∷ 116 ∷ 111 ∷ 112 ∷ space ∷ []
 
-  stop_room₃ : at + length (S ++ field (pos number) space ++ field (pos block) newline) ≤ length o
-  unfolding stop_line
-  stop_room₃ = omega (arith, stop_short number block number_most block_below, h)
+  stop_room₃ : (b : ℕ) → at + length (S ++ field (pos number) a ++ field (pos block) b) ≤ length o
+  stop_room₃ b = omega (arith, stop_fields_short number block a b number_most block_below, h)
 
-  stop_room₂ : at + length (S ++ field (pos number) space) ≤ length o
-  stop_room₂ = room_front at (S ++ field (pos number) space) (field (pos block) newline) stop_room₃
+  stop_room₂ : at + length (S ++ field (pos number) a) ≤ length o
+  stop_room₂ = room_front at (S ++ field (pos number) a) (field (pos block) newline) (stop_room₃ newline)
 
-  pub stop_two : m₁ + length (field z₂ space) ≤ length o₁
-  stop_two = rw e₂ (text_room w₁ (field (pos number) space) stop_room₂)
+  pub stop_two : m₁ + length (field z₂ a) ≤ length o₁
+  stop_two = rw e₂ (text_room w₁ (field (pos number) a) stop_room₂)
 
-  module _ {m₂ : ℕ} {o₂ : List ℕ} (w₂ : TextAt m₁ (field z₂ space) o₁ m₂ o₂) {z₃ : ℤ} (e₃ : z₃ ≡ pos block) where
-    stop_front : TextAt at (S ++ field (pos number) space) o m₂ o₂
-    stop_front = text_then w₁ (omega (arith, h)) (field_same space e₂ w₂)
+  module _ {m₂ : ℕ} {o₂ : List ℕ} (w₂ : TextAt m₁ (field z₂ a) o₁ m₂ o₂) {z₃ : ℤ} (e₃ : z₃ ≡ pos block) (b : ℕ) where
+    stop_front : TextAt at (S ++ field (pos number) a) o m₂ o₂
+    stop_front = text_then w₁ (omega (arith, h)) (field_same a e₂ w₂)
 
-    pub stop_three : m₂ + length (field z₃ newline) ≤ length o₂
-    stop_three = rw e₃ (text_room stop_front (field (pos block) newline) stop_room₃)
+    pub stop_three : m₂ + length (field z₃ b) ≤ length o₂
+    stop_three = rw e₃ (text_room stop_front (field (pos block) b) (stop_room₃ b))
 
-    pub stop_written : {m₃ : ℕ} {o₃ : List ℕ} → TextAt m₂ (field z₃ newline) o₂ m₃ o₃ → TextAt at (stop_line number block) o m₃ o₃
-    unfolding stop_line
-    stop_written w₃ = text_then stop_front (omega (arith, h)) (field_same newline e₃ w₃)
+    pub stop_fields_written : {m₃ : ℕ} {o₃ : List ℕ} → TextAt m₂ (field z₃ b) o₂ m₃ o₃ → TextAt at (S ++ field (pos number) a ++ field (pos block) b) o m₃ o₃
+    stop_fields_written w₃ = text_then stop_front (omega (arith, h)) (field_same b e₃ w₃)
 
 -- ---- the lines of a block: i of them are written
 

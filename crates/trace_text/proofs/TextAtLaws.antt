@@ -20,6 +20,15 @@ text_none a o = record {
 pub text_same : {a b : ℕ} {s t o o₁ : List ℕ} → s ≡ t → TextAt a s o b o₁ → TextAt a t o b o₁
 text_same {a} {b} {o = o} {o₁ = o₁} e f = subst (λ (l : List ℕ). TextAt a l o b o₁) e f
 
+-- a text written up to its end
+pub text_up_to : {a b : ℕ} (from : ℕ) {s o o₁ : List ℕ} → b ≡ a + length s → from + length s ≡ b → drop from o₁ ≡ s ++ drop b o → take from o₁ ≡ take from o → TextAt a s o b o₁
+text_up_to {a} {b} from {s} {o} {o₁} e h w t = record {
+  end_is = e;
+  contents =
+      sym (take-append-drop from o₁) ∙ ap₂ ◌++◌ t w ∙ sym (append_assoc (take from o) s (drop b o))
+      ∙ ap₂ (λ (m n : ℕ). take m o ++ s ++ drop n o) (omega (arith, e, h)) e;
+}
+
 -- a text has room where a longer one has
 pub room_front : (a : ℕ) {n : ℕ} (s t : List ℕ) → a + length (s ++ t) ≤ n → a + length s ≤ n
 room_front a s t h = omega (arith, length-append s t)

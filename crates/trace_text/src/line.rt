@@ -1,9 +1,23 @@
 // The lines of a trace, in lent bytes.
-ghost use Rattle.std.specs.Prelude.{◌≡◌, ◌+◌, ◌*◌, ◌^◌, ◌≤◌, ◌<◌, length};
+ghost use Rattle.std.specs.Prelude.{◌≡◌, [], ◌∷◌, ◌+◌, ◌*◌, ◌^◌, ◌≤◌, ◌<◌, length};
+ghost use Rattle.trace_text.specs.Decimal.{decimal, signed_decimal};
 ghost use Rattle.trace_text.specs.Text.{field, line, stop_line, lines};
 ghost use Rattle.trace_text.specs.Calls.{line_limit, TextAt, Printable, AllPrintable};
 
-use itoa::Buffer;
+use itoa::write_digits;
+
+// How many digits a number has.
+fn width(n: u32) -> usize
+    ensures { result ≡ length (decimal n) }
+{
+    let mut left = n;
+    let mut count = 1;
+    while left >= 10 {
+        left /= 10;
+        count += 1;
+    }
+    count
+}
 
 // Lent bytes, and where the text in them ends. Each method writes from there on.
 #[derive(Drop)]
@@ -23,15 +37,50 @@ impl Text<'_> {
         self.end = end;
     }
 
+    fn byte(&mut self, byte: u8)
+        requires { self.old.end < length self.old.out.now }
+        ensures same_reference { self.new.out.ghost_name ≡ self.old.out.ghost_name }
+        ensures text { TextAt self.old.end (byte ∷ []) self.old.out.now self.new.end self.new.out.now }
+    {
+        self.out[self.end] = byte;
+        self.end += 1;
+    }
+
+    // The library writes the digits straight into the lent bytes, up to where they end. This and the next two are
+    // inlined, so that the end of the text stays in a register.
+    #[inline(always)]
+    fn digits(&mut self, n: u32)
+        requires { self.old.end + length (decimal n) ≤ length self.old.out.now }
+        ensures same_reference { self.new.out.ghost_name ≡ self.old.out.ghost_name }
+        ensures text { TextAt self.old.end (decimal n) self.old.out.now self.new.end self.new.out.now }
+    {
+        let count = width(n);
+        write_digits(u64::from(n), self.out, self.end + count);
+        self.end += count;
+    }
+
+    // A number that may be negative.
+    #[inline(always)]
+    fn number(&mut self, z: i32)
+        requires { self.old.end + length (signed_decimal z) ≤ length self.old.out.now }
+        ensures same_reference { self.new.out.ghost_name ≡ self.old.out.ghost_name }
+        ensures text { TextAt self.old.end (signed_decimal z) self.old.out.now self.new.end self.new.out.now }
+    {
+        if z < 0 {
+            self.byte(b'-');
+        }
+        self.digits(z.unsigned_abs());
+    }
+
     // A number and the byte after it.
+    #[inline(always)]
     fn field(&mut self, z: i32, last: u8)
         requires { self.old.end + length (field z last) ≤ length self.old.out.now }
         ensures same_reference { self.new.out.ghost_name ≡ self.old.out.ghost_name }
         ensures text { TextAt self.old.end (field z last) self.old.out.now self.new.end self.new.out.now }
     {
-        let mut digits = Buffer::new();
-        self.word(digits.format(z).as_bytes());
-        self.word(&[last]);
+        self.number(z);
+        self.byte(last);
     }
 
     // The line of a sample.

@@ -21,7 +21,11 @@ line-requires c =
     let h = c.loop-i-test.true in
     let y = kept w32 (get_or c.args.y.now l.i (pos 0)) (omega arith) in
     let d = kept w8 (get_or c.args.decision.now l.i (pos 0)) (omega arith) in
-    simp (y, d) (p.0.each l.i h, line_room p.0 p.1 l.i h l.invariant.text)
+    let e = p.0.each l.i h in
+    simp (y, d) (
+      record { place_below = omega (arith, e.place_below); Y_below = e.Y_below; ξ_most = e.ξ_most; decision_below = e.decision_below },
+      line_room p.0 p.1 l.i h l.invariant.text,
+    )
 
 pub loop-i-preserved : goal.loop-i-preserved
 loop-i-preserved c =
