@@ -8,7 +8,10 @@ ghost use Rattle.cable_trace.specs.Calls.{Gainable, gain_of, float_digits, float
 
 use super::limits::{DIGITS, EXPONENTS, FIRST, GAIN_UNIT, LAST, OFFSET};
 use numbers::cut::Register;
-use steps::limits::{DATA_UNIT, GAIN};
+use state::equaliser::Equaliser;
+use steps::limits::DATA_UNIT;
+
+const GAIN: u32 = Equaliser::GAIN as u32;
 
 fn float_bits(s: i32) -> u32
     requires { nat_abs s < 2 ^ float_digits }

@@ -4,7 +4,8 @@ ghost use Rattle.steps.specs.Limits.{tap_limit, slots};
 ghost use Rattle.state.specs.State.{padded};
 
 use state::equaliser::Equaliser;
-use steps::limits::TAPS;
+
+const TAPS: usize = Equaliser::TAPS as usize;
 
 // A list at the front of TAPS slots.
 pub fn fronted(src: &[i16]) -> [i16; TAPS]

@@ -15,8 +15,11 @@ use block::run::BlockResult;
 use filter::weights::Weights;
 use state::equaliser::Equaliser;
 use state::refusal::Refusal;
-use steps::limits::{BLOCK, EXPONENT};
 use steps::settings::Settings;
+
+const BLOCK: usize = Equaliser::BLOCK as usize;
+
+const EXPONENT: u32 = Equaliser::EXPONENT as u32;
 
 // The state that a block leaves, from its numbers, its weights and its data.
 fn next(
@@ -90,7 +93,7 @@ pub fn run(e: Equaliser, block: Block, outputs: &mut Outputs) -> Result<Equalise
     ensures lists { SameOutputs outputs.old outputs.new }
     ensures run { Run e (buffers_in block.entry outputs.old) (answer_with e result) (outputs_in outputs.new) }
 {
-    checks::lists::checked(e, block, outputs)?;
+    checks::lists::checked(e, block, outputs.read())?;
     checks::lists::sixteen_bits(block.m);
     let n = usize::from(e.n);
     let mut y = [0i32; BLOCK];

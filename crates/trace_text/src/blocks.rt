@@ -10,7 +10,8 @@ use super::line::Text;
 use block::lists::{Block, Outputs};
 use state::equaliser::Equaliser;
 use state::refusal::Refusal;
-use steps::limits::BLOCK;
+
+const BLOCK: usize = Equaliser::BLOCK as usize;
 
 // The block whose first sample has this place; Y, ξ and decision go to lent lists.
 pub fn run_block(
