@@ -94,7 +94,7 @@ module _ (k : Settings) (o : Memory) (i : Block) where
 
   -- ---- what the code asks
 
-  receivable : Acceptable k i → Receivable i.samples i.gains
+  pub receivable : Acceptable k i → Receivable i.samples i.gains
   receivable a = record { same_length = a.samples_long ∙ sym a.gains_long; gains_most = a.gains_most }
 
   pub store_bounds : Sound k o → Acceptable k i → StoreBounds i.samples i.gains (new_b k o i + scale_forward k)

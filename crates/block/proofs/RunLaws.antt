@@ -25,7 +25,6 @@ use Rattle.filter.specs.Calls.{LargestBitsAt, next_delay, SampleResultIs, filter
 use Rattle.filter.specs.declared.sample.SampleResult.{SampleResult}
 use Rattle.block.specs.Block.{Block, Memory, Outputs, newb, new_b, Γ, after, at, ψFits, entry_at, block_outputs, outputs_of}
 use Rattle.block.specs.Calls.{count, outputs_up_to, filter_state_after, filter_state_at, Advanceable, BegunOn, ProgressedOn, BlockResultIs}
-use Rattle.block.specs.Sound.{Sound}
 use Rattle.block.specs.Line.{place, newest}
 use Rattle.filter.specs.declared.sample.BlockExponents.{BlockExponents}
 use Rattle.block.specs.declared.run.Progress.{Progress}
@@ -207,8 +206,8 @@ module _ {k : Settings} {o : Memory} {i : Block} {e : BlockExponents} {ψ : ℕ}
 
 module _ {k : Settings} {o : Memory} {i : Block} {samples : List ℤ} {l : Outputs} {r : Progress} {forward back symbols : List ℤ} {l' : Outputs}
     (p : ProgressedOn k o i samples l r forward back symbols l') where
-  pub count_room : Sound k o → r.count ≤ block_limit
-  count_room s = omega (arith, p.count_is, count_most k o i k.N, s.within.N_most)
+  pub count_room : k.N ≤ block_limit → r.count ≤ block_limit
+  count_room h = omega (arith, p.count_is, count_most k o i k.N)
 
   pub block_result : {window past : List ℤ} {p' q' : ℕ} → window ≡ newest p' r.count samples → past ≡ newest q' r.count symbols → p' ≡ k.p → q' ≡ k.q →
       {b bmax : ℕ} → b ≡ newb k o i → bmax ≡ new_b k o i → BlockResultIs k o i l (record { psi = r.psi; b = b; bmax = bmax }) forward back window past l'

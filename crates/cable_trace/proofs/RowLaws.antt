@@ -6,7 +6,7 @@ use native.Mathlib.Omega.{arith}
 use lib.ListN.{length, get_or, take, drop, length-take, length-drop, get_or-eq_default}
 use lib.Seq.{take_all, take-take, length-take-le, get_or-take, get_or-drop, ext_get_or}
 use lib.IntN.{ℤ, pos, nat_abs, ◌+ℤ◌, ◌*ℤ◌, zero-*ℤ, +ℤ_idr}
-use Rattle.laws.specs.Sums.{each_of, each_take, dot, dot_next, dot_bound}
+use Rattle.laws.specs.Sums.{each_of, each_take, each_drop, dot, dot_next, dot_bound}
 use Rattle.laws.specs.Values.{values_length, values_at, values_same}
 use Rattle.cable_trace.specs.Limits.{response_limit}
 use Rattle.cable_trace.specs.Calls.{taps_length, sent_place, window, sums, LineSummable, twice, row, row_sums, RowsSummable, RowSummable}
@@ -18,6 +18,15 @@ use Rattle.cable_trace.proofs.LineLaws.{each_default, window_long}
 pub sum_bound : (h v : List ℤ) (j : ℕ) → RowSummable h v → nat_abs (dot (take j h) (take j v)) < 2 ^ 25
 sum_bound h v j s =
     omega (arith, dot_bound (2 ^ 15) (2 ^ 4) (take j h) (take j v) (each_take _ j h s.h_small) (each_take _ j v s.v_small), length-take j h, s.h_long)
+
+-- a row and a window
+pub row_summable : (taps line : List ℤ) (m n : ℕ) → RowsSummable taps line m → RowSummable (row taps n) (window line response_limit n)
+row_summable taps line m n s = record {
+  h_long = length-take-le response_limit (drop (response_limit * (n % 2)) taps) (omega (arith, length-drop (response_limit * (n % 2)) taps, s.taps_long));
+  v_long = window_long line response_limit n s.line_long (omega arith);
+  h_small = each_take _ response_limit (drop (response_limit * (n % 2)) taps) (each_drop _ (response_limit * (n % 2)) taps s.taps_small);
+  v_small = each_take _ response_limit (drop (sent_place n) line) (each_drop _ (sent_place n) line s.line_small);
+}
 
 -- ---- a row of a response
 

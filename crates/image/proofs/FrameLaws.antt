@@ -20,6 +20,10 @@ use Rattle.image.specs.Calls.{Placeable, Weighed}
 use Rattle.image.proofs.LayoutLaws.{layout_row, placeable}
 use Rattle.image.proofs.LoadLaws.{frame_tests}
 
+pub taps_in_lem : (l : List ℕ) (k : Settings) → k ≡ settings (state_in l) → k.p + k.q ≡ taps_in l
+unfolding state_by
+taps_in_lem l k e = ap (λ (x : Settings). x.p + x.q) e
+
 -- ---- bytes that pass
 
 pub framed_sound : (l : List ℕ) → 0 ≡ frame_number l → (least_header ≤ length l) × (length l ≡ end_place (layout_of l) (taps_in l)) × (taps_in l ≤ slots)

@@ -9,13 +9,13 @@ use lib.Dec.{T, ltb, ltb→lt}
 use borrow.Author.Tests.{lt-ltb, le-ltb}
 use native.Mathlib.Decide.{dec_le}
 use native.Mathlib.Numerals.{add-one}
-use lib.Signed.{shr_z, lt_z, ◌≤ℤ◌, ◌<ℤ◌}
+use lib.Signed.{shr_z, le_z, lt_z, ◌≤ℤ◌, ◌<ℤ◌}
 use lib.IntN.{ℤ, pos, negsuc, neg_ℤ, nat_abs, sub_ℕ, ◌+ℤ◌, ◌-ℤ◌, ◌*ℤ◌, *ℤ_comm, zero-*ℤ, neg_ℤ-neg_ℤ, neg_ℤ-+ℤ}
 use mir.Syntax.{Width}
 use mir.Val.{SFits, bits, hbits, to_z, of_z}
 use mir.Facts.{to_z-of_z}
 use Rattle.laws.specs.Integers.{*ℤ_assoc, neg-*ℤ, abs_mul, abs_neg}
-use Rattle.laws.specs.Machine.{fits_abs, fits_opposite, fits_shr, one_shifted, signed_one_shifted, lt_tested, lt_refuted, ones_fit, ones_are}
+use Rattle.laws.specs.Machine.{fits_abs, fits_opposite, fits_shr, one_shifted, signed_one_shifted, lt_tested, lt_refuted, le_tested, le_refuted, ones_fit, ones_are}
 use Rattle.laws.specs.Linear.{by_abs_lt, diff, nat}
 use Rattle.laws.specs.Powers.{split, rises}
 use Rattle.numbers.specs.Cut.{cut, raise, rescale}
@@ -185,7 +185,22 @@ shift_negative (negsuc n) k h = go (2 ^ k) (pow_pos k) (dec_le (2 ^ k) (suc n))
         simp (le-ltb (u - 1) (suc n) (omega arith)) (
         ap pos (div-eq_of_lt {n = u - 1 - suc n} {m = u} (omega arith)) ∙ ap (λ (m : ℕ). neg_ℤ (pos m)) (sym (div-eq_of_lt {n = suc n} {m = u} (omega arith))))
 
--- in a register, after the test of the sign: of z itself, and of z and 2^k − 1
+-- in a register, after the test of the sign
+pub lift_whole : (w : Width) (z : ℤ) (k : ℕ) → SFits w z → le_z (pos 0) (to_z w (of_z w z)) ≡ true → shr_z (to_z w (of_z w z)) (2 ^ k) ≡ cut z k
+lift_whole w z k f t = rw (to_z-of_z f) (shift_whole z k (le_tested (rw (to_z-of_z f) at t)))
+
+pub lift_negative : (w : Width) (z low : ℤ) (k : ℕ) → SFits w z → SFits w low → low ≡ pos (2 ^ k - 1) → le_z (pos 0) (to_z w (of_z w z)) ≡ false →
+    let x = to_z w (of_z w z) +ℤ to_z w (of_z w low) in
+    SFits w x × (shr_z (to_z w (of_z w x)) (2 ^ k) ≡ cut z k)
+lift_negative w z low k f g e t = rw (to_z-of_z f, to_z-of_z g, e) (fits, ap (λ (x : ℤ). shr_z x (2 ^ k)) (to_z-of_z fits) ∙ shift_negative z k below)
+  where
+    below : z <ℤ pos 0
+    below = le_refuted (rw (to_z-of_z f) at t)
+
+    fits : SFits w (z +ℤ pos (2 ^ k - 1))
+    fits = fits_opposite z (2 ^ k - 1) below f (rw e at g).sfits
+
+-- what is stored of the shift: of z itself, and of z and 2^k − 1
 module _ (w : Width) (z : ℤ) (k : ℕ) (f : SFits w z) where
   shifted : (x : ℤ) → SFits w x → shr_z x (2 ^ k) ≡ cut z k → (y : ℤ) → y ≡ to_z w (of_z w x) → to_z w (of_z w (shr_z y (2 ^ k))) ≡ cut z k
   shifted x g e y d =

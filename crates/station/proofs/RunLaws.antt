@@ -23,7 +23,7 @@ use Rattle.block.proofs.BlockCount.{count_all}
 use Rattle.block.proofs.BlockSound.{fit_after, next_memory_sound}
 use Rattle.block.proofs.BlockMemory.{ψ_fits_is, next_memory_is, block_long, block_all}
 use Rattle.state.specs.Refusal.{number_of, answer_with}
-use Rattle.state.specs.State.{settings, memory, samples, symbols, filler, padded, state_of}
+use Rattle.state.specs.State.{settings, memory, taps, samples, filler, padded, state_of}
 use Rattle.state.specs.declared.equaliser.Equaliser.{Equaliser}
 use Rattle.state.specs.declared.refusal.Refusal.{Refusal}
 use Rattle.state.proofs.RefusalLaws.{number_least}
@@ -61,16 +61,30 @@ new_last l z n e h =
 
 -- ---- the parts of a state that passed the checks
 
+-- its lists are as long as they ask
+module _ (e : Equaliser) (i : Block) (h : Checked e i) where
+  pub weights_room : taps e ≤ length e.weights
+  weights_room = part_room e.p e.q e.weights h.sound.within.q_least h.sound.back_long
+
+  pub past_room : taps e ≤ length e.past
+  past_room = part_room e.p e.q e.past h.sound.within.q_least h.sound.symbols_long
+
+  pub weights_first : e.p ≤ length e.weights
+  weights_first = omega (arith, weights_room)
+
+  pub past_first : e.p ≤ length e.past
+  past_first = omega (arith, past_room)
+
 module _ {e : Equaliser} {i : Block} (h : Checked e i) where
   past_long : length (take e.p e.past) ≡ e.p
-  past_long = length-take-le e.p e.past (omega (arith, part_room e.p e.q e.past h.sound.within.q_least h.sound.symbols_long))
+  past_long = length-take-le e.p e.past (past_first e i h)
 
   -- the window: the samples and the filler
   window_is : take e.p e.past ≡ samples e ++ (pos 0 ∷ [])
   window_is =
       let one : e.p ≡ suc (e.p - 1) = omega (arith, h.sound.within.p_least) in
       ap (λ (n : ℕ). take n e.past) one
-      ∙ take-suc e.past (e.p - 1) (pos 0) (omega (arith, part_room e.p e.q e.past h.sound.within.q_least h.sound.symbols_long, h.sound.within.p_least))
+      ∙ take-suc e.past (e.p - 1) (pos 0) (omega (arith, past_room e i h, h.sound.within.p_least))
       ∙ ap (λ (z : ℤ). samples e ++ (z ∷ [])) (abs_zero (filler e) (eqb-true _ 0 (past_tests e (sound_tests e h.sound_state).2).1))
 
 -- ---- a block is run on these parts
@@ -127,8 +141,8 @@ module _ {e : Equaliser} {i : Block} {k : Settings} {p q ψ b B : ℕ} {ahead be
       symbols_long = fit.symbols_long
 
       -- its weights have room in a state
-      pub weights_room : length ahead' + length behind' ≤ slots
-      weights_room = omega (arith, fit.forward_long, fit.back_long, c.sound.within.p_most, c.sound.within.q_most)
+      pub joined_room : length ahead' + length behind' ≤ slots
+      joined_room = omega (arith, fit.forward_long, fit.back_long, c.sound.within.p_most, c.sound.within.q_most)
 
       -- its numbers fit their bytes
       pub result_bytes : ResultBytes r

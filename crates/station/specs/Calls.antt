@@ -1,12 +1,11 @@
 -- What the functions below the run of a block ask and promise.
-use Rattle.std.specs.Prelude.{◌≡◌, Bool, cond, List, [], ◌∷◌, ◌++◌, ◌<◌, ℤ, pos}
+use Rattle.std.specs.Prelude.{◌≡◌, Bool, cond, List, ◌<◌, ℤ}
 use Rattle.block.specs.Block.{Block, Outputs, ψFits, next_memory, block_outputs}
-use Rattle.block.specs.Calls.{count, outputs_up_to, OutputsLong}
+use Rattle.block.specs.Calls.{count, outputs_up_to}
 use Rattle.block.specs.declared.run.BlockResult.{BlockResult}
-use Rattle.state.specs.State.{settings, memory, forward, back, samples, symbols, state_of}
+use Rattle.state.specs.State.{settings, memory, state_of}
 use Rattle.state.specs.declared.equaliser.Equaliser.{Equaliser}
 use Rattle.state.specs.declared.equaliser.Answer.{Answer}
-use Rattle.checks.specs.Calls.{Checked}
 
 -- the numbers of a result fit their bytes
 pub record ResultBytes (r : BlockResult) : Type 0 where

@@ -1,8 +1,8 @@
 -- Laws of what a weight gains: T(J·2^(data_unit − t)·a / 2^update_shift) from |J|, from |a| and from the signs.
-use Rattle.std.proofs.Common.{◌≡◌, refl, sym, ap, ◌∙◌, true, false, ℕ, ◌+◌, ◌*◌, ◌-◌, ◌/◌, ◌^◌, ◌≤◌, ◌<◌, arith, div-lt_iff_lt-mul, mul-le-mul_right, pow_pos, ℤ, pos, nat_abs, ◌+ℤ◌, ◌-ℤ◌, ◌*ℤ◌, w16, SFits}
+use Rattle.std.proofs.Common.{◌≡◌, refl, sym, ap, ◌∙◌, true, false, ℕ, ◌+◌, ◌*◌, ◌-◌, ◌/◌, ◌^◌, ◌≤◌, ◌<◌, arith, div-lt_iff_lt-mul, mul-le-mul, mul-le-mul_right, pow_pos, ℤ, pos, nat_abs, ◌+ℤ◌, ◌-ℤ◌, ◌*ℤ◌, w16, SFits}
 use Rattle.laws.specs.Integers.{abs_add, abs_mul}
 use Rattle.laws.specs.Machine.{fits_abs}
-use Rattle.laws.specs.Powers.{split}
+use Rattle.laws.specs.Powers.{split, rises}
 use Rattle.numbers.specs.Cut.{cut, raise}
 use Rattle.numbers.proofs.CutLaws.{cut_lt, raise_abs, cut_raised, unlike, cut_alike, cut_unlike}
 use Rattle.steps.specs.Limits.{weight_unit, data_unit, output_unit, update_shift}
@@ -10,6 +10,10 @@ use Rattle.steps.specs.Fir.{Small, adapted}
 
 pub increment_small : (n t : ℕ) → n < 2 ^ (output_unit - 1 + t) → n / 2 ^ (update_shift - data_unit + t) < 2 ^ (weight_unit - 1)
 increment_small n t b = (div-lt_iff_lt-mul {k = 2 ^ (update_shift - data_unit + t)} {x = n} {y = 2 ^ (weight_unit - 1)} (pow_pos (update_shift - data_unit + t))).1 (omega (arith, b, split (output_unit - 1 + t) (weight_unit - 1) (update_shift - data_unit + t) (omega arith)))
+
+-- what the factor raised asks
+pub raise_room : (J : ℤ) (t : ℕ) → nat_abs J ≤ 2 ^ (output_unit - 1) → nat_abs J * 2 ^ (data_unit - t) < 2 ^ 63
+raise_room J t h = omega (arith, mul-le-mul h (rises {a = data_unit - t} {b = data_unit} (omega arith)))
 
 pub raised_room : (J a : ℤ) (t : ℕ) → t ≤ data_unit → nat_abs J * nat_abs a < 2 ^ (output_unit - 1 + t) → nat_abs (raise J (data_unit - t)) * nat_abs a < 2 ^ (output_unit - 1 + data_unit)
 raised_room J a t l b =

@@ -6,7 +6,7 @@ use native.Mathlib.Omega.{arith}
 use native.Mathlib.Nat.{zero-add, suc-add, mod-eq_of_lt}
 use native.Mathlib.Numerals.{add-one}
 use lib.ListN.{length, get_or, take, drop, length-append, length-drop, take-append-drop}
-use lib.Seq.{length-take-le, take-suc, drop_at, drop-cons, get_or-drop}
+use lib.Seq.{length-take-le, take-suc, drop_at, drop-cons, get_or-take, get_or-drop}
 use lib.IntN.{ℤ, pos}
 use mir.Syntax.{Width, w8, w16, w32, w64, w128}
 use mir.Val.{SFits, bits, of_z, to_z}
@@ -65,6 +65,10 @@ number_drop zero j l i = refl
 number_drop (suc k) j l i =
     let e : j + (i + 1) ≡ j + i + 1 = omega arith in
     ap₂ (λ (a n : ℕ). a + 256 * n) (get_or-drop j l i 0) (number_drop k j l (i + 1) ∙ ap (number_at k l) e)
+
+pub number_take : (k m : ℕ) (l : List ℕ) (i : ℕ) → i + k ≤ m → number_at k (take m l) i ≡ number_at k l i
+number_take zero m l i h = refl
+number_take (suc k) m l i h = ap₂ (λ (a n : ℕ). a + 256 * n) (get_or-take m l i 0 (omega arith)) (number_take k m l (i + 1) (omega arith))
 
 -- of the bytes of a number
 pub number_front : (k n : ℕ) (l : List ℕ) → n < 256 ^ k → number_at k (bytes k n ++ l) 0 ≡ n

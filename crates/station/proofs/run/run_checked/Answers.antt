@@ -4,7 +4,7 @@ use native.Mathlib.Omega.{arith}
 use lib.IntN.{ℤ}
 use lib.ListN.{length, length-set}
 use borrow.Author.Rules.{rules}
-use Rattle.station.proofs.RunLaws.{runnable, stopped, samples_long, symbols_long, weights_room, result_bytes, finished}
+use Rattle.station.proofs.RunLaws.{runnable, stopped, samples_long, symbols_long, joined_room, result_bytes, finished}
 use Rattle.station.proofs.run.run_checked.Goals as goal
 
 pub run-r-requires : goal.run-r-requires
@@ -19,7 +19,7 @@ slice_set_of-samples c =
     omega (arith, c.requires.0.sound.within.p_least)
 
 pub joined-weights-requires : goal.joined-weights-requires
-joined-weights-requires c = search (rules, weights_room)
+joined-weights-requires c = search (rules, joined_room)
 
 pub joined-past-requires : goal.joined-past-requires
 joined-past-requires c =
