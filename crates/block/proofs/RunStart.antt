@@ -20,7 +20,7 @@ use Rattle.block.specs.Calls.{block_length, Startable, BlockExponentsIs, Exponen
 use Rattle.filter.specs.declared.sample.BlockExponents.{BlockExponents}
 use Rattle.filter.proofs.SampleFirs.{scale_most}
 use Rattle.block.proofs.ReceivedLaws.{received_largest_bits}
-use Rattle.block.proofs.BlockStored.{store_bounds, old_storable}
+use Rattle.block.proofs.BlockStored.{receivable, store_bounds, old_storable}
 use Rattle.block.proofs.BlockWindow.{after_next}
 use Rattle.block.proofs.LineLaws.{started_length, started_old, added_length, added_old, added_at, newest_next}
 
@@ -30,20 +30,31 @@ module _ {k : Settings} {o : Memory} {i : Block} {window₀ : List ℤ} {l : Out
       ap length run.window_is ∙ length-append o.samples (pos 0 ∷ [])
       ∙ omega (arith, run.sound.samples_long, run.sound.within.p_least)
 
+  pub startable : Startable k o.b i.samples i.gains
+  startable = record {
+    within = run.sound.within;
+    was_most = omega (arith, run.sound.b_most, run.sound.B_most);
+    receivable = receivable k o i run.acceptable;
+  }
+
   symbols_most : length o.symbols ≤ tap_limit
   symbols_most = omega (arith, run.sound.symbols_long, run.sound.within.q_most)
 
 -- a line before anything stands in it
-abbrev zeros : List ℤ
+abbrev pub zeros : List ℤ
 zeros = replicate line_length (pos 0)
 
 -- ---- the exponents
 
+pub length_most : {seen b : ℕ} → b ≡ bit_length seen → seen < 2 ^ 64 → b ≤ 64
+length_most {seen} e l = omega (arith, e, bit_length_le seen 64 l)
+
+-- of any B up to 64, or up to the previous block's b
+pub exponent_most : {k : Settings} {was : ℕ} {m : List ℤ} {gains : List ℕ} → Startable k was m gains → (bmax : ℕ) → bmax ≤ max 64 was → k.r + bmax + scale_forward k < 2 ^ 32
+exponent_most {k} h bmax x = omega (arith, x, scale_most k.p h.within.p_most, h.was_most, h.within.r_most)
+
 module _ {k : Settings} {was : ℕ} {m : List ℤ} {gains : List ℕ} (h : Startable k was m gains)
     {seen b bmax : ℕ} (n : seen ≡ or_all (magnitudes (received_all m gains))) (e : b ≡ bit_length seen) (x : bmax ≡ max b was) where
-  pub exponent_most : seen < 2 ^ 64 → k.r + bmax + scale_forward k < 2 ^ 32
-  exponent_most l = omega (arith, bit_length_le seen 64 (omega arith), scale_most k.p h.within.p_most, h.was_most, h.within.r_most)
-
   pub exponents_are : {s sb r : ℕ} → s ≡ scale_forward k → sb ≡ scale_back k → r ≡ k.r → BlockExponentsIs k was m gains (record { s = s; sb = sb; b = b; bmax = bmax; gamma30 = r + bmax + s })
   exponents_are es eb er = record { s = es; sb = eb; b = length_is; bmax = larger; exponent = rw (es, er, larger) }
     where
@@ -57,10 +68,7 @@ pub exponents_of : {k : Settings} {o : Memory} {i : Block} {e : BlockExponents} 
 unfolding Γ new_b newb
 exponents_of p = record { s_is = p.s; sb_is = p.sb; b_is = p.b; bmax_is = p.bmax; Γ_is = p.exponent }
 
-module _ {k : Settings} {o : Memory} {i : Block} {e : BlockExponents} {window₀ : List ℤ} {l : Outputs} (run : Runnable k o i window₀ l) (x : BlockExponentsIs k o.b i.samples i.gains e) where
-  b : ExponentsOf k o i e
-  b = exponents_of x
-
+module _ {k : Settings} {o : Memory} {i : Block} {e : BlockExponents} {window₀ : List ℤ} {l : Outputs} (b : ExponentsOf k o i e) (run : Runnable k o i window₀ l) where
   -- the window that was lent may be rescaled
   pub window_storable : Each (Storable o.B e.bmax) window₀
   window_storable =
@@ -90,19 +98,20 @@ module _ {k : Settings} {o : Memory} {i : Block} {e : BlockExponents} {window₀
     window_most = omega (arith, window_long, run.sound.within.p_most)
 
     -- the samples may be stored
-    pub fill_bounds : {area : List ℤ} → length area ≡ length i.samples → FillBounds i.samples i.gains (e.bmax + e.s) window area zeros
-    fill_bounds a = record {
+    pub fill_bounds : {area line : List ℤ} → length area ≡ length i.samples → length line ≡ line_length → FillBounds i.samples i.gains (e.bmax + e.s) window area line
+    fill_bounds a h = record {
       bounds = rw (b.bmax_is, b.s_is) (store_bounds k o i run.sound run.acceptable);
       samples_most = omega (arith, run.acceptable.samples_long, run.sound.within.N_most);
       stored_long = a;
       old_most = window_most;
-      line_long = refl;
+      line_long = h;
     }
 
     -- then they stand in the line
-    module _ {line : List ℤ} (is : line ≡ filled (e.bmax + e.s) i.samples i.gains window zeros) where
-      started_long : length (started window zeros) ≡ line_length
-      started_long = started_length window zeros refl window_most
+    module _ (line₀ : List ℤ) {line : List ℤ} (h : length line₀ ≡ line_length)
+        (is : line ≡ filled (e.bmax + e.s) i.samples i.gains window line₀) where
+      started_long : length (started window line₀) ≡ line_length
+      started_long = started_length window line₀ h window_most
 
       line_long : length line ≡ line_length
       line_long = ap length is ∙ added_length _ _ _ ∙ started_long
@@ -116,7 +125,7 @@ module _ {k : Settings} {o : Memory} {i : Block} {e : BlockExponents} {window₀
 
       windows : (n : ℕ) → n ≤ k.N → newest k.p n line ≡ (after k o i n).samples
       windows zero m =
-          ap₂ (λ (n : ℕ) (t : List ℤ). take n t) (sym window_long) (ap (drop block_limit) is ∙ added_old _ _ (started window zeros)) ∙ started_old window zeros refl ∙ window_rescaled
+          ap₂ (λ (n : ℕ) (t : List ℤ). take n t) (sym window_long) (ap (drop block_limit) is ∙ added_old _ _ (started window line₀)) ∙ started_old window line₀ h ∙ window_rescaled
       windows (suc n) m =
           newest_next k.p n line line_long (omega (arith, run.sound.within.N_most)) run.sound.within.p_most
           ∙ ap₂ (λ (x : ℤ) (w : List ℤ). push x w) (stored_in n m) (windows n (omega arith)) ∙ sym (after_next k o i n)
@@ -125,18 +134,19 @@ module _ {k : Settings} {o : Memory} {i : Block} {e : BlockExponents} {window₀
       sample_line = record { long = line_long; windows = windows }
 
       -- and the symbols in theirs
-      pub begun_on : {symbols : List ℤ} → symbols ≡ started o.symbols zeros → BegunOn k o i e o.ψ i.entries o.forward o.back line symbols l
+      pub begun_on : (symbols₀ : List ℤ) {symbols : List ℤ} → length symbols₀ ≡ line_length → symbols ≡ started o.symbols symbols₀ →
+          BegunOn k o i e o.ψ i.entries o.forward o.back line symbols l
       unfolding after start
-      begun_on {symbols = symbols} s = record {
+      begun_on symbols₀ {symbols = symbols} f s = record {
         sound = run.sound;
         acceptable = run.acceptable;
         outputs_long = run.outputs_long;
         exponents = b;
         entries_are = refl;
         sample_line = sample_line;
-        symbols_long = ap length s ∙ started_length o.symbols zeros refl (symbols_most run);
+        symbols_long = ap length s ∙ started_length o.symbols symbols₀ f (symbols_most run);
         filter_state_is = rw (windows 0 (omega arith), past);
       }
         where
           past : newest k.q 0 symbols ≡ o.symbols
-          past = ap₂ (λ (n : ℕ) (t : List ℤ). take n (drop block_limit t)) (sym run.sound.symbols_long) s ∙ started_old o.symbols zeros refl
+          past = ap₂ (λ (n : ℕ) (t : List ℤ). take n (drop block_limit t)) (sym run.sound.symbols_long) s ∙ started_old o.symbols symbols₀ f

@@ -1,5 +1,5 @@
 -- The checks before a block is run: their number, and what holds where it is 0.
-use mathlib.Core.Path.{◌≡◌, refl, sym, ap, subst}
+use mathlib.Core.Path.{◌≡◌, refl, sym, ap, ◌∙◌, subst}
 use mathlib.Core.Bool.{Bool, true, false, cond}
 use mathlib.Core.List.{List, [], ◌∷◌}
 use Prim.Native.Nat.{ℕ, ◌+◌, ◌<◌, ◌≤◌}
@@ -11,7 +11,7 @@ use lib.ListN.{length, get_or, take}
 use lib.Seq.{take-suc, take_all}
 use mir.Syntax.{w16}
 use mir.Val.{SFits}
-use borrow.Author.Tests.{leb-true, eqb-true, eqb-false}
+use borrow.Author.Tests.{leb-true, eqb-true, eqb-false, ne_eqb}
 use Rattle.laws.specs.Lists.{and_left, and_right, all}
 use Rattle.laws.specs.Tests.{each_tested}
 use Rattle.laws.specs.Machine.{abs_fits}
@@ -29,9 +29,27 @@ use Rattle.state.proofs.SoundLaws.{examined_tests, accepted_sound}
 
 -- ---- the number, check by check
 
-pub checks_pass : (e : Equaliser) (l : Buffers) → examined e ≡ 0 → lengths_fit e.n l ≡ true → all (gain_fits e.l) l.block.gains ≡ true → all (is_entry e.r) l.block.entries ≡ true → 0 ≡ check_number e l
-unfolding check_number
-checks_pass e l sound h g f = simp (sound, h, g, f)
+module _ (e : Equaliser) (l : Buffers) where
+  pub state_fails : (n : ℕ) → n ≡ examined e → (n ≡ 0 → ⊥) → n ≡ check_number e l
+  unfolding check_number
+  state_fails n h f = simp (ne_eqb (examined e) 0 (λ z. f (h ∙ z))) h
+
+  module _ (sound : examined e ≡ 0) where
+    pub lengths_fail : lengths_fit e.n l ≡ false → 3 ≡ check_number e l
+    unfolding check_number
+    lengths_fail h = simp (sound, h)
+
+    pub gains_fail : lengths_fit e.n l ≡ true → all (gain_fits e.l) l.block.gains ≡ false → 4 ≡ check_number e l
+    unfolding check_number
+    gains_fail h g = simp (sound, h, g)
+
+    pub entries_fail : lengths_fit e.n l ≡ true → all (gain_fits e.l) l.block.gains ≡ true → all (is_entry e.r) l.block.entries ≡ false → 5 ≡ check_number e l
+    unfolding check_number
+    entries_fail h g f = simp (sound, h, g, f)
+
+    pub checks_pass : lengths_fit e.n l ≡ true → all (gain_fits e.l) l.block.gains ≡ true → all (is_entry e.r) l.block.entries ≡ true → 0 ≡ check_number e l
+    unfolding check_number
+    checks_pass h g f = simp (sound, h, g, f)
 
 -- of an accepted state: 0, 3, 4 or 5
 pub check_number_lem : (e : Equaliser) (l : Buffers) (P : ℕ → Type 0) → examined e ≡ 0 → P 0 → P 3 → P 4 → P 5 → P (check_number e l)
@@ -52,6 +70,9 @@ check_same e e' l l' k x f g v = rw (x, ap (λ (c : Settings). c.N) k, ap (λ (c
 
 pub symbols_most : (e : Equaliser) → 0 ≡ examined e → e.r ≤ symbol_limit
 symbols_most e h = (fit_within (settings e) (examined_tests e (sym h)).0).r_most
+
+-- one check after the other
+pub ruleset checks = (state_fails, lengths_fail, gains_fail, entries_fail, checks_pass, symbols_most)
 
 -- ---- the samples that are read
 

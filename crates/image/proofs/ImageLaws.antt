@@ -6,6 +6,7 @@ use Prim.Native.Nat.{ℕ, ◌+◌, ◌*◌, ◌-◌, ◌≤◌, ◌<◌}
 use native.Mathlib.Omega.{arith}
 use lib.Dec.{leb, eqb}
 use lib.ListN.{length, take, drop, length-append, length-drop, drop_of_length-le}
+use lib.Seq.{sets, length-sets}
 use borrow.Author.Tests.{le-leb, lt-leb, eq-eqb, eqb-true}
 use borrow.Rule.Slice.PartMut.{put_mid}
 use Rattle.laws.specs.Lent.{next_part}
@@ -31,6 +32,10 @@ use Rattle.state.proofs.SoundLaws.{examined_tests}
 
 pub header_length : (e : Equaliser) → length (header_bytes e) ≡ current.header
 header_length e = omega (arith, bytes_length 4 e.m)
+
+-- room for M behind its first eight bytes
+pub header_long : (e : Equaliser) (out : List ℕ) → length out ≡ current.header → 8 + 4 ≤ length (sets out 0 (take 8 (header_bytes e)))
+header_long e out h = omega (arith, length-sets out 0 (take 8 (header_bytes e)))
 
 -- its first eight bytes and those of M, each in its part
 pub header_put : (e : Equaliser) (out x y : List ℕ) → length out ≡ current.header → x ≡ take 8 (header_bytes e) → y ≡ bytes 4 e.m →
@@ -93,7 +98,7 @@ module _ (e : Equaliser) (before : List ℕ) where
       go false = short
 
   refused : (x : Refusal) → number_of x ≡ save_number e before → Save e before (saved_of (Err x)) before
-  refused x h = record { number = h; saved_length = refusal_stands x (image_length e) 0 h; contents = refusal_stands x (image e ++ drop (image_length e) before) before h }
+  refused x h = record { number = h; saved_length = refusal_stands x _ 0 h; contents = refusal_stands x _ before h }
 
   pub save_refused : (x : Refusal) → number_of x ≡ examined e → Save e before (saved_of (Err x)) before
   unfolding save_number
