@@ -1,9 +1,12 @@
 #![tactic(auto)]
 
 // The equaliser for firmware in C.
+ghost use Rattle.std.specs.Prelude.{◌≡◌};
 ghost use Rattle.steps.specs.Settings.{given};
 ghost use Rattle.checks.specs.Checks.{buffers_of};
 ghost use Rattle.state.specs.Answers.{SetUp};
+ghost use Rattle.state.specs.Refusal.{answer_with};
+ghost use Rattle.state.specs.State.{refused};
 ghost use Rattle.block.specs.Block.{outputs_of};
 ghost use Rattle.image.specs.Load.{Load};
 ghost use Rattle.firmware.specs.Held.{InPlace, Trial, Saving};
@@ -11,22 +14,35 @@ ghost use Rattle.firmware.specs.Held.{InPlace, Trial, Saving};
 use block::lists::{Block, Outputs};
 use image::save::Saved;
 use state::equaliser::{Answer, Equaliser, refused};
+use state::refusal::Refusal;
 use steps::settings::Settings;
+
+// The state that was made, or the number of the refusal beside the smallest one.
+fn answer(made: Result<Equaliser, Refusal>) -> Answer
+    ensures { result ≡ answer_with refused made }
+{
+    match made {
+        Ok(state) => Answer { number: 0, state },
+        Err(refusal) => Answer {
+            number: u8::from(refusal),
+            state: refused(),
+        },
+    }
+}
 
 // A fresh state, or the number of the refusal beside the smallest one.
 #[unsafe(no_mangle)]
 pub extern "C" fn tigbulode_set_up(p: u8, q: u8, n: u8, r: u8, l: u8, m: u32) -> Answer
     ensures { SetUp (given p q n r l m) result }
 {
-    let made = Equaliser::set_up(Settings {
+    answer(Equaliser::set_up(Settings {
         p,
         q,
         N: n,
         r,
         L: l,
         M: m,
-    });
-    Answer::with(refused(), made)
+    }))
 }
 
 // The image at the front of a lent buffer, or the number of the refusal and the buffer as it was. The record is only read.
@@ -42,7 +58,7 @@ pub extern "C" fn tigbulode_save(s: &Equaliser, buffer: &mut [u8]) -> Saved
 pub extern "C" fn tigbulode_load(bytes: &[u8]) -> Answer
     ensures { Load bytes.now result }
 {
-    Answer::with(refused(), image::load::load(bytes))
+    answer(image::load::load(bytes))
 }
 
 // One block in place: the next state and the block's outputs, or the number of the refusal and everything as it was.
