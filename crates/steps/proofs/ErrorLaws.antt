@@ -16,7 +16,7 @@ use Rattle.steps.specs.Error.{error, error_exponent}
 use Rattle.steps.specs.Sound.{ErrorBounds, DifferenceBounds}
 use Rattle.steps.proofs.OutputLaws.{error_exponent_form}
 
-exponent_kept : (ξ κ : ℕ) → κ ≤ ξ → error_exponent ξ κ ≡ ξ
+pub exponent_kept : (ξ κ : ℕ) → κ ≤ ξ → error_exponent ξ κ ≡ ξ
 unfolding error_exponent
 exponent_kept ξ κ h = simp (le-ltb ξ κ h)
 

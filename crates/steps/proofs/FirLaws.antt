@@ -5,7 +5,7 @@ use Prim.Native.Nat.{ℕ, zero, suc, ◌+◌, ◌*◌, ◌-◌, ◌^◌, ◌≤�
 use native.Mathlib.Omega.{arith}
 use native.Mathlib.Nat.{le_of_lt, le_of_suc-le-suc, not-suc-le-zero, lt_of_le_of_lt, lt_of_lt_of_le, mul-le-mul_left, mul-le-mul_right, min-le_right}
 use lib.Bits.{bit_or}
-use lib.ListN.{length, get_or, take, set, length-take, get_or-map}
+use lib.ListN.{length, get_or, take, set, length-take, length-map, get_or-map}
 use lib.Seq.{length-take-le, get_or-take}
 use lib.IntN.{ℤ, pos, nat_abs, ◌+ℤ◌, ◌*ℤ◌, zero-*ℤ, +ℤ_idr}
 use mir.Syntax.{w16, w64}
@@ -28,6 +28,15 @@ use Rattle.steps.proofs.LargestLaws.{magnitude_at, each_magnitude, largest_bits_
 
 pub fits_64 : {z : ℤ} → SFits w16 z → SFits w64 z
 fits_64 f = sfits_widen tt f
+
+-- ---- a list that a loop maps in place
+
+module _ (f : ℤ → ℤ) {old now : List ℤ} {i : ℕ} (w : Written (map f old) old i now) where
+  pub mapped_next : (x : ℤ) → i < length old → x ≡ f (get_or old i (pos 0)) → Written (map f old) old (i + 1) (set now i x)
+  mapped_next x h e = written_next w (f (pos 0)) x (rw length-map h) h (e ∙ sym (get_or-map f old i (pos 0)))
+
+  pub mapped_all : length old ≤ i → now ≡ map f old
+  mapped_all h = written_all w (length-map old f) h
 
 -- ---- the sum of the first products
 
@@ -63,24 +72,39 @@ adapt_at k (w ∷ ws) (a ∷ b) zero h g = refl
 adapt_at k (w ∷ ws) (a ∷ b) (suc i) h g = adapt_at k ws b i (le_of_suc-le-suc h) (le_of_suc-le-suc g)
 
 -- the first i weights are the new ones, the others are still the old ones, and the bits seen are those of the new ones together
-pub record Adapting (K : ℤ) (old a : List ℤ) (i : ℕ) (now : List ℤ) (seen : ℕ) : Type 0 where
-  pub written : Written (adapt K old a) old i now
-  pub bits : Seen (adapt K old a) i seen
+pub record Changing (new old : List ℤ) (i : ℕ) (now : List ℤ) (seen : ℕ) : Type 0 where
+  pub written : Written new old i now
+  pub bits : Seen new i seen
+
+pub changing_none : (new old : List ℤ) → Changing new old 0 old 0
+changing_none new old = record { written = written_none new old; bits = seen_none new }
+
+module _ {new old now : List ℤ} {i seen : ℕ} (c : Changing new old i now seen) where
+  pub changing_next : (x : ℤ) (n : ℕ) → length new ≡ length old → i < length old → x ≡ get_or new i (pos 0) → n ≡ nat_abs x → Changing new old (i + 1) (set now i x) (bit_or seen n)
+  changing_next x n l h e s = record {
+    written = written_next c.written (pos 0) x (omega arith) h e;
+    bits = seen_next new i seen n c.bits (s ∙ ap nat_abs e);
+  }
+
+  pub changing_all : length new ≡ length old → length old ≤ i → (now ≡ new) × (seen ≡ or_all (magnitudes now))
+  changing_all l h =
+      let e = written_all c.written l h in
+      (e, seen_all new i seen c.bits (omega arith) ∙ ap (λ (w : List ℤ). or_all (magnitudes w)) (sym e))
+
+-- the same of the weights that adapt makes
+abbrev pub Adapting : ℤ → List ℤ → List ℤ → ℕ → List ℤ → ℕ → Type 0
+Adapting K old a i now seen = Changing (adapt K old a) old i now seen
 
 pub adapting_none : (K : ℤ) (old a : List ℤ) → Adapting K old a 0 old 0
-adapting_none K old a = record { written = written_none (adapt K old a) old; bits = seen_none (adapt K old a) }
+adapting_none K old a = changing_none (adapt K old a) old
 
-module _ {K : ℤ} {i seen : ℕ} {old now a : List ℤ} (c : Adapting K old a i now seen) where
+module _ (K : ℤ) (a : List ℤ) {old now : List ℤ} {i seen : ℕ} (c : Adapting K old a i now seen) where
   -- one weight more
   pub adapting_next : (x : ℤ) (n : ℕ) → i < length old → i < length a → x ≡ adapted K (get_or old i (pos 0)) (get_or a i (pos 0)) → n ≡ nat_abs x → Adapting K old a (i + 1) (set now i x) (bit_or seen n)
-  adapting_next x n h k e f =
-      let is = e ∙ sym (adapt_at K old a i h k) in
-      record { written = written_next c.written (pos 0) x (omega (arith, adapt_length K old a)) h is; bits = seen_next (adapt K old a) i seen n c.bits (f ∙ ap nat_abs is) }
+  adapting_next x n h k e f = changing_next c x n (adapt_length K old a) h (e ∙ sym (adapt_at K old a i h k)) f
 
   pub adapting_all : length old ≤ i → (now ≡ adapt K old a) × (seen ≡ or_all (magnitudes now))
-  adapting_all h =
-      let e = written_all c.written (adapt_length K old a) h in
-      (e, seen_all (adapt K old a) i seen c.bits (omega (arith, adapt_length K old a)) ∙ ap (λ (w : List ℤ). or_all (magnitudes w)) (sym e))
+  adapting_all h = changing_all c (adapt_length K old a) h
 
 -- new weights are below 2^weight_unit where the data are at most m
 pub adapt_each : (K : ℤ) (m : ℕ) → nat_abs K * m < 2 ^ (output_unit - 1 + data_unit) → (w a : List ℤ) → Each Small w → Each (λ (x : ℤ). nat_abs x ≤ m) a →

@@ -1,5 +1,5 @@
 -- Laws of what a weight gains: T(J·2^(data_unit − t)·a / 2^update_shift) from |J|, from |a| and from the signs.
-use Rattle.std.proofs.Common.{◌≡◌, refl, sym, ap, ◌∙◌, true, false, ℕ, ◌+◌, ◌*◌, ◌-◌, ◌/◌, ◌^◌, ◌≤◌, ◌<◌, arith, div-lt_iff_lt-mul, mul-le-mul, mul-le-mul_right, pow_pos, ℤ, pos, nat_abs, ◌+ℤ◌, ◌-ℤ◌, ◌*ℤ◌, w16, SFits}
+use Rattle.std.proofs.Common.{◌≡◌, refl, sym, ap, ◌∙◌, true, false, ℕ, ◌+◌, ◌*◌, ◌-◌, ◌/◌, ◌^◌, ◌≤◌, ◌<◌, arith, div-lt_iff_lt-mul, mul-le-mul, mul-le-mul_right, pow_pos, ℤ, pos, neg_ℤ, nat_abs, ◌+ℤ◌, ◌-ℤ◌, ◌*ℤ◌, w16, SFits}
 use Rattle.laws.specs.Integers.{abs_add, abs_mul}
 use Rattle.laws.specs.Machine.{fits_abs}
 use Rattle.laws.specs.Powers.{split, rises}
@@ -27,19 +27,22 @@ raised_room J a t l b =
 
 -- ---- the new weight
 
+pub alike_increment : (J a : ℤ) (t : ℕ) → t ≤ data_unit → unlike J a ≡ false → pos (nat_abs J * nat_abs a / 2 ^ (update_shift - data_unit + t)) ≡ cut (raise J (data_unit - t) *ℤ a) update_shift
+alike_increment J a t l e = cut_alike J a (update_shift - data_unit + t) e ∙ sym (cut_raised J a (data_unit - t) update_shift (update_shift - data_unit + t) (omega arith))
+
+pub unlike_increment : (J a : ℤ) (t : ℕ) → t ≤ data_unit → unlike J a ≡ true → neg_ℤ (pos (nat_abs J * nat_abs a / 2 ^ (update_shift - data_unit + t))) ≡ cut (raise J (data_unit - t) *ℤ a) update_shift
+unlike_increment J a t l e = cut_unlike J a (update_shift - data_unit + t) e ∙ sym (cut_raised J a (data_unit - t) update_shift (update_shift - data_unit + t) (omega arith))
+
 -- by magnitudes, where both or none of J and a is negative, and where one of them is
 module _ (J w a : ℤ) (t : ℕ) (l : t ≤ data_unit) where
   abbrev by_size : ℤ
   by_size = pos (nat_abs J * nat_abs a / 2 ^ (update_shift - data_unit + t))
 
-  turned : cut (J *ℤ a) (update_shift - data_unit + t) ≡ cut (raise J (data_unit - t) *ℤ a) update_shift
-  turned = sym (cut_raised J a (data_unit - t) update_shift (update_shift - data_unit + t) (omega arith))
-
   pub alike_adapted : unlike J a ≡ false → w +ℤ by_size ≡ adapted (raise J (data_unit - t)) w a
-  alike_adapted e = ap (λ (x : ℤ). w +ℤ x) (cut_alike J a (update_shift - data_unit + t) e ∙ turned)
+  alike_adapted e = ap (λ (x : ℤ). w +ℤ x) (alike_increment J a t l e)
 
   pub unlike_adapted : unlike J a ≡ true → w -ℤ by_size ≡ adapted (raise J (data_unit - t)) w a
-  unlike_adapted e = ap (λ (x : ℤ). w +ℤ x) (cut_unlike J a (update_shift - data_unit + t) e ∙ turned)
+  unlike_adapted e = ap (λ (x : ℤ). w +ℤ x) (unlike_increment J a t l e)
 
 -- a weight and what it gains, each below half of 2^weight_unit
 pub adapted_fits : (K w a : ℤ) → Small w → nat_abs K * nat_abs a < 2 ^ (output_unit - 1 + data_unit) → nat_abs (adapted K w a) < 2 ^ weight_unit

@@ -4,6 +4,7 @@ use mathlib.Core.Bool.{true, false, ◌&&◌}
 use mathlib.Core.List.{List}
 use Prim.Native.Nat.{ℕ, ◌+◌, ◌*◌, ◌≤◌, ◌<◌}
 use native.Mathlib.Omega.{arith}
+use native.Mathlib.Nat.{mul-le-mul_right}
 use lib.Dec.{leb, eqb}
 use lib.ListN.{length}
 use borrow.Author.Tests.{le-leb, lt-leb, leb-true, eqb-true}
@@ -39,3 +40,10 @@ module _ (t : List ℕ) where
 
     pub well_long : length t ≡ trace_header_length + 4 * samples_in t
     well_long = eqb-true (length t) _ (and_right (leb trace_header_length (length t) && leb (length t) trace_limit) _ lengths)
+
+-- the samples of a header are few
+pub few : (b c : ℕ) → b < 256 → c < 65536 → b * c ≤ 255 * 65535
+few b c h k = omega (arith, mul-le-mul_right c le)
+  where
+    le : b ≤ 255
+    le = omega arith

@@ -1,12 +1,12 @@
 -- What is written is read back.
 use mathlib.Core.Path.{◌≡◌, refl, sym, ap, ap₂, ◌∙◌}
 use mathlib.Core.Bool.{true}
-use mathlib.Core.List.{List, [], ◌∷◌, ◌++◌, append_assoc}
+use mathlib.Core.List.{List, [], ◌∷◌, ◌++◌, append_assoc, append-nil}
 use Prim.Native.Nat.{ℕ, suc, ◌+◌, ◌*◌, ◌^◌, ◌≤◌, ◌<◌}
 use native.Mathlib.Omega.{arith}
 use lib.Dec.{eqb}
-use lib.ListN.{length, get_or, length-append, get_or-append}
-use lib.Seq.{get_or-append-add}
+use lib.ListN.{length, get_or, take, length-append, drop_of_length-le, get_or-append}
+use lib.Seq.{sets, sets-eq, length-sets, lt-length-sets, get_or-append-add}
 use lib.IntN.{ℤ, nat_abs}
 use mir.Syntax.{w8, w16}
 use mir.Val.{of_z, to_z}
@@ -18,6 +18,7 @@ use Rattle.laws.specs.Values.{values_length, values_at, joined_length, joined_at
 use Rattle.steps.specs.Limits.{data_unit}
 use Rattle.words.specs.Words.{bytes, byte_at, number_at}
 use Rattle.words.proofs.ByteLaws.{bytes_length, two_bytes, number_after, number_front}
+use Rattle.words.proofs.PutLaws.{sets_append}
 use Rattle.steps.specs.Settings.{Settings}
 use Rattle.trace_layout.specs.Trace.{trace_header_length, trace_limit, settings_in, count_in, samples_in, well_formed, sample_start, trace_sample, trace_gain, trace_entry, trace_header, sample_bytes, sample_part, entry_part, trace_of}
 use Rattle.trace_layout.proofs.ReadLaws.{well_tested}
@@ -27,7 +28,7 @@ use Rattle.trace_layout.proofs.ReadLaws.{well_tested}
 counts_length : (n m : ℕ) → length (bytes 2 n ++ bytes 4 m) ≡ 6
 counts_length n m = length-append (bytes 2 n) (bytes 4 m) ∙ omega (arith, bytes_length 2 n, bytes_length 4 m)
 
-header_length : (k : Settings) (count : ℕ) → length (trace_header k count) ≡ trace_header_length
+pub header_length : (k : Settings) (count : ℕ) → length (trace_header k count) ≡ trace_header_length
 header_length k count = ap (λ (n : ℕ). suc (suc (suc (suc (suc (suc n)))))) (counts_length _ k.M)
 
 -- ---- a whole trace
@@ -123,3 +124,30 @@ module _ (k : Settings) (count : ℕ) (m : ℕ → ℤ) (g : ℕ → ℕ) (e : �
         ap (to_z w8)
         (ap (byte_at t) at ∙ after (length (sample_part m g n) + i) ∙ get_or-append-add (sample_part m g n) (entry_part e n) i 0 ∙ values_at (λ i. of_z w8 (e i)) 0 n i h)
         ∙ to_z-of_z (fits_abs {w = w8} (e i) small)
+
+-- ---- the header as it is stored
+
+module _ (k : Settings) (count : ℕ) (out : List ℕ) (h : length out ≡ trace_header_length) where
+  -- a place while the bytes before it are stored
+  pub header_room : (i : ℕ) → i < trace_header_length → i < length (sets out 0 (take i (trace_header k count)))
+  header_room i b = lt-length-sets out 0 (take i (trace_header k count)) (omega arith)
+
+  -- the first six bytes, and the count after them
+  abbrev pub headed : List ℕ
+  headed = sets out 0 (take 6 (trace_header k count))
+
+  abbrev pub counted : List ℕ
+  counted = sets headed 6 (bytes 2 count)
+
+  pub headed_long : 6 + 2 ≤ length headed
+  headed_long = omega (arith, length-sets out 0 (take 6 (trace_header k count)))
+
+  pub counted_long : 8 + 4 ≤ length counted
+  counted_long = omega (arith, length-sets headed 6 (bytes 2 count), length-sets out 0 (take 6 (trace_header k count)))
+
+  pub header_put : sets counted 8 (bytes 4 k.M) ≡ trace_header k count
+  header_put =
+      let l = trace_header k count in
+      let e : 6 + length (bytes 2 count) ≡ 8 = omega (arith, bytes_length 2 count) in
+      ap (λ (i : ℕ). sets counted i (bytes 4 k.M)) (sym e) ∙ sym (sets_append headed 6 (bytes 2 count) (bytes 4 k.M))
+      ∙ sets-eq l out 0 (omega (arith, header_length k count)) ∙ ap (λ (r : List ℕ). l ++ r) (drop_of_length-le out {i = 0 + length l} (omega (arith, header_length k count))) ∙ append-nil l

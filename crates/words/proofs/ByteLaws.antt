@@ -134,6 +134,10 @@ module _ (w : Width) where
   pub words_long : (n : ℕ) (l : List ℤ) → n ≤ length l → length (words w (take n l)) ≡ width w * n
   words_long n l h = words_length (take n l) ∙ ap (λ (k : ℕ). width w * k) (length-take-le n l h)
 
+  pub words_none : words w [] ≡ []
+  unfolding words
+  words_none = refl
+
   pub words_next : (l : List ℤ) (i : ℕ) → i < length l → words w (take (i + 1) l) ≡ words w (take i l) ++ bytes (width w) (of_z w (get_or l i (pos 0)))
   unfolding words
   words_next l i h =

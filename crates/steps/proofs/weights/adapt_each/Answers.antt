@@ -17,8 +17,8 @@ loop-i-preserved g c =
     let l = c.loop-i in
     let e = l.invariant.0 l.i (le_refl _) in (
       λ n h. let ne : n ≢ l.i = omega arith in rw get_or-set_other (l.invariant.0 n (omega arith)),
-      λ k m. adapting_next (l.invariant.1 k m) _ _ (omega arith) (omega arith) (m l.i _ (omega arith) (search (rules, e))) (search rules),
+      λ k m. adapting_next k c.args.a.now (l.invariant.1 k m) _ _ (omega arith) (omega arith) (m l.i _ (omega arith) (search (rules, e))) (search rules),
     )
 
 pub returns : goal.returns
-returns g c = λ k m. adapting_all (c.loop-i.invariant.1 k m) (omega arith)
+returns g c = λ k m. adapting_all k c.args.a.now (c.loop-i.invariant.1 k m) (omega arith)
