@@ -35,20 +35,22 @@ reached {r} {delay} {l} p h =
     below : Each (λ (x : ℤ). nat_abs x < 2 ^ (r + 1)) l
     below = each_weaken (λ (x : ℤ). is_entry r x ≡ true) (λ (x : ℤ). nat_abs x < 2 ^ (r + 1)) (entry_below r) l p.symbols_are
 
+-- the digits of a number above the first r: none where its bit length is at most r
+pub digits_none : (n r : ℕ) → n / 2 ^ r ≡ 0 → bit_length n ≤ r
+digits_none n r e = bit_length_le n r (omega (arith, div-add-mod' n (2 ^ r), mod-lt n (positive r), ap (λ (m : ℕ). m * 2 ^ r) e))
+
+pub digits_some : (n r : ℕ) → (n / 2 ^ r ≡ 0 → ⊥) → r < bit_length n
+digits_some n r h = lt_of_not-le (λ l. h (div-eq_of_lt (bit_length_lt n r l)))
+
 -- ---- one more symbol before them
 
--- no digit of it is left above the first r: its bit length is at most r
 pub delay_more : {n r s : ℕ} (delay : ℕ) (v : ℤ) → n ≡ nat_abs v → s ≡ r → n / 2 ^ s ≡ 0 → delay + 1 ≡ next_delay r delay v
 unfolding next_delay
-delay_more {n} {r} {s} delay v e h d =
-    let most = bit_length_le n s (omega (arith, div-add-mod' n (2 ^ s), mod-lt n (positive s), ap (λ (m : ℕ). m * 2 ^ s) d)) in
-    rw (sym e) (simp (le-ltb r (bit_length n) (omega arith)))
+delay_more {n} {r} {s} delay v e h d = rw (sym e) (simp (le-ltb r (bit_length n) (omega (arith, digits_none n s d))))
 
 pub delay_none : {n r s : ℕ} (delay : ℕ) (v : ℤ) → n ≡ nat_abs v → s ≡ r → (n / 2 ^ s ≡ 0 → ⊥) → 0 ≡ next_delay r delay v
 unfolding next_delay
-delay_none {n} {r} {s} delay v e h d =
-    let least = lt_of_not-le (λ (l : bit_length n ≤ s). d (div-eq_of_lt (bit_length_lt n s l))) in
-    rw (sym e) (simp (lt-ltb r (bit_length n) (omega arith)))
+delay_none {n} {r} {s} delay v e h d = rw (sym e) (simp (lt-ltb r (bit_length n) (omega (arith, digits_some n s d))))
 
 pub next_delay_most : (r delay : ℕ) (v : ℤ) → next_delay r delay v ≤ delay + 1
 unfolding next_delay

@@ -1,6 +1,6 @@
 -- Laws for the functions of a sample.
 use mathlib.Core.Path.{◌≡◌, refl, sym, ◌∙◌, subst, subst₂}
-use mathlib.Core.Bool.{true, ◌&&◌}
+use mathlib.Core.Bool.{Bool, true, false, ◌&&◌, cond}
 use mathlib.Core.List.{List}
 use Prim.Native.Nat.{ℕ, ◌+◌, ◌-◌, ◌^◌, ◌≤◌, ◌<◌}
 use native.Mathlib.Numerals.{add-one}
@@ -20,15 +20,37 @@ use Rattle.steps.proofs.LargestLaws.{or_left, or_right, both_below}
 use Rattle.steps.proofs.SymbolLaws.{symbol_below, decide_symbol, chosen_symbol}
 use Rattle.steps.specs.Limits.{weight_unit, halving_limit, doubling_limit}
 use Rattle.steps.specs.Fir.{Small, all_below, all_small, halved, doubled, magnitudes}
-use Rattle.filter.specs.Sample.{FilterState, Outcome, keep, halve, double, outcome_of, normalised, normalised_exponent}
+use Rattle.filter.specs.Sample.{FilterState, Outcome, keep, halve, double, can_fall, outcome_of, normalised, normalised_exponent}
 use Rattle.filter.proofs.OutcomeLaws.{can_fall_lem}
 use Rattle.filter.specs.Calls.{DecisionBounds, NormalisedIs, SampleResultIs, chosen, filter_state_of}
 use Rattle.filter.specs.declared.sample.SampleResult.{SampleResult}
 
 -- ---- step 7
 
-normalised_as : (s : Outcome) {ψ ψ' : ℕ} {f b f' b' : List ℤ} → outcome_of ψ f b ≡ s → ψ' ≡ normalised_exponent s ψ → (f' ≡ normalised s f) × (b' ≡ normalised s b) → NormalisedIs ψ f b ψ' f' b'
-normalised_as s e h i = record { exponent = rw e h; ahead = rw e i.0; behind = rw e i.1 }
+-- the outcome s, from the tests that the code makes
+pub normalised_as : (s : Outcome) {ψ ψ' : ℕ} {f b f' b' : List ℤ} → outcome_of ψ f b ≡ s → ψ' ≡ normalised_exponent s ψ → f' ≡ normalised s f → b' ≡ normalised s b → NormalisedIs ψ f b ψ' f' b'
+normalised_as s e h i j = record { exponent = rw e h; ahead = rw e i; behind = rw e j }
+
+module _ (ψ : ℕ) (f b : List ℤ) where
+  pub halves : (all_small f && all_small b) ≡ false → outcome_of ψ f b ≡ halve
+  unfolding outcome_of
+  halves e = simp e
+
+  pub keeps_lowest : (all_small f && all_small b) ≡ true → ψ ≡ 0 → outcome_of ψ f b ≡ keep
+  unfolding outcome_of
+  keeps_lowest e z = simp (e, z)
+
+  pub keeps : (all_small f && all_small b) ≡ true → (all_below doubling_limit f && all_below doubling_limit b) ≡ false → outcome_of ψ f b ≡ keep
+  unfolding outcome_of
+  keeps e d = rw (e, d) (go (can_fall ψ))
+    where
+      go : (p : Bool) → cond (p && false) double keep ≡ keep
+      go true = refl
+      go false = refl
+
+  pub doubles : (all_small f && all_small b) ≡ true → can_fall ψ ≡ true → (all_below doubling_limit f && all_below doubling_limit b) ≡ true → outcome_of ψ f b ≡ double
+  unfolding outcome_of
+  doubles e z d = simp (e, z, d)
 
 -- by the tests that the code makes of the bits of all new magnitudes together
 module _ (f b : List ℤ) {seen : ℕ} (e : seen ≡ bit_or (or_all (magnitudes f)) (or_all (magnitudes b))) where
@@ -39,17 +61,14 @@ module _ (f b : List ℤ) {seen : ℕ} (e : seen ≡ bit_or (or_all (magnitudes 
   small : seen < halving_limit → (all_small f && all_small b) ≡ true
   small h = tested (weight_unit - 1) ∙ lt-ltb seen halving_limit h
 
-  pub halves : {ψ : ℕ} {f' b' : List ℤ} → halving_limit ≤ seen → (f' ≡ halved f) × (b' ≡ halved b) → NormalisedIs ψ f b (ψ + 1) f' b'
-  unfolding outcome_of
-  halves {ψ} h i = normalised_as halve (simp (tested (weight_unit - 1) ∙ le-ltb seen halving_limit h)) (add-one ψ) i
+  pub normalised_halved : {ψ : ℕ} {f' b' : List ℤ} → halving_limit ≤ seen → (f' ≡ halved f) × (b' ≡ halved b) → NormalisedIs ψ f b (ψ + 1) f' b'
+  normalised_halved {ψ} h i = normalised_as halve (halves ψ f b (tested (weight_unit - 1) ∙ le-ltb seen halving_limit h)) (add-one ψ) i.0 i.1
 
-  pub keeps_lowest : {ψ : ℕ} → seen < halving_limit → ψ ≡ 0 → NormalisedIs ψ f b ψ f b
-  unfolding outcome_of
-  keeps_lowest h z = normalised_as keep (simp (small h, z)) refl (refl, refl)
+  pub normalised_lowest : {ψ : ℕ} → seen < halving_limit → ψ ≡ 0 → NormalisedIs ψ f b ψ f b
+  normalised_lowest {ψ} h z = normalised_as keep (keeps_lowest ψ f b (small h) z) refl refl refl
 
-  pub keeps : {ψ : ℕ} → seen < halving_limit → (ψ ≡ 0 → ⊥) → doubling_limit ≤ seen → NormalisedIs ψ f b ψ f b
-  unfolding outcome_of
-  keeps {ψ} h z d = normalised_as keep (simp (small h, can_fall_lem ψ (omega (arith, z)), tested (weight_unit - 3) ∙ le-ltb seen doubling_limit d)) refl (refl, refl)
+  pub normalised_kept : {ψ : ℕ} → seen < halving_limit → doubling_limit ≤ seen → NormalisedIs ψ f b ψ f b
+  normalised_kept {ψ} h d = normalised_as keep (keeps ψ f b (small h) (tested (weight_unit - 3) ∙ le-ltb seen doubling_limit d)) refl refl refl
 
   pub all_doublable : seen < doubling_limit → Each Small f × Each Small b
   all_doublable d =
@@ -57,23 +76,26 @@ module _ (f b : List ℤ) {seen : ℕ} (e : seen ≡ bit_or (or_all (magnitudes 
       let n = or_all (magnitudes b) in
       (doublable f (omega (arith, e, or_left m n)), doublable b (omega (arith, e, or_right m n)))
 
-  pub doubles : {ψ : ℕ} {f' b' : List ℤ} → seen < halving_limit → (ψ ≡ 0 → ⊥) → seen < doubling_limit → (f' ≡ doubled f) × (b' ≡ doubled b) → NormalisedIs ψ f b (ψ - 1) f' b'
-  unfolding outcome_of
-  doubles {ψ} h z d i =
-      normalised_as double (simp (small h, can_fall_lem ψ (omega (arith, z)), tested (weight_unit - 3) ∙ lt-ltb seen doubling_limit d)) refl i
+  pub normalised_doubled : {ψ : ℕ} {f' b' : List ℤ} → seen < halving_limit → (ψ ≡ 0 → ⊥) → seen < doubling_limit → (f' ≡ doubled f) × (b' ≡ doubled b) → NormalisedIs ψ f b (ψ - 1) f' b'
+  normalised_doubled {ψ} h z d i =
+      normalised_as double (doubles ψ f b (small h) (can_fall_lem ψ (omega (arith, z))) (tested (weight_unit - 3) ∙ lt-ltb seen doubling_limit d)) refl i.0 i.1
 
 -- ---- steps 4 and 5
 
-pub error_bounds : {r s ξ : ℕ} {y v entry : ℤ} → v ≡ chosen entry (decide r y ξ) → DecisionBounds r s y ξ entry → ErrorBounds r s v y ξ
-error_bounds {r} {ξ = ξ} {y = y} {entry = entry} e d = record {
+pub error_bounds : {r s ξ : ℕ} {y entry : ℤ} → DecisionBounds r s y ξ entry → ErrorBounds r s (chosen entry (decide r y ξ)) y ξ
+error_bounds {r} {s} {ξ} {y} {entry} d = record {
   r_most = d.r_most;
   scale_least = d.scale_least;
   scale_most = d.scale_most;
-  v_small = rw e (symbol_below r (chosen entry (decide r y ξ)) (chosen_symbol r entry (decide r y ξ) d.entry_is (decide_symbol r y ξ)));
+  v_small = symbol_below r (chosen entry (decide r y ξ)) (chosen_symbol r entry (decide r y ξ) d.entry_is (decide_symbol r y ξ));
   y_small = d.y_small;
   ξ_least = d.ξ_least;
   ξ_most = d.ξ_most;
 }
+
+-- of a symbol that is the chosen one
+pub error_bounds_of : {r s ξ : ℕ} {y v entry : ℤ} → v ≡ chosen entry (decide r y ξ) → DecisionBounds r s y ξ entry → ErrorBounds r s v y ξ
+error_bounds_of e d = rw e (error_bounds d)
 
 -- ---- steps 6 and 7
 
@@ -82,6 +104,9 @@ pub normalised_of : {ψ ψ' : ℕ} {f b f₀ b₀ f' b' : List ℤ} → f ≡ f�
 normalised_of {ψ = ψ} {ψ' = ψ'} {f' = f'} {b' = b'} e h s = subst₂ (λ (x y : List ℤ). NormalisedIs ψ x y ψ' f' b') e h s
 
 -- ---- the symbols, whose first place is for the new one
+
+pub first_place : (n : ℕ) (l : List ℤ) → length (drop 1 l) ≡ n → 1 ≤ n → 1 ≤ length l
+first_place n l e h = omega (arith, length-drop 1 l)
 
 pub past : (l : List ℤ) → take (length l - 1) (drop 1 l) ≡ drop 1 l
 past l = take_all (length l - 1) (drop 1 l) (omega (arith, length-drop 1 l))
