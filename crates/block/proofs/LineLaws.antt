@@ -4,7 +4,7 @@ use mathlib.Core.List.{List, ◌∷◌, ◌++◌, append_assoc}
 use mathlib.Core.Logic.{◌⊎◌, inl, inr}
 use Prim.Native.Nat.{ℕ, zero, suc, ◌+◌, ◌-◌, ◌≤◌, ◌<◌}
 use native.Mathlib.Omega.{arith}
-use native.Mathlib.Nat.{eq-or-lt_of_le, add-sub_cancel_left}
+use native.Mathlib.Nat.{le_antisymm, eq-or-lt_of_le, add-sub_cancel_left}
 use native.Mathlib.Numerals.{add-one}
 use lib.ListN.{length, get_or, take, drop, set, length-set, length-drop}
 use lib.Seq.{length-take-le, length-paste, take-length, take-take, take_at, take-append_seam, drop_at, drop-cons, drop-set-lt, get_or-set_same, get_or-set_other}
@@ -15,6 +15,20 @@ use Rattle.steps.specs.Fir.{push}
 use Rattle.filter.specs.Calls.{LargestBitsAt}
 use Rattle.filter.proofs.DelayLaws.{largest_bits_at_take}
 use Rattle.block.specs.Line.{place, newest, started, added}
+
+-- ---- a line that a loop writes: f i when i are written, of n
+
+pub record Placed (f : ℕ → List ℤ) (n i : ℕ) (line : List ℤ) : Type 0 where
+  pub long : length line ≡ line_length
+  pub within : i ≤ n
+  pub is : line ≡ f i
+
+module _ {f : ℕ → List ℤ} {n : ℕ} where
+  pub placed_next : {i : ℕ} {line : List ℤ} → Placed f n i line → i < n → (j : ℕ) (x y : ℤ) → x ≡ y → set (f i) j y ≡ f (suc i) → Placed f n (i + 1) (set line j x)
+  placed_next {i = i} {line = line} p h j x y e s = rw (add-one i) (record { long = length-set line j x ∙ p.long; within = h; is = ap₂ (λ (t : List ℤ) (z : ℤ). set t j z) p.is e ∙ s })
+
+  pub placed_all : {i : ℕ} {line : List ℤ} → Placed f n i line → n ≤ i → line ≡ f n
+  placed_all p h = p.is ∙ ap f (le_antisymm p.within h)
 
 -- ---- the old ones in their places
 

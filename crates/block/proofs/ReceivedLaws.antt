@@ -72,7 +72,11 @@ received_largest_bits m gains = or_all_largest_bits (received_all m gains) ∙ l
 -- ---- one shift up and one down
 
 -- either none up, or the product is the result
-shift_bounds : (x : ℤ) (shift : ℕ) → shift ≤ length_limit + scale_limit → nat_abs x < 2 ^ 31 → nat_abs (rescale x data_unit shift) < 2 ^ data_unit → ShiftBounds (data_unit - shift) (shift - data_unit) x
+pub shifted_is : (shift : ℕ) {x y : ℤ} {up down : ℕ} → x ≡ y → up ≡ data_unit - shift → down ≡ shift - data_unit → rescale x up down ≡ rescale y data_unit shift
+shifted_is shift {y = y} e u d = rw (e, u, d) (sym (rescale_shifts y data_unit shift))
+
+-- either none up, or the product is the result
+pub shift_bounds : (x : ℤ) (shift : ℕ) → shift ≤ length_limit + scale_limit → nat_abs x < 2 ^ 31 → nat_abs (rescale x data_unit shift) < 2 ^ data_unit → ShiftBounds (data_unit - shift) (shift - data_unit) x
 shift_bounds x shift m r b = record {
   up_most = omega arith;
   down_most = omega arith;

@@ -2,15 +2,15 @@
 use mathlib.Core.Path.{◌≡◌, refl, sym, ap, ap₂, ◌∙◌, subst}
 use mathlib.Core.Bool.{true}
 use mathlib.Core.List.{List, ◌∷◌}
-use Prim.Native.Nat.{ℕ, suc, ◌+◌, ◌^◌, ◌≤◌, ◌<◌}
+use Prim.Native.Nat.{ℕ, suc, ◌+◌, ◌*◌, ◌-◌, ◌^◌, ◌≤◌, ◌<◌}
 use native.Mathlib.Omega.{arith}
-use native.Mathlib.Nat.{le_antisymm}
+use native.Mathlib.Nat.{le_antisymm, mul-le-mul}
 use native.Mathlib.Numerals.{add-one}
 use lib.ListN.{length, get_or, drop, set, length-take}
 use lib.IntN.{ℤ, pos}
 use lib.Signed.{mag}
-use mir.Syntax.{w8, w32}
-use mir.Val.{hbits, to_z, of_z}
+use mir.Syntax.{w8, w32, w64}
+use mir.Val.{hbits, to_z, of_z, Fits}
 use borrow.Author.Tests.{le-leb}
 use Rattle.laws.specs.Loops.{Written, written_none, written_next}
 use Rattle.laws.specs.Machine.{kept}
@@ -31,7 +31,7 @@ use Rattle.block.specs.declared.run.Progress.{Progress}
 use Rattle.filter.proofs.NextLaws.{next_symbols}
 use Rattle.filter.proofs.DelayLaws.{next_delay_most, next_largest_bits_at}
 use Rattle.block.proofs.BlockCount.{count_most, count_all, count_stopped}
-use Rattle.block.proofs.BlockSound.{fit_at}
+use Rattle.block.proofs.BlockSound.{fit_at, fit_after}
 use Rattle.block.proofs.BlockWindow.{after_next}
 use Rattle.block.proofs.BlockMemory.{same_outputs}
 use Rattle.block.proofs.LineLaws.{newest_given, newest_largest_bits_at}
@@ -62,6 +62,17 @@ pub record Passed (k : Settings) (o : Memory) (i : Block) (samples : List ℤ) (
   pub ψ_fits_on : ψFits k o i w.n ≡ true
   pub delay_most : delay ≤ tap_limit + w.n
   pub largest_bits_at : LargestBitsAt k.r delay (newest k.q w.n w.symbols)
+
+-- what is stored of a sample is what it gave
+pub record StoredAs (t : SampleResult) (y decision z : ℤ) : Type 0 where
+  pub y_as : y ≡ t.y
+  pub decision_as : decision ≡ t.decision
+  pub z_as : z ≡ t.z
+
+-- the bits of a register keep what fits it
+pub stored_as : {t : SampleResult} → mag t.y < 2 ^ hbits w32 → mag t.decision < 2 ^ hbits w8 → mag t.z < 2 ^ hbits w32 →
+    StoredAs t (to_z w32 (of_z w32 t.y)) (to_z w8 (of_z w8 t.decision)) (to_z w32 (of_z w32 t.z))
+stored_as f g h = record { y_as = kept w32 _ f; decision_as = kept w8 _ g; z_as = kept w32 _ h }
 
 -- these are all that are run
 pub progressed : {k : Settings} {o : Memory} {i : Block} {samples : List ℤ} {l : Outputs} {w : Work} → Reached k o i samples l w → w.n ≡ count k o i k.N →
@@ -94,6 +105,16 @@ module _ {k : Settings} {o : Memory} {i : Block} {e : BlockExponents} {ψ : ℕ}
   }
 
   module _ {w : Work} {delay : ℕ} (p : Passed k o i samples l w delay) where
+    fit : Fit k (Γ k o i) (after k o i w.n)
+    fit = fit_after k o i b.sound b.acceptable w.n p.reached.within p.ψ_fits_on
+
+    -- the weights are as many as the taps
+    pub forward_long : length w.forward ≡ k.p
+    forward_long = ap (λ (t : FilterState). length t.forward) p.reached.filter_state_is ∙ fit.forward_long
+
+    pub back_long : length w.back ≡ k.q
+    back_long = ap (λ (t : FilterState). length t.back) p.reached.filter_state_is ∙ fit.back_long
+
     -- the delay is one that a step may have
     pub delay_room : (k.r ≤ symbol_limit) × (delay ≤ line_length)
     delay_room = (b.sound.within.r_most, omega (arith, p.delay_most, p.reached.within, b.sound.within.N_most))
@@ -142,7 +163,7 @@ module _ {k : Settings} {o : Memory} {i : Block} {e : BlockExponents} {ψ : ℕ}
       }
 
       module _ {t : SampleResult} {forward back : List ℤ} (symbols : List ℤ) (h : SampleResultIs k e.gamma30 filters entry t forward back (newest (suc k.q) (suc w.n) symbols))
-          (long : length symbols ≡ line_length) (y_in : mag t.y < 2 ^ hbits w32) (decision_in : mag t.decision < 2 ^ hbits w8) (z_in : mag t.z < 2 ^ hbits w32) where
+          (long : length symbols ≡ line_length) {ty td tz : ℤ} (same : StoredAs t ty td tz) where
         -- a step of the definitions
         step : SampleResultIs k (Γ k o i) (at k o i w.n) (entry_at k o i w.n) t forward back (newest (suc k.q) (suc w.n) symbols)
         step = rw (filter_state_at_lem, b.exponents.Γ_is, entry_is) at h
@@ -158,8 +179,8 @@ module _ {k : Settings} {o : Memory} {i : Block} {e : BlockExponents} {ψ : ℕ}
           back = back;
           symbols = symbols;
           ψ = t.psi;
-          outputs = outputs_of (set w.outputs.y w.n (to_z w32 (of_z w32 t.y))) (set w.outputs.xi w.n t.xi) (set w.outputs.decision w.n (to_z w8 (of_z w8 t.decision)))
-              (set w.outputs.z w.n (to_z w32 (of_z w32 t.z))) (set w.outputs.theta w.n t.theta);
+          outputs = outputs_of (set w.outputs.y w.n ty) (set w.outputs.xi w.n t.xi) (set w.outputs.decision w.n td)
+              (set w.outputs.z w.n tz) (set w.outputs.theta w.n t.theta);
         }
 
         filter_state_next : filter_state_after k (suc w.n) forward back samples symbols t.psi ≡ after k o i (suc w.n)
@@ -180,10 +201,10 @@ module _ {k : Settings} {o : Memory} {i : Block} {e : BlockExponents} {ψ : ℕ}
           within = omega (arith, more);
           symbols_long = long;
           filter_state_is = rw (add-one w.n) filter_state_next;
-          y_written = written_next p.reached.y_written (pos 0) _ (rw values_length more) (rw b.outputs_long.y_long more) (kept w32 t.y y_in ∙ step.y ∙ sym (values_at _ (pos 0) k.N w.n more));
+          y_written = written_next p.reached.y_written (pos 0) _ (rw values_length more) (rw b.outputs_long.y_long more) (same.y_as ∙ step.y ∙ sym (values_at _ (pos 0) k.N w.n more));
           xi_written = written_next p.reached.xi_written 0 _ (rw values_length more) (rw b.outputs_long.xi_long more) (step.xi ∙ sym (values_at _ 0 k.N w.n more));
-          decision_written = written_next p.reached.decision_written (pos 0) _ (rw values_length more) (rw b.outputs_long.decision_long more) (kept w8 t.decision decision_in ∙ step.decision_is ∙ sym (values_at _ (pos 0) k.N w.n more));
-          z_written = written_next p.reached.z_written (pos 0) _ (rw values_length more) (rw b.outputs_long.z_long more) (kept w32 t.z z_in ∙ step.z ∙ sym (values_at _ (pos 0) k.N w.n more));
+          decision_written = written_next p.reached.decision_written (pos 0) _ (rw values_length more) (rw b.outputs_long.decision_long more) (same.decision_as ∙ step.decision_is ∙ sym (values_at _ (pos 0) k.N w.n more));
+          z_written = written_next p.reached.z_written (pos 0) _ (rw values_length more) (rw b.outputs_long.z_long more) (same.z_as ∙ step.z ∙ sym (values_at _ (pos 0) k.N w.n more));
           theta_written = written_next p.reached.theta_written 0 _ (rw values_length more) (rw b.outputs_long.theta_long more) (step.theta ∙ sym (values_at _ 0 k.N w.n more));
         }
 
@@ -218,3 +239,29 @@ module _ {k : Settings} {o : Memory} {i : Block} {samples : List ℤ} {l : Outpu
     bmax = eB;
     outputs_are = p.outputs_are;
   }
+
+-- ---- place n of a list of N elements
+
+-- in bytes, of elements of this size
+pub place_fits : (n size : ℕ) → n < block_limit → size < 5 → Fits w64 (n * size)
+place_fits n size h k = record { fits = omega (arith, mul-le-mul h k) }
+
+pub place_within : (n : ℕ) → place n < block_limit
+place_within n = omega arith
+
+-- of a list that is written
+pub within : {A : Type 0} {new old now : List A} {n i : ℕ} → n < i → length old ≡ i → Written new old n now → n < length now
+within h e w = omega (arith, w.long)
+
+-- of a line
+pub line_place : (n : ℕ) (line : List ℤ) → length line ≡ line_length → place n < length line
+line_place n line e = omega arith
+
+pub delay_fits : {delay n : ℕ} → n < block_limit → delay ≤ tap_limit + n → delay ≤ line_length
+delay_fits h m = omega arith
+
+pub next_fits : (n : ℕ) → n < block_limit → Fits w64 (n + 1)
+next_fits n h = record { fits = omega arith }
+
+pub fewer : (m n : ℕ) → n < m → m - (n + 1) < m - n
+fewer m n h = omega arith

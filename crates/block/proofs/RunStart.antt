@@ -15,7 +15,7 @@ use Rattle.steps.specs.Sound.{line_length, Storable, or_all}
 use Rattle.steps.specs.Settings.{Settings, scale_forward, scale_back}
 use Rattle.steps.specs.Fir.{push, magnitudes}
 use Rattle.block.specs.Block.{Block, Memory, Outputs, received_all, stored_all, newb, new_b, Γ, stored, old, start, after}
-use Rattle.block.specs.Line.{place, newest, started}
+use Rattle.block.specs.Line.{place, newest, started, added}
 use Rattle.block.specs.Calls.{block_length, Startable, BlockExponentsIs, ExponentsOf, FillBounds, filled, SampleLine, Runnable, BegunOn}
 use Rattle.filter.specs.declared.sample.BlockExponents.{BlockExponents}
 use Rattle.filter.proofs.SampleFirs.{scale_most}
@@ -37,7 +37,7 @@ module _ {k : Settings} {o : Memory} {i : Block} {window₀ : List ℤ} {l : Out
     receivable = receivable k o i run.acceptable;
   }
 
-  symbols_most : length o.symbols ≤ tap_limit
+  pub symbols_most : length o.symbols ≤ tap_limit
   symbols_most = omega (arith, run.sound.symbols_long, run.sound.within.q_most)
 
 -- a line before anything stands in it
@@ -150,3 +150,9 @@ module _ {k : Settings} {o : Memory} {i : Block} {e : BlockExponents} {window₀
         where
           past : newest k.q 0 symbols ≡ o.symbols
           past = ap₂ (λ (n : ℕ) (t : List ℤ). take n (drop block_limit t)) (sym run.sound.symbols_long) s ∙ started_old o.symbols symbols₀ f
+
+-- ---- the samples are stored, and stand in the line
+
+pub filled_is : (shift : ℕ) (m : List ℤ) (gains : List ℕ) (old line₀ : List ℤ) {stored between line : List ℤ} → stored ≡ stored_all shift m gains → length stored ≡ length m →
+    between ≡ started old line₀ → line ≡ added (length stored) stored between → line ≡ filled shift m gains old line₀
+filled_is shift m gains old line₀ s n b e = e ∙ rw (n, s, b)

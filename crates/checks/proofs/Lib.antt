@@ -1,2 +1,3 @@
+pub mod GainLaws
 pub mod CheckLaws
 pub mod NumberLaws

@@ -1,16 +1,17 @@
 -- Zeros and stored samples are tested by the largest bit length.
-use mathlib.Core.Path.{◌≡◌, refl, sym, ap, ◌∙◌}
+use mathlib.Core.Path.{◌≡◌, refl, sym, ap, ◌∙◌, fun_ext}
+use mathlib.Core.Bool.{Bool}
 use mathlib.Core.List.{List}
 use Prim.Native.Nat.{ℕ, zero, suc, ◌+◌, ◌*◌, ◌-◌, ◌^◌, ◌≤◌}
 use native.Mathlib.Omega.{arith}
 use native.Mathlib.Nat.{lt_of_lt_of_le}
-use lib.Dec.{leb, eqb}
+use lib.Dec.{ltb, leb, eqb}
 use lib.IntN.{ℤ, nat_abs}
-use borrow.Author.Tests.{ltb-true, lt-ltb, lt-leb, eqb-true, eq-eqb, ne_eqb}
+use borrow.Author.Tests.{ltb-true, lt-ltb, le-ltb, lt-leb, eqb-true, eq-eqb, ne_eqb}
 use Rattle.laws.specs.Lists.{all}
 use Rattle.laws.specs.Powers.{positive, rises, lower, raise}
 use Rattle.steps.specs.Limits.{data_unit}
-use Rattle.steps.specs.Fir.{largest_bits}
+use Rattle.steps.specs.Fir.{all_below, largest_bits}
 use Rattle.steps.proofs.LargestBitsTests.{by_largest_bits}
 use Rattle.state.specs.State.{is_zero, is_stored}
 
@@ -23,6 +24,14 @@ zeros_pass xs = none (largest_bits xs) ∙ zero_largest_bits xs
     none : (n : ℕ) → eqb n 0 ≡ leb n 0
     none zero = refl
     none (suc n) = ne_eqb (suc n) 0 (λ e. omega arith) ∙ sym (lt-leb (suc n) 0 (omega arith))
+
+-- weights that are all below 1 are zeros
+pub below_one : (w : List ℤ) → all_below 1 w ≡ all is_zero w
+below_one w = ap (λ (p : ℤ → Bool). all p w) (fun_ext (λ z. none (nat_abs z)))
+  where
+    none : (n : ℕ) → ltb n 1 ≡ eqb n 0
+    none zero = refl
+    none (suc n) = le-ltb (suc n) 1 (omega arith) ∙ sym (ne_eqb (suc n) 0 (λ e. omega arith))
 
 -- |A|·2^(B+s) < 2^(data_unit + b) as a bound on |A|, or as A = 0 where B + s is no less than data_unit + b
 module _ (s b B : ℕ) (xs : List ℤ) where

@@ -9,7 +9,7 @@ use lib.Dec.{eqb}
 use lib.ListN.{length, take, drop, replicate, length-drop, length-replicate, get_or-replicate}
 use lib.Seq.{length-take-le, take-add}
 use lib.IntN.{ℤ, pos}
-use borrow.Author.Tests.{leb-true, le-leb, ltb-true, lt-ltb, eqb-true, eqb-false}
+use borrow.Author.Tests.{leb-true, le-leb, ltb-true, lt-ltb, eqb-true, eqb-false, ne_eqb}
 use Rattle.laws.specs.Lists.{all, and_left, and_right}
 use Rattle.laws.specs.Tests.{both, last_le, each_tested, each_parts, all_take, all_drop, all_replicate}
 use Rattle.steps.specs.Limits.{data_unit, exponent_limit, halving_limit, length_limit, slots}
@@ -110,10 +110,19 @@ pub tests_examined : (e : Equaliser) → sizes_fit (settings e) ≡ true → adm
 unfolding examined
 tests_examined e f a s = rw (settings_pass (settings e) f a, s)
 
+-- from the number of its settings, and from its soundness
+pub examined_settings : (e : Equaliser) (n : ℕ) → n ≡ settings_number (settings e) → (n ≡ 0 → ⊥) → n ≡ examined e
+unfolding examined
+examined_settings e n q h = simp (ne_eqb (settings_number (settings e)) 0 (λ z. h (q ∙ z))) q
+
 -- of two states with the same settings that are both sound
 pub examined_same : (e e' : Equaliser) → settings e' ≡ settings e → is_sound e ≡ true → is_sound e' ≡ true → examined e' ≡ examined e
 unfolding examined
 examined_same e e' k s s' = ap₂ (λ (c : Settings) (t : Bool). cond (eqb (settings_number c) 0) (cond t 0 9) (settings_number c)) k (s' ∙ sym s)
+
+pub examined_state : (e : Equaliser) → sizes_fit (settings e) ≡ true → admits (settings e) ≡ true → cond (is_sound e) 0 9 ≡ examined e
+unfolding examined
+examined_state e f a = rw (settings_pass (settings e) f a)
 
 -- a state that no operation turns down, whose arrays have all their slots
 pub record Accepted (e : Equaliser) : Type 0 where
