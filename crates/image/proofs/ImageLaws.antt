@@ -6,8 +6,8 @@ use Prim.Native.Nat.{ℕ, ◌+◌, ◌*◌, ◌-◌, ◌≤◌, ◌<◌}
 use native.Mathlib.Omega.{arith}
 use lib.Dec.{leb, eqb}
 use lib.ListN.{length, take, drop, length-append, length-drop, drop_of_length-le}
-use lib.Seq.{sets, length-sets}
-use borrow.Author.Tests.{le-leb, lt-leb, eq-eqb, eqb-true}
+use lib.Seq.{sets, sets-eq, length-sets, lt-length-sets}
+use borrow.Author.Tests.{le-leb, lt-leb, eq-eqb, ne_eqb, eqb-true, eqb-false}
 use borrow.Rule.Slice.PartMut.{put_mid}
 use Rattle.laws.specs.Lent.{next_part}
 use Rattle.words.specs.Words.{bytes, width, words}
@@ -24,7 +24,7 @@ use Rattle.image.specs.Image.{header_bytes, image, image_length, save_number, Sa
 use Rattle.image.specs.Result.{saved_of}
 use Rattle.image.specs.declared.layout.Layout.{Layout}
 use Rattle.state.specs.declared.equaliser.Equaliser.{Equaliser}
-use Rattle.state.proofs.RefusalLaws.{refusal_stands, refusal_told}
+use Rattle.state.proofs.RefusalLaws.{number_least}
 use Rattle.state.proofs.SizesLaws.{fit_within}
 use Rattle.state.proofs.SoundLaws.{examined_tests}
 
@@ -33,14 +33,22 @@ use Rattle.state.proofs.SoundLaws.{examined_tests}
 pub header_length : (e : Equaliser) → length (header_bytes e) ≡ current.header
 header_length e = omega (arith, bytes_length 4 e.m)
 
--- room for M behind its first eight bytes
+-- a place of the header while the bytes before it are stored
+pub header_room : (e : Equaliser) (out : List ℕ) (k : ℕ) → length out ≡ current.header → k < current.header → k < length (sets out 0 (take k (header_bytes e)))
+header_room e out k h b = lt-length-sets out 0 (take k (header_bytes e)) (omega arith)
+
+-- and of M
 pub header_long : (e : Equaliser) (out : List ℕ) → length out ≡ current.header → 8 + 4 ≤ length (sets out 0 (take 8 (header_bytes e)))
 header_long e out h = omega (arith, length-sets out 0 (take 8 (header_bytes e)))
 
+pub header_put : (e : Equaliser) (out : List ℕ) → length out ≡ current.header → sets out 0 (header_bytes e) ≡ header_bytes e
+header_put e out h =
+    sets-eq (header_bytes e) out 0 (omega (arith, header_length e)) ∙ ap (λ (r : List ℕ). header_bytes e ++ r) (drop_of_length-le out {i = 0 + length (header_bytes e)} (omega (arith, header_length e))) ∙ append-nil (header_bytes e)
+
 -- its first eight bytes and those of M, each in its part
-pub header_put : (e : Equaliser) (out x y : List ℕ) → length out ≡ current.header → x ≡ take 8 (header_bytes e) → y ≡ bytes 4 e.m →
+pub header_parts : (e : Equaliser) (out x y : List ℕ) → length out ≡ current.header → x ≡ take 8 (header_bytes e) → y ≡ bytes 4 e.m →
     put_mid 8 (length (x ++ drop 8 out) - 8) (x ++ drop 8 out) y ≡ header_bytes e
-header_put e out x y h f g =
+header_parts e out x y h f g =
     ap (λ (n : ℕ). put_mid 8 (n - 8) (x ++ drop 8 out) y) long
     ∙ next_part x y out 8 12 (ap length f) (ap (λ (l : List ℕ). 8 + length l) g ∙ ap (λ (n : ℕ). 8 + n) (bytes_length 4 e.m))
     ∙ ap (λ (r : List ℕ). (x ++ y) ++ r) (drop_of_length-le out {i = 12} (omega arith))
@@ -60,7 +68,7 @@ image_length_lem e w d =
     ∙ omega (arith, words_long weight_word (taps e) e.weights w, words_long datum_word (taps e) e.past d)
 
 -- the header and both lists of words at the front of a buffer, up to places that were worked out
-image_put : (e : Equaliser) (before h u v : List ℕ) (start mid end : ℕ) → start ≡ current.header → mid ≡ data_place current (taps e) → end ≡ image_length e →
+pub image_put : (e : Equaliser) (before h u v : List ℕ) (start mid end : ℕ) → start ≡ current.header → mid ≡ data_place current (taps e) → end ≡ image_length e →
     taps e ≤ length e.weights → taps e ≤ length e.past → h ≡ header_bytes e → u ≡ words weight_word (take (taps e) e.weights) → v ≡ words datum_word (take (taps e) e.past) →
     put_mid mid (end - mid) (put_mid start (mid - start) (h ++ drop start before) u) v ≡ image e ++ drop (image_length e) before
 unfolding image
@@ -97,16 +105,22 @@ module _ (e : Equaliser) (before : List ℕ) where
       go true = done
       go false = short
 
-  refused : (x : Refusal) → number_of x ≡ save_number e before → Save e before (saved_of (Err x)) before
-  refused x h = record { number = h; saved_length = refusal_stands x _ 0 h; contents = refusal_stands x _ before h }
+  refused : (n : ℕ) → save_number e before ≡ n → (n ≡ 0 → ⊥) → Save e before (record { number = n; length = 0 }) before
+  refused n h k =
+      let t = ne_eqb (save_number e before) 0 (λ z. k (sym h ∙ z)) in
+      record { number = sym h; saved_length = simp t; contents = simp t }
 
-  pub save_refused : (x : Refusal) → number_of x ≡ examined e → Save e before (saved_of (Err x)) before
+  pub save_refused : (n : ℕ) → n ≡ examined e → (n ≡ 0 → ⊥) → Save e before (record { number = n; length = 0 }) before
   unfolding save_number
-  save_refused x h = refused x (refusal_told x (cond (leb (image_length e) (length before)) 0 7) h)
+  save_refused n h k = refused n (simp (ne_eqb (examined e) 0 (λ z. k (h ∙ z))) (sym h)) k
+
+  -- by the refusal itself
+  pub save_refusal : (x : Refusal) → number_of x ≡ examined e → Save e before (saved_of (Err x)) before
+  save_refusal x h = save_refused (number_of x) h (λ z. omega (arith, z, number_least x))
 
   pub save_short : 0 ≡ examined e → length before < image_length e → Save e before (saved_of (Err Buffer)) before
   unfolding save_number
-  save_short h k = refused Buffer (simp (eq-eqb (examined e) 0 (sym h), lt-leb (image_length e) (length before) k))
+  save_short h k = refused 7 (simp (eq-eqb (examined e) 0 (sym h), lt-leb (image_length e) (length before) k)) (eqb-false 7 0 refl)
 
   -- a save that is accepted, and the state that it accepted
   pub save_fits : examined e ≡ 0 → image_length e ≤ length before → save_number e before ≡ 0
@@ -121,18 +135,20 @@ module _ (e : Equaliser) (before : List ℕ) where
       go true t q = eqb-true (examined e) 0 t
       go false t q = q
 
+  pub save_done : (n : ℕ) (after : List ℕ) → examined e ≡ 0 → image_length e ≤ length before → n ≡ image_length e → after ≡ image e ++ drop (image_length e) before →
+      Save e before (record { number = 0; length = n }) after
+  save_done n after h k l c =
+      let t = save_fits h k in
+      record { number = sym t; saved_length = simp t l; contents = simp t c }
+
   -- the parts in their places
-  pub save_done : (h u v : List ℕ) (y : Layout) (t mid end : ℕ) → 0 ≡ examined e → length e.weights ≡ slots → length e.past ≡ slots → y ≡ current → t ≡ taps e →
+  pub saved_parts : (h u v : List ℕ) (y : Layout) (t mid end : ℕ) → 0 ≡ examined e → length e.weights ≡ slots → length e.past ≡ slots → y ≡ current → t ≡ taps e →
       mid ≡ data_place y t → end ≡ end_place y t → end ≤ length before → h ≡ header_bytes e → u ≡ words weight_word (take t e.weights) → v ≡ words datum_word (take t e.past) →
       Save e before (record { number = 0; length = end }) (put_mid mid (end - mid) (put_mid y.header (mid - y.header) (h ++ drop y.header before) u) v)
-  save_done h u v y t mid end x w d ye te me ee room hs us vs =
-      record { number = sym number; saved_length = simp number end_is; contents = simp number contents }
+  saved_parts h u v y t mid end x w d ye te me ee room hs us vs = save_done end _ (sym x) (omega (arith, end_is)) end_is contents
     where
       end_is : end ≡ image_length e
       end_is = ee ∙ ap₂ end_place ye te
-
-      number : save_number e before ≡ 0
-      number = save_fits (sym x) (omega (arith, end_is))
 
       contents : put_mid mid (end - mid) (put_mid y.header (mid - y.header) (h ++ drop y.header before) u) v ≡ image e ++ drop (image_length e) before
       contents =

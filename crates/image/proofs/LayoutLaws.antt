@@ -1,9 +1,10 @@
 -- The layouts row by row, and the one that a length tells.
-use mathlib.Core.Path.{◌≡◌, refl}
+use mathlib.Core.Path.{◌≡◌, refl, sym, subst}
 use mathlib.Core.Bool.{Bool, true, false, cond, ◌&&◌}
 use mathlib.Core.List.{List, [], ◌∷◌}
-use Prim.Native.Nat.{ℕ, ◌≤◌}
+use Prim.Native.Nat.{ℕ, ◌*◌, ◌≤◌}
 use native.Mathlib.Omega.{arith}
+use native.Mathlib.Nat.{mul-le-mul}
 use lib.Dec.{leb, eqb}
 use lib.ListN.{length}
 use borrow.Author.Tests.{eq-eqb, eqb-true, leb-true}
@@ -40,10 +41,16 @@ found (y ∷ ys) t n h = either (eqb n (end_place y t)) y (layout_for ys t n) (t
 pub layout_row : (l : List ℕ) → Row (layout_of l)
 layout_row l = found layouts (taps_in l) (length l) rows
 
+pub current_row : (y : Layout) → y ≡ current → Row y
+current_row y e = subst Row (sym e) (tested current refl)
+
 -- ---- places
 
 pub placeable : {y : Layout} {t : ℕ} → Row y → t ≤ 510 → Placeable y t
 placeable w h = record { header_most = w.header_most; weight_most = omega (arith, w.weight_is); taps_most = h }
+
+pub placed_few : {y : Layout} {t : ℕ} → Placeable y t → y.weight * t ≤ 4 * 510
+placed_few p = mul-le-mul p.weight_most p.taps_most
 
 -- ---- the current layout
 

@@ -7,7 +7,7 @@ use lib.ListN.{length, set, replicate, length-replicate}
 use lib.IntN.{ℤ, pos}
 use mir.Syntax.{Width}
 use mir.Val.{to_z}
-use Rattle.laws.specs.Loops.{overlay, Written, written_next}
+use Rattle.laws.specs.Loops.{overlay, Written, written_none, written_next}
 use Rattle.words.specs.Words.{number_at, width, words_of}
 use Rattle.words.proofs.ByteLaws.{words_count, word_at}
 use Rattle.steps.specs.Limits.{slots}
@@ -27,6 +27,9 @@ abbrev pub Worded : Width → ℕ → List ℕ → ℕ → List ℤ → Type 0
 Worded w n l i out = Written (words_of w n l) (replicate slots (pos 0)) i out
 
 module _ (w : Width) (n : ℕ) (l : List ℕ) (few : n ≤ slots) where
+  pub worded_none : Worded w n l 0 (replicate slots (pos 0))
+  worded_none = written_none (words_of w n l) (replicate slots (pos 0))
+
   pub worded_next : (i : ℕ) (out : List ℤ) (x : ℤ) → i < n → Worded w n l i out → x ≡ to_z w (number_at (width w) l (width w * i)) → Worded w n l (i + 1) (set out i x)
   worded_next i out x h s f = written_next s (pos 0) x (omega (arith, words_count w n l)) (omega (arith, length-replicate slots (pos 0))) (f ∙ sym (word_at w n i l h))
 

@@ -33,7 +33,7 @@ impl From<Result<usize, Refusal>> for Saved {
 }
 
 // What stands before the weights.
-#[tactic(auto, using(crate::proofs::ImageLaws::header_put, words::proofs::LibraryLaws::le_bytes_four))]
+#[tactic(auto, using(crate::proofs::ImageLaws::header_parts, words::proofs::LibraryLaws::le_bytes_four))]
 pub fn put_header(e: Equaliser, out: &mut [u8])
     requires { length out.old ≡ current.header }
     ensures { out.new ≡ header_bytes e }

@@ -93,19 +93,22 @@ pub record Summed (l : List ℕ) (sum : ℕ) (uncut : Bool) (i : ℕ) : Type 0 w
   pub is : sum ≡ squares (take i l)
   pub tested : Tested is_uncut l uncut i
 
-summed_none : (l : List ℕ) → Summed l 0 true 0
+pub summed_none : (l : List ℕ) → Summed l 0 true 0
 unfolding squares
 summed_none l = record { is = refl; tested = tested_none is_uncut l }
 
 module _ {l : List ℕ} {sum : ℕ} {uncut : Bool} {i : ℕ} (s : Summed l sum uncut i) where
-  summed_small : length l ≤ block_limit → i ≤ length l → sum ≤ sum_limit
+  pub summed_small : length l ≤ block_limit → i ≤ length l → sum ≤ sum_limit
   summed_small h k = omega (arith, s.is, squares_bound (take i l), length-take-le i l k)
 
   -- one a more
-  summed_next : i < length l → let a = get_or l i 0 in Summed l (sum + counted a * counted a) (uncut && is_uncut a) (i + 1)
-  summed_next h = record { is = rw (s.is, add-one) (sym (squares_take l i h)); tested = tested_next s.tested 0 h refl }
+  pub summed_next : (a : ℕ) {one : Bool} → i < length l → a ≡ get_or l i 0 → one ≡ is_uncut a → Summed l (sum + counted a * counted a) (uncut && one) (i + 1)
+  summed_next a h e f = record {
+    is = ap₂ (λ (x y : ℕ). x + counted y * counted y) s.is e ∙ sym (squares_take l i h) ∙ ap (λ (j : ℕ). squares (take j l)) (sym (add-one i));
+    tested = tested_next s.tested 0 h (f ∙ ap is_uncut e);
+  }
 
-  summed_all : length l ≤ i → (sum ≡ squares l) × (uncut ≡ all is_uncut l)
+  pub summed_all : length l ≤ i → (sum ≡ squares l) × (uncut ≡ all is_uncut l)
   summed_all h = (s.is ∙ ap squares (take_all i l h), tested_all s.tested h)
 
 -- ---- the readings and the sum, as a loop has them of the first i places
@@ -138,10 +141,10 @@ module _ {l : Lists} {before now : List (List Float)} {i : ℕ} {s : Sum} (r : F
       let xi_in : i < length l.xi = omega (arith, r.long.xi_long) in
       let z_in : i < length l.z = omega (arith, r.long.z_long) in
       let theta_in : i < length l.theta = omega (arith, r.long.theta_long) in
-      let a = amplitudes_at l.z l.theta i z_in theta_in in
+      let a = amplitude (get_or l.z i (pos 0)) (get_or l.theta i 0) in
       record {
         written = written_next f.written [] (pair_of x) (omega (arith, long)) h (ap pair_of e ∙ sym (pairs_at l.y l.xi l.z l.theta i [] y_in xi_in z_in theta_in));
-        summed = rw g (rw a at (summed_next f.summed (omega (arith, sums_long))));
+        summed = rw g (summed_next f.summed a (omega (arith, sums_long)) (sym (amplitudes_at l.z l.theta i z_in theta_in)) refl);
       }
 
   pub filled_all : length before ≤ i → (now ≡ readings_of l) × (s ≡ sum_of l.z l.theta)
@@ -151,11 +154,13 @@ module _ {l : Lists} {before now : List (List Float)} {i : ℕ} {s : Sum} (r : F
 
 -- ---- the power
 
+pub power_chosen : (s : Sum) (n : ℕ) {b : Bool} → s.uncut ≡ b → power_from s n ≡ cond b (Mean (quotient s.sum n)) (Floor (quotient s.sum n))
+power_chosen s n e = ap (λ (b : Bool). cond b (Mean (quotient s.sum n)) (Floor (quotient s.sum n))) e
+
 module _ (Z : List ℤ) (θ : List ℕ) (n : ℕ) (e : length (amplitudes Z θ) ≡ n) where
   pub power_from_lem : power_from (sum_of Z θ) n ≡ power_of (amplitudes Z θ)
   unfolding power_of
-  power_from_lem = rw e refl
+  power_from_lem = ap (power_from (sum_of Z θ)) (sym e)
 
   pub power_is : {b : Bool} → all is_uncut (amplitudes Z θ) ≡ b → let q = quotient (squares (amplitudes Z θ)) n in power_of (amplitudes Z θ) ≡ cond b (Mean q) (Floor q)
-  unfolding power_of
-  power_is f = rw (f, e) refl
+  power_is f = sym power_from_lem ∙ power_chosen (sum_of Z θ) n f

@@ -5,7 +5,8 @@ use mathlib.Core.List.{List}
 use Prim.Native.Nat.{ℕ, ◌^◌, ◌≤◌, ◌<◌}
 use native.Mathlib.Omega.{arith}
 use lib.ListN.{length}
-use lib.Ieee.{Float}
+use lib.IntN.{pos}
+use lib.Ieee.{Float, fin}
 use Rattle.std.specs.Prelude.{Ok, Err}
 use Rattle.std.proofs.Common.{rules}
 use borrow.Author.Tests.{leb-true, le-leb, eq-eqb}
@@ -15,11 +16,19 @@ use Rattle.steps.specs.Limits.{block_limit}
 use Rattle.steps.specs.Fir.{all_below}
 use Rattle.readings.specs.Limits.{output_limit, error_limit}
 use Rattle.readings.specs.Readings.{Lists, exponent_fits, lengths_readable, values_readable, readable, readings_of, amplitudes, is_uncut, squares, quotient, power_of}
-use Rattle.readings.specs.Answers.{answer_of, output_of, number_of, floor_of, value_in, Read}
+use Rattle.readings.specs.Answers.{ReadAnswer, answer_of, output_of, number_of, floor_of, value_in, read_number, read_floor, read_value, Read}
 use Rattle.readings.specs.Calls.{Long, Fillable, sum_of, power_from}
 use Rattle.readings.proofs.ListLaws.{amplitudes_length, squares_bound, power_from_lem}
 
 module _ (l : Lists) (n : ℕ) where
+  pub readable_short : lengths_readable l n ≡ false → readable l n ≡ false
+  unfolding readable
+  readable_short e = ap (λ (b : Bool). b && values_readable l) e
+
+  pub readable_long : lengths_readable l n ≡ true → readable l n ≡ values_readable l
+  unfolding readable
+  readable_long e = ap (λ (b : Bool). b && values_readable l) e
+
   pub lengths_say : lengths_readable l n ≡ true → Long l n
   lengths_say h =
       let t = last_eq _ (length l.theta) n h in
@@ -30,20 +39,15 @@ module _ (l : Lists) (n : ℕ) where
       record { some = leb-true 1 n f.0; few = f.1; y_long = y.1; xi_long = x.1; z_long = z.1; theta_long = t.1 }
 
 -- the values in another order
-reordered : (y z x t : Bool) → ((y && z) && (x && t)) ≡ (z && x && t && y)
+pub reordered : (y z x t : Bool) → ((y && z) && (x && t)) ≡ (z && x && t && y)
 reordered y false x t = ap (λ (b : Bool). b && (x && t)) (and-false y)
 reordered true true true t = sym (and-true t)
 reordered true true false t = refl
 reordered false true x t = sym (and-false (x && t))
 
-module _ (l : Lists) (n : ℕ) where
-  pub readable_short : lengths_readable l n ≡ false → readable l n ≡ false
-  unfolding readable
-  readable_short e = rw e refl
-
-  pub readable_long : lengths_readable l n ≡ true → readable l n ≡ ((all_below output_limit l.y && all_below error_limit l.z) && (all exponent_fits l.xi && all exponent_fits l.theta))
-  unfolding readable
-  readable_long e = rw e (sym (reordered (all_below output_limit l.y) (all_below error_limit l.z) (all exponent_fits l.xi) (all exponent_fits l.theta)))
+-- and tested in that order
+pub readable_tests : (l : Lists) (n : ℕ) → lengths_readable l n ≡ true → readable l n ≡ ((all_below output_limit l.y && all_below error_limit l.z) && (all exponent_fits l.xi && all exponent_fits l.theta))
+readable_tests l n e = readable_long l n e ∙ sym (reordered (all_below output_limit l.y) (all_below error_limit l.z) (all exponent_fits l.xi) (all exponent_fits l.theta))
 
 -- every cause is absent
 pub record Readable (l : Lists) (n : ℕ) : Type 0 where
@@ -90,31 +94,46 @@ module _ (a : List ℕ) where
   unfolding power_of
   power_value = search rules
 
-module _ (l : Lists) (n : ℕ) (is : readable l n ≡ true) where
+module _ (l : Lists) where
   -- as many a as places
-  amplitudes_long : length (amplitudes l.z l.theta) ≡ n
-  amplitudes_long = let f = (readable_says is).fill.long in amplitudes_length l.z l.theta (f.theta_long ∙ sym f.z_long) ∙ f.z_long
+  pub amplitudes_long : (n : ℕ) → readable l n ≡ true → length (amplitudes l.z l.theta) ≡ n
+  amplitudes_long n e = let f = (readable_says e).fill.long in amplitudes_length l.z l.theta (f.theta_long ∙ sym f.z_long) ∙ f.z_long
 
+  -- the number and the values of an answer
+  answer_values : (n : ℕ) → (number_of (answer_of l n) ≡ read_number l n) × (floor_of (answer_of l n) ≡ read_floor l n) × (value_in (answer_of l n) ≡ read_value l n)
+  unfolding answer_of
+  answer_values n = go (readable l n) refl
+    where
+      as' : List ℕ
+      as' = amplitudes l.z l.theta
+
+      go : (b : Bool) → readable l n ≡ b →
+          (number_of (cond b (Ok (power_of as')) (Err (record {}))) ≡ cond b 0 11) × (floor_of (cond b (Ok (power_of as')) (Err (record {}))) ≡ cond b (cond (all is_uncut as') 0 1) 0)
+          × (value_in (cond b (Ok (power_of as')) (Err (record {}))) ≡ cond b (quotient (squares as') n) (fin false 0 (pos 0)))
+      go true e = (refl, power_floor as', power_value as' ∙ ap (quotient (squares as')) (amplitudes_long n e))
+      go false e = (refl, refl, refl)
+
+  -- so the contract is met by an answer and an output
+  pub read : (before : List (List Float)) {a : ReadAnswer} {after : List (List Float)} → a ≡ answer_of l (length before) → after ≡ output_of l before → Read l before a after
+  read before e o =
+      let v = answer_values (length before) in
+      record { answer = e; number = ap number_of e ∙ v.0; floor = ap floor_of e ∙ v.1; value = ap value_in e ∙ v.2; output = o }
+
+  module _ (before : List (List Float)) where
+    pub refused : readable l (length before) ≡ false → Read l before (Err (record {})) before
+    unfolding answer_of output_of
+    refused e =
+        read before (sym (ap (λ (b : Bool). cond b (Ok (power_of (amplitudes l.z l.theta))) (Err (record {}))) e)) (sym (ap (λ (b : Bool). cond b (readings_of l) before) e))
+
+    pub given : readable l (length before) ≡ true → Read l before (Ok (power_of (amplitudes l.z l.theta))) (readings_of l)
+    unfolding answer_of output_of
+    given e =
+        read before (sym (ap (λ (b : Bool). cond b (Ok (power_of (amplitudes l.z l.theta))) (Err (record {}))) e)) (sym (ap (λ (b : Bool). cond b (readings_of l) before) e))
+
+module _ (l : Lists) (n : ℕ) (is : readable l n ≡ true) where
   -- the sum of a² is exact as a float
   pub sum_fits : (squares (amplitudes l.z l.theta) < 2 ^ 53) × (1 ≤ n) × (n ≤ block_limit)
-  sum_fits = let r = (readable_says is).fill.long in (omega (arith, squares_bound (amplitudes l.z l.theta), amplitudes_long, r.few), r.some, r.few)
+  sum_fits = let r = (readable_says is).fill.long in (omega (arith, squares_bound (amplitudes l.z l.theta), amplitudes_long l n is, r.few), r.some, r.few)
 
   pub power_given : power_from (sum_of l.z l.theta) n ≡ power_of (amplitudes l.z l.theta)
-  power_given = power_from_lem l.z l.theta n amplitudes_long
-
-module _ (l : Lists) (before : List (List Float)) where
-  pub refused : readable l (length before) ≡ false → Read l before (Err (record {})) before
-  unfolding answer_of output_of
-  refused e = record { answer = rw e refl; number = rw e refl; floor = rw e refl; value = rw e refl; output = rw e refl }
-
-  pub given : readable l (length before) ≡ true → Read l before (Ok (power_of (amplitudes l.z l.theta))) (readings_of l)
-  unfolding answer_of output_of
-  given e =
-      let a = amplitudes l.z l.theta in
-      record {
-        answer = rw e refl;
-        number = rw e refl;
-        floor = rw e (power_floor a);
-        value = rw e (power_value a ∙ ap (quotient (squares a)) (amplitudes_long l (length before) e));
-        output = rw e refl;
-      }
+  power_given = power_from_lem l.z l.theta n (amplitudes_long l n is)

@@ -1,17 +1,18 @@
 -- A mantissa times a power of two, without rounding.
 use mathlib.Core.Path.{◌≡◌, refl, sym, ap, ap₂, ◌∙◌}
 use mathlib.Core.Bool.{Bool, true, false}
-use Prim.Native.Nat.{ℕ, zero, suc, ◌+◌, ◌*◌, ◌-◌, ◌^◌, ◌≤◌, ◌<◌}
+use Prim.Native.Nat.{ℕ, zero, suc, ◌+◌, ◌*◌, ◌-◌, ◌/◌, ◌%◌, ◌^◌, ◌≤◌, ◌<◌}
 use native.Mathlib.Omega.{arith}
-use native.Mathlib.Nat.{add-zero, le_of_suc-le-suc, not-suc-le-zero, mul-one}
+use native.Mathlib.Nat.{mod-eq_of_lt, add-zero, le_of_suc-le-suc, not-suc-le-zero, mul-one}
 use lib.IntN.{ℤ, pos, nat_abs}
 use lib.ListN.{get_or}
 use lib.Ieee.{Float, binary64, unlike, round, mul, div, of_int, of_bits}
 use lib.Ieee.Scale.{round_same}
-use Rattle.laws.specs.Powers.{split3, positive}
+use Rattle.laws.specs.Powers.{split3, positive, rises, scale_le}
 use Rattle.floats.specs.Floats.{negative}
 use Rattle.floats.specs.ValueLaws.{whole_value, mul_value, div_value, field_value}
-use Rattle.steps.specs.Limits.{output_unit, block_limit}
+use Rattle.steps.specs.Limits.{output_unit, block_limit, output_exponent_limit}
+use Rattle.readings.specs.Limits.{amplitude_shift}
 use Rattle.readings.specs.Readings.{value_of, quotient}
 use Rattle.readings.specs.Calls.{Exponent, powers}
 
@@ -41,6 +42,13 @@ product_is m e h k =
     (whole_value m (omega arith)) (field_value n (omega (arith, k.1)))
     ∙ ap (λ (s : Bool). round binary64 s (nat_abs m * (2 ^ 52 * 2 ^ n)) (1 * 2 ^ 1074)) (unlike_false (negative m))
     ∙ round_same binary64 (negative m) (nat_abs m * (2 ^ 52 * 2 ^ n)) (1 * 2 ^ 1074) (nat_abs m) (2 ^ (output_unit - e)) (positive 1074) (positive (output_unit - e)) (scaled (nat_abs m) n (output_unit - e) (omega (arith, k.1)))
+
+-- ---- a
+
+pub amplitude_is : (m e : ℕ) → m ≤ 2 ^ 31 → e ≤ output_exponent_limit → m * 2 ^ e % 2 ^ 64 / 2 ^ amplitude_shift ≡ m * 2 ^ e / 2 ^ amplitude_shift
+amplitude_is m e h k =
+    let a : 2 ^ e ≤ 2 ^ output_exponent_limit = rises k in
+    ap (λ (x : ℕ). x / 2 ^ amplitude_shift) (mod-eq_of_lt (omega (arith, scale_le e h)))
 
 -- ---- the power
 
