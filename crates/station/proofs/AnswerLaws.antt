@@ -43,6 +43,12 @@ run_tests e l h = go (check_number e l) (eqb (check_number e l) 0) (ψFits (sett
     go n false a f h = absurd (eqb-false n 0 f h)
 
 module _ (e : Equaliser) (l : Buffers) where
+  -- ---- the number
+
+  pub check_fails : (n : ℕ) → n ≡ check_number e l → (n ≡ 0 → ⊥) → n ≡ run_number e l
+  unfolding run_number
+  check_fails n h f = simp (ne_eqb (check_number e l) 0 (λ z. f (h ∙ z))) h
+
   -- ---- everything as it was
 
   pub refused : (n : ℕ) → n ≡ run_number e l → (n ≡ 0 → ⊥) → Run e l (record { number = n; state = e }) l.outputs
@@ -50,10 +56,7 @@ module _ (e : Equaliser) (l : Buffers) where
   refused n h f = let g : run_number e l ≡ 0 → ⊥ = λ z. f (h ∙ z) in record { number = h; state = sym (accepted_old e l _ e g); outputs = sym (outputs_old e l g) }
 
   pub check_refused : (x : Refusal) → number_of x ≡ check_number e l → Run e l (answer_with e (Err x)) l.outputs
-  unfolding run_number
-  check_refused x h =
-      let f : number_of x ≡ 0 → ⊥ = λ z. omega (arith, number_least x) in
-      refused (number_of x) (h ∙ sym (ap (λ (b : Bool). cond b (cond (ψFitsBlock e l.block) 0 6) (check_number e l)) (ne_eqb (check_number e l) 0 (λ z. f (h ∙ z))))) f
+  check_refused x h = let f : number_of x ≡ 0 → ⊥ = λ z. omega (arith, number_least x) in refused (number_of x) (check_fails (number_of x) h f) f
 
   -- ---- a block that passed the checks
 

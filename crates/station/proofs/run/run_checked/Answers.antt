@@ -4,14 +4,14 @@ use native.Mathlib.Omega.{arith}
 use lib.IntN.{ℤ}
 use lib.ListN.{length, length-set}
 use borrow.Author.Rules.{rules}
-use Rattle.station.proofs.RunLaws.{runnable, stopped, samples_long, symbols_long, joined_room, result_bytes, finished}
+use Rattle.station.proofs.RunLaws.{lent_runnable, lent_stopped, samples_long, symbols_long, joined_room, lent_bytes, lent_finished}
 use Rattle.station.proofs.run.run_checked.Goals as goal
 
 pub run-r-requires : goal.run-r-requires
-run-r-requires c = search (rules, runnable)
+run-r-requires c = search (rules, lent_runnable)
 
 pub returns-then-r-gt-EXPONENT-clause-run : goal.returns-then-r-gt-EXPONENT-clause-run
-returns-then-r-gt-EXPONENT-clause-run c = search (rules, stopped)
+returns-then-r-gt-EXPONENT-clause-run c = search (rules, lent_stopped)
 
 pub slice_set_of-samples : goal.slice_set_of-samples
 slice_set_of-samples c =
@@ -29,7 +29,7 @@ joined-past-requires c =
     omega (arith, length-set {A = ℤ}, w.p_most, w.q_most)
 
 pub next-requires : goal.next-requires
-next-requires c = search (rules, result_bytes)
+next-requires c = search (rules, lent_bytes)
 
 pub returns-clause-run : goal.returns-clause-run
-returns-clause-run c = search (rules, finished)
+returns-clause-run c = search (rules, lent_finished)
