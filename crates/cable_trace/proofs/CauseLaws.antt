@@ -6,7 +6,7 @@ use Prim.Native.Nat.{ℕ, ◌/◌, ◌%◌, ◌≤◌, ◌<◌}
 use native.Mathlib.Omega.{arith}
 use lib.Dec.{leb, eqb}
 use lib.ListN.{length}
-use borrow.Author.Tests.{leb-true, eq-eqb, ne_eqb, eqb-true, eqb-false}
+use borrow.Author.Tests.{le-leb, lt-leb, leb-true, eq-eqb, ne_eqb, eqb-true, eqb-false}
 use Rattle.std.specs.Prelude.{Ok, Err}
 use Rattle.laws.specs.Lists.{all}
 use Rattle.laws.specs.Tests.{last_le}
@@ -30,6 +30,46 @@ use Rattle.cable_trace.specs.declared.refusal.CableRefusal.TheVariants.{Settings
 pub length_off : (c : Cable) (room n : ℕ) → n ≡ length_cause c → (n ≡ 0 → ⊥) → n ≡ list_cause c room
 unfolding list_cause
 length_off c room n e f = simp (ne_eqb (length_cause c) 0 (λ z. f (e ∙ z))) e
+
+-- ---- by the lengths
+
+module _ (c : Cable) where
+  pub response_off : response_fits (length c.response) ≡ false → 1 ≡ length_cause c
+  unfolding length_cause
+  response_off a = simp a
+
+  pub blocks_off : response_fits (length c.response) ≡ true → blocks_fit c.settings.N (sample_count c) ≡ false → 2 ≡ length_cause c
+  unfolding length_cause
+  blocks_off a b = simp (a, b)
+
+  module _ (a : response_fits (length c.response) ≡ true) (b : blocks_fit c.settings.N (sample_count c) ≡ true) where
+    pub training_off : sample_count c < c.training → 3 ≡ length_cause c
+    unfolding length_cause
+    training_off h = simp (a, b, lt-leb c.training (sample_count c) h)
+
+    pub trace_off : c.training ≤ sample_count c → sent_limit < sample_count c → 4 ≡ length_cause c
+    unfolding length_cause
+    trace_off h k = simp (a, b, le-leb c.training (sample_count c) h, lt-leb (trace_length c) trace_limit (omega (arith, k)))
+
+    pub lengths_fit_lem : c.training ≤ sample_count c → sample_count c ≤ sent_limit → 0 ≡ length_cause c
+    unfolding length_cause
+    lengths_fit_lem h k = simp (a, b, le-leb c.training (sample_count c) h, le-leb (trace_length c) trace_limit (omega (arith, k)))
+
+  -- ---- by the lists
+
+  module _ (room : ℕ) where
+    module _ (a : length_cause c ≡ 0) where
+      pub symbols_off : all (is_symbol c.settings.r) c.symbols ≡ false → 5 ≡ list_cause c room
+      unfolding list_cause
+      symbols_off b = simp (a, b)
+
+      pub room_off : all (is_symbol c.settings.r) c.symbols ≡ true → (room ≡ trace_length c → ⊥) → 6 ≡ list_cause c room
+      unfolding list_cause
+      room_off b h = simp (a, b, ne_eqb room (trace_length c) h)
+
+      pub lists_fit : all (is_symbol c.settings.r) c.symbols ≡ true → room ≡ trace_length c → 0 ≡ list_cause c room
+      unfolding list_cause
+      lists_fit b h = simp (a, b, eq-eqb room (trace_length c) h)
 
 -- ---- where there is no cause
 

@@ -2,7 +2,7 @@
 use mathlib.Core.Path.{◌≡◌, refl, sym, ap, ap₂, ◌∙◌, subst}
 use mathlib.Core.Bool.{Bool, true, false, cond}
 use mathlib.Core.List.{List, ◌++◌}
-use Prim.Native.Nat.{ℕ, ◌+◌, ◌*◌, ◌≤◌, ◌<◌}
+use Prim.Native.Nat.{ℕ, ◌+◌, ◌*◌, ◌-◌, ◌≤◌, ◌<◌}
 use native.Mathlib.Omega.{arith}
 use native.Mathlib.Decide.{dec_lt}
 use lib.Dec.{leb, eqb}
@@ -28,6 +28,13 @@ use Rattle.cable_trace.specs.declared.refusal.CableRefusal.{CableRefusal}
 use Rattle.cable_trace.proofs.CauseLaws.{too_long, cause_same, number_same, number_settings}
 use Rattle.description.specs.Description.{description_header_length, response_in, symbols_in, training_in, symbols_place, well_described, cable_in, malformed_line, refusal_line, cable_output, described}
 use Rattle.description.specs.Calls.{trace_end}
+
+-- a part that begins at 0
+pub from_zero : {A : Type 0} (l : List A) (n : ℕ) → take (n - 0) l ≡ take n l
+from_zero l n = ap (λ (m : ℕ). take m l) same
+  where
+    same : n - 0 ≡ n
+    same = omega arith
 
 -- ---- the cable
 

@@ -8,7 +8,7 @@ use mir.Syntax.{w32}
 use mir.Val.{SFits}
 use Rattle.laws.specs.Sums.{each_at}
 use Rattle.cable_trace.specs.Calls.{NotNegative}
-use Rattle.cable_trace.proofs.PutLaws.{stored_none, stored_next, word_stored}
+use Rattle.cable_trace.proofs.PutLaws.{stored_none, stored_part, word_stored}
 use Rattle.cable_trace.proofs.put.samples.Goals as goal
 
 pub loop-i-init : goal.loop-i-init
@@ -20,5 +20,5 @@ loop-i-preserved c =
     let i = c.loop-i.i in
     let z = get_or w i (pos 0) in
     let f : SFits w32 z = search rules in
-    stored_next w c.args.out.now i c.loop-i.out _ c.loop-i.invariant
+    stored_part w c.args.out.now i c.loop-i.out _ c.loop-i.invariant
     (c.copy_from_slice.ensures.after ∙ c.to_le_bytes.ensures ∙ word_stored z f (each_at NotNegative w i (pos 0) c.requires.0 c.loop-i-test.true)) (omega (arith, c.requires.1, c.loop-i-test.true))
