@@ -4,7 +4,7 @@ use mathlib.Core.List.{List, ◌++◌}
 use Prim.Native.Nat.{ℕ, ◌+◌, ◌*◌, ◌^◌, ◌≤◌, ◌<◌}
 use native.Mathlib.Omega.{arith}
 use native.Mathlib.Nat.{mul-le-mul_right}
-use lib.ListN.{length, get_or, take, replicate, length-replicate}
+use lib.ListN.{length, get_or, take, replicate, length-append, length-replicate}
 use lib.Seq.{take_at}
 use lib.IntN.{ℤ, pos, nat_abs}
 use mir.Syntax.{w16}
@@ -57,7 +57,7 @@ number_same e (Err x) = refl
 -- ---- work areas
 
 module _ {A : Type 0} (x : A) (n : ℕ) (h : n ≤ block_limit) where
-  zeros : take n (replicate block_limit x) ≡ replicate n x
+  pub zeros : take n (replicate block_limit x) ≡ replicate n x
   zeros = take-replicate n block_limit x h
 
   pub zeros_long : length (take n (replicate block_limit x)) ≡ n
@@ -65,27 +65,36 @@ module _ {A : Type 0} (x : A) (n : ℕ) (h : n ≤ block_limit) where
 
 module _ {A : Type 0} (l rest : List A) (n : ℕ) (e : length l ≡ n) where
   -- a list that was put to the front
-  front_is : take n (l ++ rest) ≡ l
+  pub front_is : take n (l ++ rest) ≡ l
   front_is = take_at l rest n e
 
-  front_long : length (take n (l ++ rest)) ≡ n
+  pub front_long : length (take n (l ++ rest)) ≡ n
   front_long = ap length front_is ∙ e
+
+  pub front_within : n ≤ length (l ++ rest)
+  front_within = omega (arith, length-append l rest)
 
 -- ---- the lists that a block is run on
 
-read_long : {t : List ℕ} {first n : ℕ} {m : List ℤ} {gains : List ℕ} {entries : List ℤ} → ReadIs t first n m gains entries →
+pub read_long : {t : List ℕ} {first n : ℕ} {m : List ℤ} {gains : List ℕ} {entries : List ℤ} → ReadIs t first n m gains entries →
     (length m ≡ n) × (length gains ≡ n) × (length entries ≡ n)
 read_long r = (ap length r.m_is ∙ values_length _ _, ap length r.gains_is ∙ values_length _ _, ap length r.entries_is ∙ values_length _ _)
 
+pub buffers_is : (t : List ℕ) (n first : ℕ) (m : List ℤ) (gains : List ℕ) (entries y : List ℤ) (xi : List ℕ) (decision z : List ℤ) (theta : List ℕ) →
+    n ≡ (settings_in t).N → ReadIs t first n m gains entries → z ≡ replicate n (pos 0) → theta ≡ replicate n 0 →
+    buffers_of m gains entries y xi decision z theta ≡ buffers_with t first y xi decision
+unfolding buffers_with
+buffers_is t n first m gains entries y xi decision z theta h r a b = rw (r.m_is, r.gains_is, r.entries_is, a, b, h) refl
+
 -- the lists read stand at the front of work areas
-pub buffers_is : (t : List ℕ) (first : ℕ) {n k : ℕ} {m : List ℤ} {gains : List ℕ} {entries : List ℤ} (m' : List ℤ) (gains' : List ℕ) (entries' : List ℤ) (y : List ℤ) (xi : List ℕ) (decision : List ℤ) →
+pub area_buffers : (t : List ℕ) (first : ℕ) {n k : ℕ} {m : List ℤ} {gains : List ℕ} {entries : List ℤ} (m' : List ℤ) (gains' : List ℕ) (entries' : List ℤ) (y : List ℤ) (xi : List ℕ) (decision : List ℤ) →
     n ≡ (settings_in t).N → n ≤ block_limit → k ≡ n → ReadIs t first k m gains entries →
     buffers_of (take n (m ++ m')) (take n (gains ++ gains')) (take n (entries ++ entries')) y xi decision (take n (replicate block_limit (pos 0))) (take n (replicate block_limit 0))
     ≡ buffers_with t first y xi decision
-unfolding buffers_with
-buffers_is t first {n} {k} {m} {gains} {entries} m' gains' entries' y xi decision h b e r =
+area_buffers t first {n} {k} {m} {gains} {entries} m' gains' entries' y xi decision h b e r =
     let long = read_long r in
-    rw (front_is m m' n (long.0 ∙ e), front_is gains gains' n (long.1 ∙ e), front_is entries entries' n (long.2 ∙ e), zeros (pos 0) n b, zeros {A = ℕ} 0 n b, r.m_is, r.gains_is, r.entries_is, e, h) refl
+    rw (front_is m m' n (long.0 ∙ e), front_is gains gains' n (long.1 ∙ e), front_is entries entries' n (long.2 ∙ e))
+    (buffers_is t n first m gains entries y xi decision _ _ h (subst (λ (j : ℕ). ReadIs t first j m gains entries) e r) (zeros (pos 0) n b) (zeros {A = ℕ} 0 n b))
 
 -- what a run answers, without Z and θ
 pub ran_is : {e : Equaliser} {given l : Buffers} {a : Answer} {h : Outputs} {y : List ℤ} {xi : List ℕ} {decision : List ℤ} →
@@ -133,7 +142,7 @@ module _ (e : Equaliser) (l : Buffers) (place : ℕ) (run : run_number e l ≡ 0
         decision_below = decision_most (settings e) (Γ (settings e) (memory e) l.block) (at (settings e) (memory e) l.block i) entry c.sound.within.r_most;
       })
 
-  printable : AllPrintable place (block_outputs (settings e) (memory e) l.block).y (block_outputs (settings e) (memory e) l.block).xi (block_outputs (settings e) (memory e) l.block).decision
+  pub printable : AllPrintable place (block_outputs (settings e) (memory e) l.block).y (block_outputs (settings e) (memory e) l.block).xi (block_outputs (settings e) (memory e) l.block).decision
   printable =
       let long = Left.block_long (settings e) (memory e) l.block in
       record {
@@ -150,7 +159,7 @@ module _ (e : Equaliser) (l : Buffers) (place : ℕ) (run : run_number e l ≡ 0
 -- ---- what an accepted block handed out, at the front of work areas
 
 module _ {e : Equaliser} {l : Buffers} {a : Answer} {y : List ℤ} {xi : List ℕ} {decision : List ℤ} (r : RanIs e l a y xi decision) (z : a.number ≡ 0) where
-  accepts : run_number e l ≡ 0
+  pub accepts : run_number e l ≡ 0
   accepts = sym r.number ∙ z
 
   Y_is : y ≡ (block_outputs (settings e) (memory e) l.block).y
@@ -162,7 +171,7 @@ module _ {e : Equaliser} {l : Buffers} {a : Answer} {y : List ℤ} {xi : List �
   decision_is : decision ≡ (block_outputs (settings e) (memory e) l.block).decision
   decision_is = r.decision_is ∙ ap (λ (t : Outputs). t.decision) (outputs_new e l accepts)
 
-  block_long : (length y ≡ e.n) × (length xi ≡ e.n) × (length decision ≡ e.n)
+  pub block_long : (length y ≡ e.n) × (length xi ≡ e.n) × (length decision ≡ e.n)
   block_long =
       let long = Left.block_long (settings e) (memory e) l.block in
       (ap length Y_is ∙ long.y_long, ap length ξ_is ∙ long.xi_long, ap length decision_is ∙ long.decision_long)
@@ -177,19 +186,23 @@ module _ {e : Equaliser} {l : Buffers} {a : Answer} {y : List ℤ} {xi : List �
     front_decision : take e.n (decision ++ rd) ≡ (block_outputs (settings e) (memory e) l.block).decision
     front_decision = front_is decision rd e.n block_long.2 ∙ decision_is
 
-    front_printable : length e.weights ≡ slots → length e.past ≡ slots → Sampled l.block.samples → place + e.n ≤ trace_limit →
+    pub front_printable : length e.weights ≡ slots → length e.past ≡ slots → Sampled l.block.samples → place + e.n ≤ trace_limit →
         AllPrintable place (take e.n (y ++ ry)) (take e.n (xi ++ rx)) (take e.n (decision ++ rd))
     front_printable w d m room = rw (front_Y, front_ξ, front_decision) (printable e l place accepts w d m room)
 
-    front_lines : lines place (take e.n (y ++ ry)) (take e.n (xi ++ rx)) (take e.n (decision ++ rd)) (length (take e.n (y ++ ry))) ≡ block_lines place e l
+    pub front_lines : lines place (take e.n (y ++ ry)) (take e.n (xi ++ rx)) (take e.n (decision ++ rd)) (length (take e.n (y ++ ry))) ≡ block_lines place e l
     unfolding block_lines
     front_lines = ap (lines place _ _ _) (front_long y ry e.n block_long.0) ∙ rw (front_Y, front_ξ, front_decision) refl
 
 -- ---- the text of a block
 
 module _ (t : List ℕ) (e : Equaliser) (o : OfTrace t e) where
+  -- lists for what a block hands out, of zeros
+  pub buffers_zeros : (first : ℕ) → buffers_with t first (take e.n (replicate block_limit (pos 0))) (take e.n (replicate block_limit 0)) (take e.n (replicate block_limit (pos 0))) ≡ buffers_at t first
+  buffers_zeros first = rw (zeros (pos 0) e.n o.n_most, zeros {A = ℕ} 0 e.n o.n_most, o.n_is) refl
+
   module _ (i : ℕ) (h : i < count_in t) where
-    block_within : i * e.n + e.n ≤ samples_in t
+    pub block_within : i * e.n + e.n ≤ samples_in t
     block_within = omega (arith, mul-le-mul_right e.n h, ap (λ (n : ℕ). count_in t * n) o.n_is)
 
     pub block_few : i * e.n + e.n < trace_limit
@@ -214,7 +227,7 @@ module _ (t : List ℕ) (e : Equaliser) (i : ℕ) where
 module _ {t : List ℕ} {e : Equaliser} {i at : ℕ} {out : List ℕ} (b : Blockable t e i at out) {n : ℕ} (k : n ≡ e.n) {a : Answer} {y : List ℤ} {xi : List ℕ} {decision : List ℤ}
     (r : RanIs e (buffers_with t (i * n) (take n (replicate block_limit (pos 0))) (take n (replicate block_limit 0)) (take n (replicate block_limit (pos 0)))) a y xi decision) where
   zeros_are : buffers_with t (i * n) (take n (replicate block_limit (pos 0))) (take n (replicate block_limit 0)) (take n (replicate block_limit (pos 0))) ≡ buffers_at t (i * e.n)
-  zeros_are = rw (k, zeros (pos 0) e.n b.trace.n_most, zeros {A = ℕ} 0 e.n b.trace.n_most, b.trace.n_is) refl
+  zeros_are = rw k (buffers_zeros t e b.trace (i * e.n))
 
   ran : RanIs e (buffers_at t (i * e.n)) a y xi decision
   ran = subst (λ (l : Buffers). RanIs e l a y xi decision) zeros_are r

@@ -1,17 +1,21 @@
 -- The digits of a number, how many there are, and that the library prints them.
-use mathlib.Core.Path.{◌≡◌, refl, sym, ap, ◌∙◌}
-use mathlib.Core.List.{List, [], ◌∷◌, ◌++◌}
+use mathlib.Core.Path.{◌≡◌, refl, sym, ap, ap₂, ◌∙◌}
+use mathlib.Core.List.{List, [], ◌∷◌, ◌++◌, append_assoc}
 use Prim.Native.Nat.{ℕ, zero, suc, ◌+◌, ◌/◌, ◌%◌, ◌^◌, ◌≤◌, ◌<◌}
 use native.Mathlib.Omega.{arith}
 use native.Mathlib.Nat.{pow-suc}
+use native.Mathlib.Numerals.{add-one}
 use native.Mathlib.Decide.{dec_lt}
-use lib.ListN.{length, length-append}
+use lib.ListN.{length, take, drop, set, length-append, length-set}
 use lib.Dec.{ltb→lt}
 use lib.IntN.{ℤ, pos, negsuc, nat_abs}
 use lib.Signed.{◌≤ℤ◌, ◌<ℤ◌}
 use borrow.Author.Tests.{lt-ltb, le-ltb}
 use Rattle.std.specs.Fmt as Library
 use Rattle.std.proofs.lemmas.Fmt as Printed
+use lib.Seq.{set_split, drop_at, length-take-le, take-set-le, append_snoc}
+use Rattle.trace_text.specs.Calls.{TextAt}
+use Rattle.trace_text.proofs.TextAtLaws.{same_drop, text_none}
 use Rattle.trace_text.specs.Decimal.{decimal_digits, decimal, signed_decimal}
 
 -- ---- the digits, one after the other
@@ -41,7 +45,7 @@ pub decimal_one : (n : ℕ) → n < 10 → decimal n ≡ (48 + n) ∷ []
 unfolding decimal
 decimal_one n h = digits_one n n h
 
-decimal_more : (n : ℕ) → 10 ≤ n → decimal n ≡ decimal (n / 10) ++ ((48 + n % 10) ∷ [])
+pub decimal_more : (n : ℕ) → 10 ≤ n → decimal n ≡ decimal (n / 10) ++ ((48 + n % 10) ∷ [])
 unfolding decimal
 decimal_more zero h = absurd (omega arith)
 decimal_more (suc d) h =
@@ -93,6 +97,70 @@ pub signed_whole : (z : ℤ) → pos 0 ≤ℤ z → signed_decimal z ≡ decimal
 unfolding signed_decimal
 signed_whole (pos n) h = refl
 signed_whole (negsuc n) h = absurd h.le
+
+-- ---- the last d digits, with zeros in front
+
+abbrev pub last_digits : ℕ → ℕ → List ℕ
+last_digits zero n = []
+last_digits (suc d) n = last_digits d (n / 10) ++ ((48 + n % 10) ∷ [])
+
+last_digits_lem : (d n : ℕ) → last_digits (length (decimal_digits d n)) n ≡ decimal_digits d n
+unfolding decimal_digits
+last_digits_lem zero n = refl
+last_digits_lem (suc d) n = go (dec_lt n 10) (last_digits_lem d (n / 10))
+  where
+    go : Dec (n < 10) → last_digits (length (decimal_digits d (n / 10))) (n / 10) ≡ decimal_digits d (n / 10) → last_digits (length (decimal_digits (suc d) n)) n ≡ decimal_digits (suc d) n
+    go (yes l) rest = rw (digits_one (suc d) n l) (ap (λ (m : ℕ). (48 + m) ∷ []) (omega arith))
+    go (no l) rest =
+        let m : 10 ≤ n = omega arith in
+        simp (le-ltb n 10 m)
+        (ap (λ (k : ℕ). last_digits k n) (length-append (decimal_digits d (n / 10)) ((48 + n % 10) ∷ []) ∙ add-one (length (decimal_digits d (n / 10))))
+        ∙ ap (λ (t : List ℕ). t ++ ((48 + n % 10) ∷ [])) rest)
+
+pub last_all : (n : ℕ) → last_digits (length (decimal n)) n ≡ decimal n
+unfolding decimal
+last_all n = last_digits_lem n n
+
+-- ---- digits written from the last to the first
+
+-- those from i on are written; left has the others
+pub record DigitsFrom (n at : ℕ) (before : List ℕ) (i left : ℕ) (after : List ℕ) : Type 0 where
+  pub within : at + i ≤ length before
+  pub long : length after ≡ length before
+  pub is : take at after ++ last_digits i left ++ drop (at + i) after ≡ take at before ++ decimal n ++ drop (at + length (decimal n)) before
+
+module _ (n at : ℕ) (before : List ℕ) where
+  pub digits_none : (i : ℕ) → at + length (decimal n) ≤ length before → i ≡ length (decimal n) → DigitsFrom n at before i n before
+  digits_none i h e = record {
+    within = omega arith;
+    long = refl;
+    is = ap (λ (k : ℕ). take at before ++ last_digits k n ++ drop (at + k) before) e ∙ ap (λ (t : List ℕ). take at before ++ t ++ drop (at + length (decimal n)) before) (last_all n);
+  }
+
+  pub digits_next : (i j left : ℕ) (after : List ℕ) → i ≡ suc j → DigitsFrom n at before i left after →
+      DigitsFrom n at before j (left / 10) (set after (at + j) (48 + left % 10))
+  digits_next i j left after e d =
+      let x = 48 + left % 10 in
+      let front = take at after ++ last_digits j (left / 10) in
+      let below : at + j < length after = omega (arith, d.long, d.within) in
+      record {
+        within = omega (arith, d.within);
+        long = length-set after (at + j) x ∙ d.long;
+        is =
+            ap₂ (λ (l r : List ℕ). l ++ last_digits j (left / 10) ++ r) (take-set-le at after (at + j) x (omega arith))
+            (ap (drop (at + j)) (set_split after (at + j) x below) ∙ drop_at (take (at + j) after) _ (at + j) (length-take-le (at + j) after (omega (arith, below))))
+            ∙ sym (append_snoc front x (drop (suc (at + j)) after))
+            ∙ ap₂ ◌++◌ (append_assoc (take at after) (last_digits j (left / 10)) (x ∷ [])) (same_drop after (suc (at + j)) (at + i) (omega (arith, e)))
+            ∙ ap (λ (k : ℕ). take at after ++ last_digits k left ++ drop (at + i) after) (sym e) ∙ d.is;
+      }
+
+  pub digits_all : (i left : ℕ) (after : List ℕ) (count : ℕ) → DigitsFrom n at before i left after → i ≡ 0 → count ≡ length (decimal n) →
+      TextAt at (decimal n) before (at + count) after
+  digits_all i left after count d e k = record {
+    end_is = ap (λ (m : ℕ). at + m) k;
+    contents =
+        (text_none at after).contents ∙ ap (λ (j : ℕ). take at after ++ last_digits j left ++ drop (at + j) after) (sym e) ∙ d.is;
+  }
 
 -- ---- what the library prints
 

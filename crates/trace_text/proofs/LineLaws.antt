@@ -35,7 +35,7 @@ fields_short place Y ξ d a b c e p =
       signed_field 1 d e (omega (arith, p.decision_below)),
     )
 
-line_short : (place : ℕ) (Y : ℤ) (ξ : ℕ) (d : ℤ) → Printable place Y ξ d → length (line place Y ξ d) ≤ line_limit
+pub line_short : (place : ℕ) (Y : ℤ) (ξ : ℕ) (d : ℤ) → Printable place Y ξ d → length (line place Y ξ d) ≤ line_limit
 unfolding line
 line_short place Y ξ d p = fields_short place Y ξ d space space space newline p
 
@@ -62,7 +62,7 @@ stop_fields_short number block a b h k =
       unsigned_field 4 block b (omega arith),
     )
 
-stop_short : (number block : ℕ) → number ≤ 9 → block < 2 ^ 16 → length (stop_line number block) ≤ line_limit
+pub stop_short : (number block : ℕ) → number ≤ 9 → block < 2 ^ 16 → length (stop_line number block) ≤ line_limit
 unfolding stop_line
 stop_short number block h k = stop_fields_short number block space newline h k
 

@@ -1,20 +1,27 @@
 -- Text in lent bytes, put together from parts.
-use mathlib.Core.Path.{◌≡◌, sym, ap, ap₂, ◌∙◌, subst}
-use mathlib.Core.List.{List, [], ◌++◌, append_assoc, append-nil}
-use Prim.Native.Nat.{ℕ, ◌+◌, ◌≤◌}
+use mathlib.Core.Path.{◌≡◌, refl, sym, ap, ap₂, ◌∙◌, subst}
+use mathlib.Core.List.{List, [], ◌∷◌, ◌++◌, append_assoc, append-nil}
+use Prim.Native.Nat.{ℕ, suc, ◌+◌, ◌≤◌, ◌<◌}
 use native.Mathlib.Omega.{arith}
-use lib.ListN.{length, take, drop, length-append, length-drop, take-append-drop}
-use lib.Seq.{take_at, drop_at, drop-drop, length-take-le}
+use native.Mathlib.Numerals.{add-one}
+use lib.ListN.{length, get_or, take, drop, set, length-append, length-drop, take-append-drop}
+use lib.Seq.{take_at, take-length, drop_at, drop-drop, length-take-le, set_split, append_snoc, paste, paste-suc}
 use Rattle.trace_text.specs.TextFront.{TextFront}
 use Rattle.trace_text.specs.Calls.{TextAt}
 
-same_drop : (o : List ℕ) (m n : ℕ) → m ≡ n → drop m o ≡ drop n o
+pub same_drop : (o : List ℕ) (m n : ℕ) → m ≡ n → drop m o ≡ drop n o
 same_drop o m n e = ap (λ (k : ℕ). drop k o) e
 
 pub text_none : (a : ℕ) (o : List ℕ) → TextAt a [] o a o
 text_none a o = record {
   end_is = omega arith;
   contents = sym (ap₂ ◌++◌ (append-nil (take a o)) (same_drop o (a + 0) a (omega arith)) ∙ take-append-drop a o);
+}
+
+pub text_byte : (a : ℕ) (x : ℕ) (o : List ℕ) → a < length o → TextAt a (x ∷ []) o (a + 1) (set o a x)
+text_byte a x o h = record {
+  end_is = refl;
+  contents = set_split o a x h ∙ sym (append_snoc (take a o) x (drop (suc a) o)) ∙ ap (λ (n : ℕ). take a o ++ (x ∷ []) ++ drop n o) (sym (add-one a));
 }
 
 pub text_same : {a b : ℕ} {s t o o₁ : List ℕ} → s ≡ t → TextAt a s o b o₁ → TextAt a t o b o₁
@@ -64,6 +71,19 @@ module _ {a b : ℕ} {s o o₁ : List ℕ} (f : TextAt a s o b o₁) where
           ∙ drop-drop (length t) (a + length s) o ∙ same_drop o (a + length s + length t) (a + length (s ++ t)) (omega (arith, length-append s t)))
           ∙ ap (λ (l : List ℕ). l ++ drop (a + length (s ++ t)) o) (append_assoc (take a o) s t);
     }
+
+-- ---- a text copied byte by byte
+
+module _ (o : List ℕ) (at : ℕ) (text : List ℕ) where
+  pub pasted_next : (i : ℕ) (o₁ : List ℕ) → at + length text ≤ length o → i < length text → o₁ ≡ paste o at text i → set o₁ (at + i) (get_or text i 0) ≡ paste o at text (i + 1)
+  pasted_next i o₁ h k e =
+      ap (λ (l : List ℕ). set l (at + i) (get_or text i 0)) e ∙ paste-suc o at text i 0 (omega arith) k ∙ ap (paste o at text) (sym (add-one i))
+
+  pub pasted_all : (i : ℕ) (o₁ : List ℕ) → o₁ ≡ paste o at text i → i ≡ length text → TextAt at text o (at + i) o₁
+  pasted_all i o₁ e k = record {
+    end_is = ap (λ (n : ℕ). at + n) k;
+    contents = e ∙ ap (paste o at text) k ∙ ap (λ (l : List ℕ). take at o ++ l ++ drop (at + length text) o) (take-length text);
+  }
 
 -- ---- a text at the front
 
