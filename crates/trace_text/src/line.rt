@@ -49,7 +49,7 @@ impl Text<'_> {
     // The library writes the digits straight into the lent bytes, up to where they end. This and the next two are
     // inlined, so that the end of the text stays in a register.
     #[inline(always)]
-    fn digits(&mut self, n: u32)
+    pub fn digits(&mut self, n: u32)
         requires { self.old.end + length (decimal n) ≤ length self.old.out.now }
         ensures same_reference { self.new.out.ghost_name ≡ self.old.out.ghost_name }
         ensures text { TextAt self.old.end (decimal n) self.old.out.now self.new.end self.new.out.now }
@@ -61,7 +61,7 @@ impl Text<'_> {
 
     // A number that may be negative.
     #[inline(always)]
-    fn number(&mut self, z: i32)
+    pub fn number(&mut self, z: i32)
         requires { self.old.end + length (signed_decimal z) ≤ length self.old.out.now }
         ensures same_reference { self.new.out.ghost_name ≡ self.old.out.ghost_name }
         ensures text { TextAt self.old.end (signed_decimal z) self.old.out.now self.new.end self.new.out.now }
