@@ -71,7 +71,7 @@ received_largest_bits m gains = or_all_largest_bits (received_all m gains) ∙ l
 
 -- ---- one shift up and one down
 
--- either none up, or the product is the result
+-- of the same number
 pub shifted_is : (shift : ℕ) {x y : ℤ} {up down : ℕ} → x ≡ y → up ≡ data_unit - shift → down ≡ shift - data_unit → rescale x up down ≡ rescale y data_unit shift
 shifted_is shift {y = y} e u d = rw (e, u, d) (sym (rescale_shifts y data_unit shift))
 
