@@ -135,6 +135,14 @@ module _ (place : ℕ) (Y : ℤ) (ξ : ℕ) (d : ℤ) (at : ℕ) (o : List ℕ) 
           pub fields_written : {m₄ : ℕ} {o₄ : List ℕ} → TextAt m₃ (field z₄ e) o₃ m₄ o₄ → TextAt at (A a ++ B b ++ C c ++ D e) o m₄ o₄
           fields_written w₄ = text_then three (omega (arith, h)) (field_same e e₄ w₄)
 
+  -- spaces and a newline make them the line
+  module _ {z₁ : ℤ} (e₁ : z₁ ≡ pos place) {m₁ : ℕ} {o₁ : List ℕ} (w₁ : TextAt at (field z₁ space) o m₁ o₁)
+      {z₂ : ℤ} (e₂ : z₂ ≡ Y) {m₂ : ℕ} {o₂ : List ℕ} (w₂ : TextAt m₁ (field z₂ space) o₁ m₂ o₂)
+      {z₃ : ℤ} (e₃ : z₃ ≡ pos ξ) {m₃ : ℕ} {o₃ : List ℕ} (w₃ : TextAt m₂ (field z₃ space) o₂ m₃ o₃) {z₄ : ℤ} (e₄ : z₄ ≡ d) where
+    pub line_written : {m₄ : ℕ} {o₄ : List ℕ} → TextAt m₃ (field z₄ newline) o₃ m₄ o₄ → TextAt at (line place Y ξ d) o m₄ o₄
+    unfolding line
+    line_written w₄ = fields_written e₁ space w₁ e₂ space w₂ e₃ space w₃ e₄ newline w₄
+
 -- ---- the line of a refusal: a word and two fields
 
 module _ (number block at : ℕ) (o : List ℕ) (number_most : number ≤ 9) (block_below : block < 2 ^ 16) (h : at + line_limit ≤ length o)
@@ -160,6 +168,14 @@ module _ (number block at : ℕ) (o : List ℕ) (number_most : number ≤ 9) (bl
 
     pub stop_fields_written : {m₃ : ℕ} {o₃ : List ℕ} → TextAt m₂ (field z₃ b) o₂ m₃ o₃ → TextAt at (S ++ field (pos number) a ++ field (pos block) b) o m₃ o₃
     stop_fields_written w₃ = text_then stop_front (omega (arith, h)) (field_same b e₃ w₃)
+
+-- a space and a newline make them the line
+module _ (number block at : ℕ) (o : List ℕ) (number_most : number ≤ 9) (block_below : block < 2 ^ 16) (h : at + line_limit ≤ length o)
+    {m₁ : ℕ} {o₁ : List ℕ} (w₁ : TextAt at (115 ∷ 116 ∷ 111 ∷ 112 ∷ space ∷ []) o m₁ o₁) {z₂ : ℤ} (e₂ : z₂ ≡ pos number)
+    {m₂ : ℕ} {o₂ : List ℕ} (w₂ : TextAt m₁ (field z₂ space) o₁ m₂ o₂) {z₃ : ℤ} (e₃ : z₃ ≡ pos block) where
+  pub stop_written : {m₃ : ℕ} {o₃ : List ℕ} → TextAt m₂ (field z₃ newline) o₂ m₃ o₃ → TextAt at (stop_line number block) o m₃ o₃
+  unfolding stop_line
+  stop_written w₃ = stop_fields_written number block at o number_most block_below h w₁ e₂ space w₂ e₃ newline w₃
 
 -- ---- the lines of a block: i of them are written
 
